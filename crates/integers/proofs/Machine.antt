@@ -1,0 +1,157 @@
+-- What the machine's steps on i64 ask and give, over plain integers.
+-- Assumes nothing.
+use Prim.Native.Nat.{ℕ, zero, suc, _+_, _*_, _-_, _/_, _^_, _≤_, _<_}
+use mathlib.Core.Path.{_≡_, refl, sym, _∙_, ap, subst}
+use mathlib.Core.Bool.{Bool, true, false}
+use native.Mathlib.Omega.{arith}
+use native.Mathlib.Nat.{le-div-iff-mul-le, div-lt-iff-lt-mul}
+use lib.Dec.{T, ltb, leb}
+use lib.IntN.{ℤ, pos, negsuc, negℤ, _+ℤ_, _-ℤ_, _*ℤ_, natAbs, +ℤ-idl}
+use lib.Signed.{leZ, ltZ, mag, nonNeg, _≤ℤ_, _<ℤ_}
+use mir.Val.{Fits, SFits, toZ, ofZ}
+use mir.Facts.{toZ-ofZ}
+use mir.Syntax.{w64}
+use borrow.Author.Tests.{lt-ltb, le-ltb, ltb-true, ltb-false}
+use Rattle.integers.specs.declared.CheckedU64.{CheckedU64}
+use Rattle.integers.specs.declared.CheckedI64.{CheckedI64}
+use Rattle.integers.specs.Checked.{fitsI64, keepU, keepI, narrowU, narrow}
+use Rattle.integers.proofs.Difference.{ints, atoms}
+
+-- one step towards 0 from a negative number
+pub up-fits : (x : ℤ) → SFits w64 x → ltZ x (pos 0) ≡ true → SFits w64 (x +ℤ pos 1)
+up-fits x = simp ints (simp atoms (omega arith))
+
+pub turned-fits : (x : ℤ) → SFits w64 x → ltZ x (pos 0) ≡ true → SFits w64 (pos 0 -ℤ (x +ℤ pos 1))
+turned-fits x = simp ints (simp atoms (omega arith))
+
+pub turned : (x : ℤ) → ltZ x (pos 0) ≡ true → pos 0 -ℤ (x +ℤ pos 1) ≡ pos (natAbs x - 1)
+turned (pos n) e = absurd (below-zero n (ltb-true n 0 e))
+  where
+    below-zero : (n : ℕ) → n < 0 → ⊥
+    below-zero n h = omega arith
+turned (negsuc n) e = let h : suc n - 1 ≡ n = omega arith in rw h (simp ints (simp atoms (omega arith)))
+
+pub natAbs-pos : (x : ℤ) → ltZ x (pos 0) ≡ true → natAbs x - 1 + 1 ≡ natAbs x
+natAbs-pos (pos n) e = let h : n < 0 = ltb-true n 0 e in omega arith
+natAbs-pos (negsuc n) e = omega arith
+
+pub nonneg-pos : (x : ℤ) → ltZ x (pos 0) ≡ false → x ≡ pos (natAbs x)
+nonneg-pos (pos n) e = refl
+nonneg-pos (negsuc n) e = cc
+
+pub natAbs-fits : (x : ℤ) → SFits w64 x → natAbs x ≤ 2 ^ 63
+natAbs-fits (pos n) f = let h = f .sfits in omega arith
+natAbs-fits (negsuc n) f = let h = f .sfits in omega arith
+
+-- ---- what a checked step answers
+pub narrowU-yes : (n : ℕ) → n < 2 ^ 64 → narrowU n ≡ record { ok = true; value = n }
+unfolding narrowU
+narrowU-yes n h = ap (λ (b : Bool). keepU b n) (lt-ltb n (2 ^ 64) h)
+
+pub narrowU-no : (n : ℕ) → 2 ^ 64 ≤ n → narrowU n ≡ record { ok = false; value = 0 }
+unfolding narrowU
+narrowU-no n h = ap (λ (b : Bool). keepU b n) (le-ltb n (2 ^ 64) h)
+
+pub narrow-yes : (z : ℤ) → SFits w64 z → narrow z ≡ record { ok = true; value = z }
+unfolding narrow fitsI64
+narrow-yes z f = ap (λ (b : Bool). keepI b z) (lt-ltb (mag z) (2 ^ 63) (f .sfits))
+
+pub narrow-no : (z : ℤ) → (SFits w64 z → ⊥) → narrow z ≡ record { ok = false; value = pos 0 }
+unfolding narrow fitsI64
+narrow-no z f = ap (λ (b : Bool). keepI b z) (le-ltb (mag z) (2 ^ 63) (over (λ h. f (record { sfits = h }))))
+  where
+    over : (mag z < 2 ^ 63 → ⊥) → 2 ^ 63 ≤ mag z
+    over n = omega arith
+
+pub product-over : (a b : ℕ) → 0 < b → 18446744073709551615 / b < a → 2 ^ 64 ≤ a * b
+product-over a b h k = let l = div-lt-iff-lt-mul h .0 k in omega arith
+
+pub product-fits : (a b : ℕ) → 0 < b → a ≤ 18446744073709551615 / b → a * b < 2 ^ 64
+product-fits a b h k = let l = le-div-iff-mul-le h .0 k in omega arith
+
+-- the product's sign and magnitude
+pub times-neg : (a : ℤ) (n : ℕ) → ltZ a (pos 0) ≡ true → a *ℤ pos n ≡ pos 0 -ℤ pos (natAbs a * n)
+times-neg (pos k) n e = absurd (below-zero k (ltb-true k 0 e))
+  where
+    below-zero : (n : ℕ) → n < 0 → ⊥
+    below-zero n h = omega arith
+times-neg (negsuc k) n e = sym (+ℤ-idl (negℤ (pos (suc k * n))))
+
+pub times-pos : (a : ℤ) (n : ℕ) → ltZ a (pos 0) ≡ false → a *ℤ pos n ≡ pos (natAbs a * n)
+times-pos (pos k) n e = refl
+times-pos (negsuc k) n e = cc
+
+pub neg-fits : (p : ℕ) → p ≤ 2 ^ 63 → SFits w64 (pos 0 -ℤ pos p)
+neg-fits p h = simp ints (simp atoms (omega arith))
+
+pub neg-fits-only : (p : ℕ) → SFits w64 (pos 0 -ℤ pos p) → p ≤ 2 ^ 63
+neg-fits-only p = simp ints (simp atoms (omega arith))
+
+pub pos-fits : (p : ℕ) → p < 2 ^ 63 → SFits w64 (pos p)
+pos-fits p h = record { sfits = h }
+
+-- a number's opposite fits unless the number is the least
+pub opposite-fits : (x : ℤ) → SFits w64 x → (natAbs x ≡ 2 ^ 63 → ⊥) → SFits w64 (pos 0 -ℤ x)
+opposite-fits (pos n) f h = let g = f .sfits in neg-fits n (omega arith)
+opposite-fits (negsuc n) f h = let g = f .sfits in record { sfits = omega arith }
+
+pub least-only : (x : ℤ) → SFits w64 x → natAbs x ≡ 2 ^ 63 → SFits w64 (pos 0 -ℤ x) → ⊥
+least-only (pos n) f h k = let g = f .sfits in omega arith
+least-only (negsuc n) f h k = let g = k .sfits in omega arith
+
+-- a u64 read as an i64
+pub toZ-small : (p : ℕ) → p < 2 ^ 63 → toZ w64 p ≡ pos p
+toZ-small p h = toZ-ofZ {w = w64} {z = pos p} (record { sfits = h })
+
+-- what an answer of `narrowU` says
+pub narrowU-ok : (r : CheckedU64) (n : ℕ) → r ≡ narrowU n → r .ok ≡ true → (r .value ≡ n) × (n < 2 ^ 64)
+unfolding narrowU
+narrowU-ok r n e = go (ltb n (2 ^ 64)) refl
+  where
+    go : (b : Bool) → ltb n (2 ^ 64) ≡ b → r .ok ≡ true → (r .value ≡ n) × (n < 2 ^ 64)
+    go true t k = let h : r ≡ keepU true n = e ∙ ap (λ (b : Bool). keepU b n) t in (ap (λ (r : CheckedU64). r .value) h, ltb-true n (2 ^ 64) t)
+    go false t k =
+        let h : r ≡ keepU false n = e ∙ ap (λ (b : Bool). keepU b n) t in
+        let l : true ≡ false = sym k ∙ ap (λ (r : CheckedU64). r .ok) h in
+        absurd (subst T l tt)
+
+pub narrowU-not-ok : (r : CheckedU64) (n : ℕ) → r ≡ narrowU n → r .ok ≡ false → 2 ^ 64 ≤ n
+unfolding narrowU
+narrowU-not-ok r n e = go (ltb n (2 ^ 64)) refl
+  where
+    go : (b : Bool) → ltb n (2 ^ 64) ≡ b → r .ok ≡ false → 2 ^ 64 ≤ n
+    go true t k =
+        let h : r ≡ keepU true n = e ∙ ap (λ (b : Bool). keepU b n) t in
+        let l : true ≡ false = sym (ap (λ (r : CheckedU64). r .ok) h) ∙ k in
+        absurd (subst T l tt)
+    go false t k = ltb-false n (2 ^ 64) t
+
+-- ---- a signed product, by its magnitude p
+module _ (a : ℤ) (n p : ℕ) (e : p ≡ natAbs a * n) where
+  pub signed-neg : ltZ a (pos 0) ≡ true → p < 2 ^ 63 → narrow (a *ℤ pos n) ≡ record { ok = true; value = pos 0 -ℤ pos p }
+  signed-neg l h = rw (times-neg a n l, ← e) (narrow-yes (pos 0 -ℤ pos p) (neg-fits p (omega arith)))
+
+  pub signed-pos : ltZ a (pos 0) ≡ false → p < 2 ^ 63 → narrow (a *ℤ pos n) ≡ record { ok = true; value = pos p }
+  signed-pos l h = rw (times-pos a n l, ← e) (narrow-yes (pos p) (pos-fits p h))
+
+  pub signed-least : ltZ a (pos 0) ≡ true → p ≡ 2 ^ 63 → narrow (a *ℤ pos n) ≡ record { ok = true; value = negsuc 9223372036854775807 }
+  signed-least l h = rw (times-neg a n l, ← e, h) (narrow-yes (negsuc 9223372036854775807) (record { sfits = omega arith }))
+
+  pub signed-over : ltZ a (pos 0) ≡ true → 2 ^ 63 < p → narrow (a *ℤ pos n) ≡ record { ok = false; value = pos 0 }
+  signed-over l h = rw (times-neg a n l, ← e) (narrow-no (pos 0 -ℤ pos p) (λ f. clash (neg-fits-only p f)))
+    where
+      clash : p ≤ 2 ^ 63 → ⊥
+      clash k = omega arith
+
+  pub unsigned-over : ltZ a (pos 0) ≡ false → 2 ^ 63 ≤ p → narrow (a *ℤ pos n) ≡ record { ok = false; value = pos 0 }
+  unsigned-over l h = rw (times-pos a n l, ← e) (narrow-no (pos p) (λ f. clash (f .sfits)))
+    where
+      clash : p < 2 ^ 63 → ⊥
+      clash k = omega arith
+
+  pub far-over : 2 ^ 64 ≤ p → narrow (a *ℤ pos n) ≡ record { ok = false; value = pos 0 }
+  far-over h = go (ltZ a (pos 0)) refl
+    where
+      go : (b : Bool) → ltZ a (pos 0) ≡ b → narrow (a *ℤ pos n) ≡ record { ok = false; value = pos 0 }
+      go true l = signed-over l (omega arith)
+      go false l = unsigned-over l (omega arith)

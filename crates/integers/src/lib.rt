@@ -1,0 +1,96 @@
+// Machine integers with checked steps: the magnitude of an i64, and products that say whether they fit.
+ghost use mathlib.Core.Path.{_≡_};
+ghost use Prim.Native.Nat.{_*_};
+ghost use lib.IntN.{pos, negℤ, natAbs, _*ℤ_};
+ghost use Rattle.integers.specs.Checked.{narrow, narrowU};
+
+pub const I64_MAX: u64 = 0x7fff_ffff_ffff_ffff;
+
+pub const U64_MAX: u64 = 0xffff_ffff_ffff_ffff;
+
+pub struct CheckedU64 {
+    pub ok: bool,
+    pub value: u64,
+}
+
+pub struct CheckedI64 {
+    pub ok: bool,
+    pub value: i64,
+}
+
+// The magnitude, which takes all 64 bits at the least i64.
+pub fn magnitude(x: i64) -> u64
+    ensures { λ r. ⌜ r ≡ natAbs x ⌝ }
+{
+    if x < 0 {
+        let y = 0 - (x + 1);
+        (y as u64) + 1
+    } else {
+        x as u64
+    }
+}
+
+pub fn checked_mul_u64(a: u64, b: u64) -> CheckedU64
+    ensures { λ r. ⌜ r ≡ narrowU (a * b) ⌝ }
+{
+    if b == 0 {
+        return CheckedU64 { ok: true, value: 0 };
+    }
+    if U64_MAX / b < a {
+        return CheckedU64 {
+            ok: false,
+            value: 0,
+        };
+    }
+    CheckedU64 {
+        ok: true,
+        value: a * b,
+    }
+}
+
+pub fn checked_neg_i64(x: i64) -> CheckedI64
+    ensures { λ r. ⌜ r ≡ narrow (negℤ x) ⌝ }
+{
+    if magnitude(x) == I64_MAX + 1 {
+        return CheckedI64 {
+            ok: false,
+            value: 0,
+        };
+    }
+    CheckedI64 {
+        ok: true,
+        value: 0 - x,
+    }
+}
+
+// A product of a signed and an unsigned number: the magnitudes are multiplied, then the sign is put on.
+pub fn checked_mul_i64(a: i64, n: u64) -> CheckedI64
+    ensures { λ r. ⌜ r ≡ narrow (a *ℤ pos n) ⌝ }
+{
+    let m = checked_mul_u64(magnitude(a), n);
+    let p = m.value;
+    if m.ok {
+        if p <= I64_MAX {
+            let v = p as i64;
+            if a < 0 {
+                return CheckedI64 {
+                    ok: true,
+                    value: 0 - v,
+                };
+            }
+            return CheckedI64 { ok: true, value: v };
+        }
+        if a < 0 {
+            if p == I64_MAX + 1 {
+                return CheckedI64 {
+                    ok: true,
+                    value: -0x8000_0000_0000_0000,
+                };
+            }
+        }
+    }
+    CheckedI64 {
+        ok: false,
+        value: 0,
+    }
+}
