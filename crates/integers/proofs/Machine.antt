@@ -11,10 +11,10 @@ use lib.Signed.{leZ, ltZ, mag, nonNeg, _≤ℤ_, _<ℤ_}
 use mir.Val.{Fits, SFits, toZ, ofZ}
 use mir.Facts.{toZ-ofZ}
 use mir.Syntax.{w64}
-use borrow.Author.Tests.{lt-ltb, le-ltb, ltb-true, ltb-false}
+use borrow.Author.Tests.{lt-ltb, le-ltb, ltb-true, ltb-false, eq-eqb, eqb-true}
 use Rattle.integers.specs.declared.CheckedU64.{CheckedU64}
 use Rattle.integers.specs.declared.CheckedI64.{CheckedI64}
-use Rattle.integers.specs.Checked.{fitsI64, keepU, keepI, narrowU, narrow}
+use Rattle.integers.specs.Checked.{fitsI64, eqZ, keepU, keepI, narrowU, narrow}
 use Rattle.integers.proofs.Difference.{ints, atoms}
 
 -- one step towards 0 from a negative number
@@ -155,3 +155,65 @@ module _ (a : ℤ) (n p : ℕ) (e : p ≡ natAbs a * n) where
       go : (b : Bool) → ltZ a (pos 0) ≡ b → narrow (a *ℤ pos n) ≡ record { ok = false; value = pos 0 }
       go true l = signed-over l (omega arith)
       go false l = unsigned-over l (omega arith)
+
+-- ---- equality
+pub eqZ-refl : (a : ℤ) → eqZ a a ≡ true
+unfolding eqZ
+eqZ-refl (pos n) = eq-eqb n n refl
+eqZ-refl (negsuc n) = eq-eqb n n refl
+
+pub eqZ-true : (a b : ℤ) → eqZ a b ≡ true → a ≡ b
+unfolding eqZ
+eqZ-true (pos a) (pos b) e = ap pos (eqb-true a b e)
+eqZ-true (pos a) (negsuc b) e = cc
+eqZ-true (negsuc a) (pos b) e = cc
+eqZ-true (negsuc a) (negsuc b) e = ap negsuc (eqb-true a b e)
+
+pub ne-eqZ : (a b : ℤ) → (a ≡ b → ⊥) → eqZ a b ≡ false
+ne-eqZ a b n = go (eqZ a b) refl
+  where
+    go : (t : Bool) → eqZ a b ≡ t → eqZ a b ≡ false
+    go true e = absurd (n (eqZ-true a b e))
+    go false e = e
+
+-- the machine compares two i64 by their bits
+pub same-bits : (a b : ℤ) → SFits w64 a → SFits w64 b → ofZ w64 a ≡ ofZ w64 b → a ≡ b
+same-bits a b f g e = sym (toZ-ofZ f) ∙ ap (toZ w64) e ∙ toZ-ofZ g
+
+-- what an answer of `narrow` says
+pub narrow-fits : (z : ℤ) → fitsI64 z ≡ true → SFits w64 z
+unfolding fitsI64
+narrow-fits z e = record { sfits = ltb-true (mag z) (2 ^ 63) e }
+
+pub narrow-over : (z : ℤ) → fitsI64 z ≡ false → SFits w64 z → ⊥
+unfolding fitsI64
+narrow-over z e f = clash (ltb-false (mag z) (2 ^ 63) e) (f .sfits)
+  where
+    clash : 2 ^ 63 ≤ mag z → mag z < 2 ^ 63 → ⊥
+    clash h k = omega arith
+
+pub fits-test : (z : ℤ) → SFits w64 z → fitsI64 z ≡ true
+unfolding fitsI64
+fits-test z f = lt-ltb (mag z) (2 ^ 63) (f .sfits)
+
+pub narrow-ok : (r : CheckedI64) (z : ℤ) → r ≡ narrow z → r .ok ≡ true → (r .value ≡ z) × (fitsI64 z ≡ true)
+unfolding narrow
+narrow-ok r z e = go (fitsI64 z) refl
+  where
+    go : (b : Bool) → fitsI64 z ≡ b → r .ok ≡ true → (r .value ≡ z) × (fitsI64 z ≡ true)
+    go true t k = let h : r ≡ keepI true z = e ∙ ap (λ (b : Bool). keepI b z) t in (ap (λ (r : CheckedI64). r .value) h, t)
+    go false t k =
+        let h : r ≡ keepI false z = e ∙ ap (λ (b : Bool). keepI b z) t in
+        let l : true ≡ false = sym k ∙ ap (λ (r : CheckedI64). r .ok) h in
+        absurd (subst T l tt)
+
+pub narrow-not-ok : (r : CheckedI64) (z : ℤ) → r ≡ narrow z → r .ok ≡ false → fitsI64 z ≡ false
+unfolding narrow
+narrow-not-ok r z e = go (fitsI64 z) refl
+  where
+    go : (b : Bool) → fitsI64 z ≡ b → r .ok ≡ false → fitsI64 z ≡ false
+    go true t k =
+        let h : r ≡ keepI true z = e ∙ ap (λ (b : Bool). keepI b z) t in
+        let l : true ≡ false = sym (ap (λ (r : CheckedI64). r .ok) h) ∙ k in
+        absurd (subst T l tt)
+    go false t k = t

@@ -1,0 +1,229 @@
+-- Laws of rules 1 and 5, and of the compiled answer.
+-- Assumes nothing.
+use Prim.Native.Nat.{ℕ, zero, suc, _+_, _-_, _*_, _^_, _≤_, _<_}
+use mathlib.Core.Path.{_≡_, refl, sym, _∙_, ap, subst}
+use mathlib.Core.Bool.{Bool, true, false, cond, not}
+use mathlib.Core.List.{List, [], _∷_, _++_, append-nil, append-assoc}
+use mathlib.Core.Option.{Option, none, some}
+use native.Mathlib.Omega.{arith}
+use native.Mathlib.Numerals.{add-one}
+use lib.Dec.{T, ltb, eqb}
+use lib.ListN.{length, take, drop, getD, length-append, length-take, drop-of-length-le}
+use lib.Seq.{drop-cons}
+use lib.IntN.{ℤ, pos}
+use borrow.Author.Tests.{lt-ltb, le-ltb, eq-eqb, ne-eqb, lt-leb, le-leb}
+use Rattle.integers.specs.declared.CheckedU64.{CheckedU64}
+use Rattle.layout.specs.declared.axis.ReduceOuterAxis.{ReduceOuterAxis}
+use Rattle.layout.specs.declared.axis.AxisTable.{AxisTable}
+use Rattle.layout.specs.declared.traversal.FullTraversal.{FullTraversal}
+use Rattle.layout.specs.declared.traversal.Compiled.{Compiled}
+use Rattle.layout.specs.Axes.{PLACES, Table, noAxis, tableOf, placesOf, held}
+use Rattle.layout.specs.declared.order.Ordered.{Ordered}
+use Rattle.layout.specs.Order.{kept, axesOf, resetsFit, orderedIf}
+use Rattle.layout.specs.Fuse.{fuse, orderedOr}
+use Rattle.layout.proofs.Ordering.{length-axes}
+use Rattle.layout.specs.Compile.{totalFrom, totalOf, checkedOr, layoutOf, emptyLayout, fusedOf, traversalAt, traversalOf, firstOf, compileRefusals, accepted, compileOf, overflows, aboveMost}
+use Rattle.layout.proofs.Tables.{held-of, table-of, table-count}
+use Rattle.layout.proofs.Fusing.{count-of, from-i, length-fuse}
+
+-- ---- rule 5: the axes after the first
+pub record Copied (t out : AxisTable) (i : ℕ) : Type 0 where
+  pub after : 1 ≤ i
+  pub table : Table out
+  pub few : out .count + 1 ≡ i
+  pub copied : held out ++ drop i (held t) ≡ drop 1 (held t)
+
+pub copied-none : (t out : AxisTable) → out ≡ tableOf [] → Copied t out 1
+copied-none t out e =
+    rw e
+    (record {
+      after = omega arith;
+      table = table-of [] (omega arith);
+      few = omega (arith, count-of [] (omega arith));
+      copied = ap (λ (z : List ReduceOuterAxis). z ++ drop 1 (held t)) (held-of []);
+    })
+
+pub copied-more : (t out r : AxisTable) (i : ℕ) → Table t → i < t .count → Copied t out i → r ≡ tableOf (held out ++ getD (t .places) i noAxis ∷ []) → Copied t r (i + 1)
+copied-more t out r i w h p e =
+    let c = table-count out (p .table) in
+    let f = p .few in
+    let m = w .1 in
+    let l : length (held out ++ getD (t .places) i noAxis ∷ []) ≡ length (held out) + 1 = length-append (held out) (getD (t .places) i noAxis ∷ []) in
+    rw e
+    (record {
+      after = omega arith;
+      table = table-of (held out ++ getD (t .places) i noAxis ∷ []) (omega arith);
+      few = omega (arith, count-of (held out ++ getD (t .places) i noAxis ∷ []) (omega arith));
+      copied =
+          ap (λ (z : List ReduceOuterAxis). z ++ drop (i + 1) (held t)) (held-of (held out ++ getD (t .places) i noAxis ∷ []))
+          ∙ append-assoc (held out) (getD (t .places) i noAxis ∷ []) (drop (i + 1) (held t))
+          ∙ ap (λ (z : List ReduceOuterAxis). held out ++ z) (sym (from-i t i w h))
+          ∙ p .copied;
+    })
+
+pub copied-all : (t out : AxisTable) (i : ℕ) → t .count ≤ i → Copied t out i → out ≡ tableOf (drop 1 (held t))
+unfolding held
+copied-all t out i h p =
+    p .table .0
+    ∙ ap tableOf (sym (append-nil (held out)) ∙ ap (λ (z : List ReduceOuterAxis). held out ++ z) (sym (drop-of-length-le (take (t .count) (t .places)) short)) ∙ p .copied)
+  where
+    short : length (take (t .count) (t .places)) ≤ i
+    short = simp length-take (omega arith)
+
+-- ---- rule 1
+pub total-more : (ns : List ℕ) (t i : ℕ) → i < length ns → t * getD ns i 0 < 2 ^ 64 → totalFrom t (drop i ns) ≡ totalFrom (t * getD ns i 0) (drop (i + 1) ns)
+unfolding totalFrom
+total-more ns t i h k = rw (add-one i, drop-cons ns i 0 h, lt-ltb (t * getD ns i 0) (2 ^ 64) k)
+
+pub total-over : (ns : List ℕ) (t i : ℕ) → i < length ns → 2 ^ 64 ≤ t * getD ns i 0 → totalFrom t (drop i ns) ≡ none
+unfolding totalFrom
+total-over ns t i h k = rw (drop-cons ns i 0 h, le-ltb (t * getD ns i 0) (2 ^ 64) k)
+
+pub total-all : (ns : List ℕ) (t i : ℕ) → length ns ≤ i → totalFrom t (drop i ns) ≡ some t
+unfolding totalFrom
+total-all ns t i h = rw (drop-of-length-le ns h)
+
+-- ---- rule 5: the layout
+pub run-none : (n : ℕ) (t out : AxisTable) → t .count ≡ 0 → out ≡ tableOf (drop 1 (held t))
+    → record { total = n; «run_len» = 1; «run_stride» = pos 1; «axis_count» = 0; «run_axes» = out .places } ≡ layoutOf n (held t)
+unfolding layoutOf tableOf held
+run-none n t out z e =
+    let h : take (t .count) (t .places) ≡ [] = ap (λ (k : ℕ). take k (t .places)) z in
+    ap (λ (o : AxisTable). record { total = n; «run_len» = 1; «run_stride» = pos 1; «axis_count» = 0; «run_axes» = o .places }) e
+    ∙ ap (λ (xs : List ReduceOuterAxis). record { total = n; «run_len» = 1; «run_stride» = pos 1; «axis_count» = 0; «run_axes» = placesOf (drop 1 xs) }) h
+    ∙ ap (layoutOf n) (sym h)
+
+pub run-first : (n : ℕ) (t out : AxisTable) (a : ReduceOuterAxis) → Table t → (t .count ≡ 0 → ⊥) → out ≡ tableOf (drop 1 (held t)) → a ≡ getD (t .places) 0 noAxis
+    → record { total = n; «run_len» = a .extent; «run_stride» = a .«source_step»; «axis_count» = out .count; «run_axes» = out .places } ≡ layoutOf n (held t)
+unfolding layoutOf tableOf
+run-first n t out a w z e f =
+    ap (λ (o : AxisTable). record { total = n; «run_len» = a .extent; «run_stride» = a .«source_step»; «axis_count» = o .count; «run_axes» = o .places }) e
+    ∙ ap (λ (x : ReduceOuterAxis). layoutOf n (x ∷ drop 1 (held t))) f
+    ∙ ap (layoutOf n) (sym (from-i t 0 w (omega arith)))
+
+pub layout-total : (t : ℕ) (xs : List ReduceOuterAxis) → (layoutOf t xs) .total ≡ t
+unfolding layoutOf
+layout-total t [] = refl
+layout-total t (a ∷ xs) = refl
+
+-- ---- the compiled answer
+module _ (ns : List ℕ) (ss : List ℤ) where
+  pub total-yes : (r : CheckedU64) → r ≡ checkedOr (totalOf ns) → r .ok ≡ true → totalOf ns ≡ some (r .value)
+  unfolding checkedOr
+  total-yes r e = go (totalOf ns) refl
+    where
+      go : (o : Option ℕ) → totalOf ns ≡ o → r .ok ≡ true → totalOf ns ≡ some (r .value)
+      go none f k = absurd (subst T (sym k ∙ ap (λ (r : CheckedU64). r .ok) (e ∙ ap checkedOr f)) tt)
+      go (some t) f k = f ∙ ap some (sym (ap (λ (r : CheckedU64). r .value) (e ∙ ap checkedOr f)))
+
+  pub total-no : (r : CheckedU64) → r ≡ checkedOr (totalOf ns) → r .ok ≡ false → traversalOf ns ss ≡ none
+  unfolding checkedOr traversalOf traversalAt
+  total-no r e = go (totalOf ns) refl
+    where
+      go : (o : Option ℕ) → totalOf ns ≡ o → r .ok ≡ false → traversalAt ns ss (totalOf ns) ≡ none
+      go none f k = ap (traversalAt ns ss) f
+      go (some t) f k = absurd (subst T (sym (ap (λ (r : CheckedU64). r .ok) (e ∙ ap checkedOr f)) ∙ k) tt)
+
+  pub no-elements : (t : ℕ) → totalOf ns ≡ some t → t ≡ 0 → traversalOf ns ss ≡ some emptyLayout
+  unfolding traversalOf traversalAt
+  no-elements t e z = ap (traversalAt ns ss) (e ∙ ap some z)
+
+  module _ (t : ℕ) (e : totalOf ns ≡ some t) (n : t ≡ 0 → ⊥) where
+    at-total : traversalOf ns ss ≡ elim (fusedOf ns ss) [ none ↦ none | some xs ↦ some (layoutOf t xs) ]
+    unfolding traversalOf traversalAt
+    at-total = ap (traversalAt ns ss) e ∙ ap (λ (b : Bool). cond b (some emptyLayout) (elim (fusedOf ns ss) [ none ↦ none | some xs ↦ some (layoutOf t xs) ])) (ne-eqb t 0 n)
+
+    unfused : fusedOf ns ss ≡ none → traversalOf ns ss ≡ none
+    unfused f = at-total ∙ ap (λ (o : Option (List ReduceOuterAxis)). elim o [ none ↦ none | some xs ↦ some (layoutOf t xs) ]) f
+
+    fused-is : (xs : List ReduceOuterAxis) → fusedOf ns ss ≡ some xs → traversalOf ns ss ≡ some (layoutOf t xs)
+    fused-is xs f = at-total ∙ ap (λ (o : Option (List ReduceOuterAxis)). elim o [ none ↦ none | some xs ↦ some (layoutOf t xs) ]) f
+
+    -- where rule 3 fails
+    pub no-resets : (o : Ordered) → o ≡ orderedIf (resetsFit (kept ns ss)) (axesOf ns ss) → o .ok ≡ false → traversalOf ns ss ≡ none
+    unfolding orderedIf fusedOf
+    no-resets o q k = unfused (go (resetsFit (kept ns ss)) refl)
+      where
+        go : (b : Bool) → resetsFit (kept ns ss) ≡ b → fusedOf ns ss ≡ none
+        go true f = absurd (subst T (sym (ap (λ (o : Ordered). o .ok) (q ∙ ap (λ (b : Bool). orderedIf b (axesOf ns ss)) f)) ∙ k) tt)
+        go false f = ap (λ (b : Bool). cond b (fuse (axesOf ns ss)) none) f
+
+    -- where rule 3 holds
+    module _ (o : Ordered) (q : o ≡ orderedIf (resetsFit (kept ns ss)) (axesOf ns ss)) (k : o .ok ≡ true) where
+      resets : resetsFit (kept ns ss) ≡ true
+      unfolding orderedIf
+      resets = go (resetsFit (kept ns ss)) refl
+        where
+          go : (b : Bool) → resetsFit (kept ns ss) ≡ b → resetsFit (kept ns ss) ≡ true
+          go true f = f
+          go false f = absurd (subst T (sym k ∙ ap (λ (o : Ordered). o .ok) (q ∙ ap (λ (b : Bool). orderedIf b (axesOf ns ss)) f)) tt)
+
+      ordered-table : o .table ≡ tableOf (axesOf ns ss)
+      unfolding orderedIf
+      ordered-table = ap (λ (o : Ordered). o .table) (q ∙ ap (λ (b : Bool). orderedIf b (axesOf ns ss)) resets)
+
+      pub ordered-held : length ns ≤ PLACES → Table (o .table)
+      ordered-held h = rw ordered-table (table-of (axesOf ns ss) (omega (arith, length-axes ns ss)))
+
+      fused-option : fusedOf ns ss ≡ fuse (held (o .table))
+      unfolding fusedOf
+      fused-option = ap (λ (b : Bool). cond b (fuse (axesOf ns ss)) none) resets ∙ ap fuse (sym (ap held ordered-table ∙ held-of (axesOf ns ss)))
+
+      module _ (f : Ordered) (p : f ≡ orderedOr (fuse (held (o .table)))) where
+        pub no-fusing : f .ok ≡ false → traversalOf ns ss ≡ none
+        unfolding orderedOr
+        no-fusing z = unfused (fused-option ∙ go (fuse (held (o .table))) refl)
+          where
+            go : (x : Option (List ReduceOuterAxis)) → fuse (held (o .table)) ≡ x → fuse (held (o .table)) ≡ none
+            go none g = g
+            go (some xs) g = absurd (subst T (sym (ap (λ (o : Ordered). o .ok) (p ∙ ap orderedOr g)) ∙ z) tt)
+
+        fusing : f .ok ≡ true → fuse (held (o .table)) ≡ some (held (f .table))
+        unfolding orderedOr
+        fusing z = go (fuse (held (o .table))) refl
+          where
+            go : (x : Option (List ReduceOuterAxis)) → fuse (held (o .table)) ≡ x → fuse (held (o .table)) ≡ some (held (f .table))
+            go none g = absurd (subst T (sym z ∙ ap (λ (o : Ordered). o .ok) (p ∙ ap orderedOr g)) tt)
+            go (some xs) g = g ∙ ap some (sym (ap (λ (o : Ordered). held (o .table)) (p ∙ ap orderedOr g) ∙ held-of xs))
+
+        pub fused-held : length ns ≤ PLACES → f .ok ≡ true → Table (f .table)
+        unfolding orderedOr
+        fused-held h z =
+            let l = length-fuse (held (o .table)) (held (f .table)) (fusing z) in
+            let m = length-axes ns ss in
+            let j : length (held (o .table)) ≡ length (axesOf ns ss) = ap length (ap held ordered-table ∙ held-of (axesOf ns ss)) in
+            rw table-is (table-of (held (f .table)) (omega arith))
+          where
+            table-is : f .table ≡ tableOf (held (f .table))
+            table-is = ap (λ (o : Ordered). o .table) (p ∙ ap orderedOr (fusing z))
+
+        pub is-layout : f .ok ≡ true → traversalOf ns ss ≡ some (layoutOf t (held (f .table)))
+        is-layout z = fused-is (held (f .table)) (fused-option ∙ fusing z)
+
+-- ---- the ranks
+module _ (ns : List ℕ) (ss : List ℤ) where
+  answer : (c : ℕ) (o : Option FullTraversal) → firstOf (compileRefusals ns ss) ≡ c → traversalOf ns ss ≡ o → compileOf ns ss ≡ record { code = c; traversal = accepted c o }
+  unfolding compileOf
+  answer c o e f = ap (λ (k : ℕ). record { code = k; traversal = accepted k (traversalOf ns ss) }) e ∙ ap (λ (x : Option FullTraversal). record { code = c; traversal = accepted c x }) f
+
+  pub code-1 : (length ns ≡ length ss → ⊥) → compileOf ns ss ≡ record { code = 1; traversal = emptyLayout }
+  unfolding compileRefusals firstOf accepted
+  code-1 n = answer 1 (traversalOf ns ss) (rw (ne-eqb (length ns) (length ss) n)) refl
+
+  module _ (e : length ns ≡ length ss) where
+    pub code-2 : PLACES < length ns → compileOf ns ss ≡ record { code = 2; traversal = emptyLayout }
+    unfolding compileRefusals firstOf accepted
+    code-2 h = answer 2 (traversalOf ns ss) (rw (eq-eqb (length ns) (length ss) e, lt-ltb 8 (length ns) h)) refl
+
+    module _ (h : length ns ≤ PLACES) where
+      pub code-3 : traversalOf ns ss ≡ none → compileOf ns ss ≡ record { code = 3; traversal = emptyLayout }
+      unfolding compileRefusals firstOf accepted overflows
+      code-3 f = answer 3 none (rw (eq-eqb (length ns) (length ss) e, le-ltb 8 (length ns) h, f)) f
+
+      pub code-4 : (l : FullTraversal) → traversalOf ns ss ≡ some l → 2 ^ 40 < l .total → compileOf ns ss ≡ record { code = 4; traversal = emptyLayout }
+      unfolding compileRefusals firstOf accepted overflows aboveMost
+      code-4 l f k = answer 4 (some l) (rw (eq-eqb (length ns) (length ss) e, le-ltb 8 (length ns) h, f, lt-ltb (2 ^ 40) (l .total) k)) f
+
+      pub code-0 : (l : FullTraversal) → traversalOf ns ss ≡ some l → l .total ≤ 2 ^ 40 → compileOf ns ss ≡ record { code = 0; traversal = l }
+      unfolding compileRefusals firstOf accepted overflows aboveMost
+      code-0 l f k = answer 0 (some l) (rw (eq-eqb (length ns) (length ss) e, le-ltb 8 (length ns) h, f, le-ltb (2 ^ 40) (l .total) k)) f

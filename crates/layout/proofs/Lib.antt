@@ -1,0 +1,5 @@
+pub mod Tables
+pub mod Resets
+pub mod Ordering
+pub mod Fusing
+pub mod Compiling

@@ -1,0 +1,63 @@
+-- Laws of rule 3: when an axis has a reset.
+-- Assumes nothing.
+use Prim.Native.Nat.{ℕ, zero, suc, _+_, _-_, _*_, _^_, _≤_, _<_}
+use mathlib.Core.Path.{_≡_, refl, sym, _∙_, ap, subst}
+use mathlib.Core.Bool.{Bool, true, false, _&&_}
+use native.Mathlib.Omega.{arith}
+use lib.Dec.{T}
+use lib.IntN.{ℤ, pos, negℤ, _*ℤ_}
+use mir.Val.{SFits}
+use mir.Syntax.{w64}
+use borrow.Author.Tests.{lt-ltb, le-ltb}
+use Rattle.integers.specs.Checked.{fitsI64, keepI, narrow}
+use Rattle.integers.specs.declared.CheckedI64.{CheckedI64}
+use Rattle.integers.proofs.Machine.{narrow-ok, narrow-not-ok, fits-test, narrow-over, pos-fits}
+use Rattle.layout.specs.Axes.{span, resetFits, axisOf}
+
+fits-small : (n : ℕ) → n < 2 ^ 63 → fitsI64 (pos n) ≡ true
+unfolding fitsI64
+fits-small n h = lt-ltb n (2 ^ 63) h
+
+fits-large : (n : ℕ) → 2 ^ 63 ≤ n → fitsI64 (pos n) ≡ false
+unfolding fitsI64
+fits-large n h = le-ltb n (2 ^ 63) h
+
+-- a size too large has no reset, whatever the stride
+pub reset-large : (n : ℕ) (s : ℤ) → 2 ^ 63 ≤ n - 1 → resetFits n s ≡ false
+unfolding resetFits
+reset-large n s h = ap (λ (b : Bool). b && fitsI64 (span n s) && fitsI64 (negℤ (span n s))) (fits-large (n - 1) h)
+
+module _ (n : ℕ) (s : ℤ) (h : n - 1 < 2 ^ 63) (r : CheckedI64) (e : r ≡ narrow (s *ℤ pos (n - 1))) where
+  small : resetFits n s ≡ fitsI64 (span n s) && fitsI64 (negℤ (span n s))
+  unfolding resetFits
+  small = ap (λ (b : Bool). b && fitsI64 (span n s) && fitsI64 (negℤ (span n s))) (fits-small (n - 1) h)
+
+  pub reset-no-span : r .ok ≡ false → resetFits n s ≡ false
+  unfolding span
+  reset-no-span k = small ∙ ap (λ (b : Bool). b && fitsI64 (negℤ (s *ℤ pos (n - 1)))) (narrow-not-ok r (s *ℤ pos (n - 1)) e k)
+
+  pub reset-span : r .ok ≡ true → narrow (negℤ (r .value)) ≡ keepI (resetFits n s) (negℤ (span n s))
+  unfolding span narrow
+  reset-span k =
+      let v = narrow-ok r (s *ℤ pos (n - 1)) e k in
+      ap (λ (z : ℤ). keepI (fitsI64 (negℤ z)) (negℤ z)) (v .0)
+      ∙ ap (λ (b : Bool). keepI b (negℤ (s *ℤ pos (n - 1)))) (sym (small ∙ ap (λ (b : Bool). b && fitsI64 (negℤ (s *ℤ pos (n - 1)))) (v .1)))
+
+-- what an answer of `checked_reduce_reset` says
+pub reset-ok : (r : CheckedI64) (n : ℕ) (s : ℤ) → r ≡ keepI (resetFits n s) (negℤ (span n s)) → r .ok ≡ true → (resetFits n s ≡ true) × (r .value ≡ negℤ (span n s))
+reset-ok r n s e = go (resetFits n s) refl
+  where
+    go : (b : Bool) → resetFits n s ≡ b → r .ok ≡ true → (resetFits n s ≡ true) × (r .value ≡ negℤ (span n s))
+    go true f k = (f, ap (λ (r : CheckedI64). r .value) (e ∙ ap (λ (b : Bool). keepI b (negℤ (span n s))) f))
+    go false f k =
+        let z : true ≡ false = sym k ∙ ap (λ (r : CheckedI64). r .ok) (e ∙ ap (λ (b : Bool). keepI b (negℤ (span n s))) f) in
+        absurd (subst T z tt)
+
+pub reset-not-ok : (r : CheckedI64) (n : ℕ) (s : ℤ) → r ≡ keepI (resetFits n s) (negℤ (span n s)) → r .ok ≡ false → resetFits n s ≡ false
+reset-not-ok r n s e = go (resetFits n s) refl
+  where
+    go : (b : Bool) → resetFits n s ≡ b → r .ok ≡ false → resetFits n s ≡ false
+    go true f k =
+        let z : true ≡ false = sym (ap (λ (r : CheckedI64). r .ok) (e ∙ ap (λ (b : Bool). keepI b (negℤ (span n s))) f)) ∙ k in
+        absurd (subst T z tt)
+    go false f k = f

@@ -1,0 +1,88 @@
+-- `layout::fuse::fuse_next` meets its contract.
+-- Assumes nothing.
+use Prim.Native.Nat.{ℕ}
+use mathlib.Core.Path.{_≡_, refl, sym, _∙_, ap}
+use mathlib.Core.Bool.{true, false}
+use Rattle.layout.specs.declared.axis.ReduceOuterAxis.{ReduceOuterAxis}
+use Rattle.layout.specs.declared.axis.AxisTable.{AxisTable}
+use Rattle.layout.specs.declared.fuse.Fusing.{Fusing}
+use mathlib.Core.List.{[]}
+use Rattle.layout.specs.Axes.{held, tableOf}
+use Rattle.layout.specs.Fuse.{joinOf, nextFrom, nextOf}
+use borrow.Author.Needs.{needs}
+use Rattle.layout.proofs.fuse.fuse_next.Statement.{statement}
+use Rattle.layout.proofs.fuse.fuse_next.Tie as tie
+use Rattle.layout.proofs.fuse.fuse_next.Reads as reads
+use Rattle.layout.proofs.fuse.fuse_next.Lts as lts
+use Rattle.layout.proofs.axis.no_axes.Reads as no-axes-reads
+use Rattle.layout.proofs.axis.no_axis.Reads as no-axis-reads
+use Rattle.layout.proofs.axis.push.Reads as push-reads
+use Rattle.layout.proofs.fuse.join.Reads as join-reads
+
+-- src/fuse.rt:58:9
+join-requires : tie.Need-join-requires
+join-requires c κs = search needs
+
+-- src/fuse.rt:60:21
+enum-known-j : tie.Need-enum-known-j
+enum-known-j c = search needs
+
+-- src/fuse.rt:67:19
+enum-told : tie.Need-enum-told
+enum-told c = search needs
+
+-- src/fuse.rt:67:19
+push-requires : tie.Need-push-requires
+push-requires c κs = search needs
+
+-- src/fuse.rt:72:19
+enum-told-2 : tie.Need-enum-told-2
+enum-told-2 c = search needs
+
+-- src/fuse.rt:72:19
+no-axes-requires : tie.Need-no-axes-requires
+no-axes-requires c κs = search needs
+
+-- src/fuse.rt:73:19
+no-axis-requires : tie.Need-no-axis-requires
+no-axis-requires c κs = search needs
+
+-- src/fuse.rt:52:1
+returns : tie.Need-returns
+unfolding nextOf nextFrom
+returns c =
+    let s = c .before .before .before .before .before .before in
+    ap (λ (t : AxisTable). record { ok = true; done = t; last = c .before .j .given .0 .0 }) (s .pre .0 .0)
+    ∙ ap (nextFrom (held (s .args .f .done)) (s .args .f .last) (s .args .b)) (sym (c .before .j .given .1) ∙ c .before .before .before .join .ensures)
+
+-- src/fuse.rt:52:1
+returns-2 : tie.Need-returns-2
+unfolding nextOf nextFrom
+returns-2 c =
+    let s = c .before .before .before .before .before .before in
+    ap (λ (t : AxisTable). record { ok = true; done = t; last = s .args .b }) (c .push .ensures)
+    ∙ ap (nextFrom (held (s .args .f .done)) (s .args .f .last) (s .args .b)) (sym (c .before .enum-told .given .1) ∙ c .before .before .before .join .ensures)
+
+-- src/fuse.rt:52:1
+returns-3 : tie.Need-returns-3
+unfolding nextOf nextFrom
+returns-3 c =
+    let s = c .before .before .before .before .before .before .before in
+    ap (λ (t : AxisTable). record { ok = false; done = t; last = c .no-axis .result }) (c .before .no-axes .ensures)
+    ∙ ap (λ (a : ReduceOuterAxis). record { ok = false; done = tableOf []; last = a }) (c .no-axis .ensures)
+    ∙ ap (nextFrom (held (s .args .f .done)) (s .args .f .last) (s .args .b)) (sym (c .before .before .enum-told2 .given .1) ∙ c .before .before .before .before .join .ensures)
+
+pub fuse-next-spec : {M : Type 1} → statement M
+fuse-next-spec =
+    tie.close
+    (tie.spec
+    join-requires
+    enum-known-j
+    enum-told
+    push-requires
+    enum-told-2
+    no-axes-requires
+    no-axis-requires
+    returns
+    returns-2
+    returns-3)

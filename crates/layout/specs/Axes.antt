@@ -1,0 +1,45 @@
+-- Axes (document 01, "Layout", rule 3) and the table that holds them.
+use Prim.Native.Nat.{ℕ, _-_, _≤_}
+use mathlib.Core.Path.{_≡_}
+use mathlib.Core.Bool.{Bool, true, false, _&&_}
+use mathlib.Core.List.{List, [], _∷_, _++_}
+use lib.ListN.{length, take, replicate}
+use lib.IntN.{ℤ, pos, negℤ, _*ℤ_}
+use Rattle.integers.specs.Checked.{fitsI64}
+use Rattle.integers.specs.declared.CheckedI64.{CheckedI64}
+use Rattle.layout.specs.declared.axis.ReduceOuterAxis.{ReduceOuterAxis}
+use Rattle.layout.specs.declared.axis.AxisTable.{AxisTable}
+
+-- how many axes a layout may have, and a table holds
+abbrev pub PLACES : ℕ
+PLACES = 8
+
+-- (size - 1) × stride: from an axis's first element to its last
+unfoldable pub span : ℕ → ℤ → ℤ
+span n s = s *ℤ pos (n - 1)
+
+-- an axis of the paper's size and stride, with its reset: -(size - 1) × stride
+unfoldable pub axisOf : ℕ → ℤ → ReduceOuterAxis
+axisOf n s = record { extent = n; «source_step» = s; «source_reset» = negℤ (span n s) }
+
+-- rule 3: size - 1, the product and the product with its sign turned must fit i64
+unfoldable pub resetFits : ℕ → ℤ → Bool
+resetFits n s = fitsI64 (pos (n - 1)) && fitsI64 (span n s) && fitsI64 (negℤ (span n s))
+
+-- a table place without an axis holds zeros
+abbrev pub noAxis : ReduceOuterAxis
+noAxis = record { extent = 0; «source_step» = pos 0; «source_reset» = pos 0 }
+
+unfoldable pub placesOf : List ReduceOuterAxis → List ReduceOuterAxis
+placesOf xs = xs ++ replicate (PLACES - length xs) noAxis
+
+-- the table that holds xs and nothing else
+unfoldable pub tableOf : List ReduceOuterAxis → AxisTable
+tableOf xs = record { count = length xs; places = placesOf xs }
+
+unfoldable pub held : AxisTable → List ReduceOuterAxis
+held t = take (t .count) (t .places)
+
+-- a table whose places past its axes hold zeros
+abbrev pub Table : AxisTable → Type 0
+Table t = (t ≡ tableOf (held t)) × (t .count ≤ PLACES)

@@ -1,0 +1,90 @@
+-- Compiling a layout: rules 1 and 5 of document 01, refusals 1 to 4, and the answer.
+use Prim.Native.Nat.{ℕ, zero, suc, _*_, _^_}
+use mathlib.Core.Bool.{Bool, true, false, cond, not, _||_}
+use mathlib.Core.List.{List, [], _∷_, _++_}
+use mathlib.Core.Option.{Option, none, some}
+use lib.ListN.{length}
+use lib.Dec.{ltb, eqb}
+use lib.IntN.{ℤ, pos}
+use Rattle.integers.specs.declared.CheckedU64.{CheckedU64}
+use Rattle.layout.specs.declared.axis.ReduceOuterAxis.{ReduceOuterAxis}
+use Rattle.layout.specs.declared.traversal.FullTraversal.{FullTraversal}
+use Rattle.layout.specs.declared.traversal.Compiled.{Compiled}
+use Rattle.layout.specs.Axes.{PLACES, placesOf}
+use Rattle.layout.specs.Order.{kept, orderFrom, axesOf, resetsFit}
+use Rattle.layout.specs.Fuse.{fuse}
+
+-- rule 1: the product of the sizes, left to right, checked at each step
+unfoldable pub totalFrom : ℕ → List ℕ → Option ℕ
+totalFrom t [] = some t
+totalFrom t (n ∷ ns) = cond (ltb (t * n) (2 ^ 64)) (totalFrom (t * n) ns) none
+
+unfoldable pub totalOf : List ℕ → Option ℕ
+totalOf sizes = totalFrom 1 sizes
+
+-- the total as the code answers it
+unfoldable pub checkedOr : Option ℕ → CheckedU64
+checkedOr (some t) = record { ok = true; value = t }
+checkedOr none = record { ok = false; value = 0 }
+
+-- rules 2 to 4: the fused axes, where every check holds
+unfoldable pub fusedOf : List ℕ → List ℤ → Option (List ReduceOuterAxis)
+fusedOf sizes strides = cond (resetsFit (kept sizes strides)) (fuse (axesOf sizes strides)) none
+
+-- rule 5: the first axis is the run, the others are outer
+unfoldable pub layoutOf : ℕ → List ReduceOuterAxis → FullTraversal
+layoutOf t [] = record { total = t; «run_len» = 1; «run_stride» = pos 1; «axis_count» = 0; «run_axes» = placesOf [] }
+layoutOf t (a ∷ xs) = record { total = t; «run_len» = a .extent; «run_stride» = a .«source_step»; «axis_count» = length xs; «run_axes» = placesOf xs }
+
+-- the layout of total 0
+unfoldable pub emptyLayout : FullTraversal
+emptyLayout = record { total = 0; «run_len» = 0; «run_stride» = pos 1; «axis_count» = 0; «run_axes» = placesOf [] }
+
+-- rules 1 to 5: the layout, unless a check of rules 1, 3 or 4 overflows
+unfoldable pub traversalAt : List ℕ → List ℤ → Option ℕ → Option FullTraversal
+traversalAt sizes strides none = none
+traversalAt sizes strides (some t) =
+    cond (eqb t 0) (some emptyLayout) (elim (fusedOf sizes strides) [ none ↦ none | some xs ↦ some (layoutOf t xs) ])
+
+unfoldable pub traversalOf : List ℕ → List ℤ → Option FullTraversal
+traversalOf sizes strides = traversalAt sizes strides (totalOf sizes)
+
+-- a refusal: its number, and whether its condition holds
+abbrev pub Refusal : Type 0
+Refusal = ℕ × Bool
+
+-- the first that applies, or 0
+unfoldable pub firstOf : List Refusal → ℕ
+firstOf [] = 0
+firstOf (r ∷ rs) = cond (r .1) (r .0) (firstOf rs)
+
+unfoldable pub overflows : Option FullTraversal → Bool
+overflows none = true
+overflows (some l) = false
+
+unfoldable pub aboveMost : Option FullTraversal → Bool
+aboveMost none = false
+aboveMost (some l) = ltb (2 ^ 40) (l .total)
+
+-- refusals 1 to 4, in rank
+unfoldable pub compileRefusals : List ℕ → List ℤ → List Refusal
+compileRefusals sizes strides =
+    (1, not (eqb (length sizes) (length strides)))
+    ∷ (2, ltb PLACES (length sizes))
+    ∷ (3, overflows (traversalOf sizes strides))
+    ∷ (4, aboveMost (traversalOf sizes strides))
+    ∷ []
+
+-- the layout beside a code
+unfoldable pub accepted : ℕ → Option FullTraversal → FullTraversal
+accepted zero (some l) = l
+accepted zero none = emptyLayout
+accepted (suc n) l = emptyLayout
+
+-- the whole answer: the code, and beside a refusal the layout of total 0
+unfoldable pub compileOf : List ℕ → List ℤ → Compiled
+compileOf sizes strides =
+    record {
+      code = firstOf (compileRefusals sizes strides);
+      traversal = accepted (firstOf (compileRefusals sizes strides)) (traversalOf sizes strides);
+    }

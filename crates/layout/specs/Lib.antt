@@ -1,0 +1,4 @@
+pub mod Axes
+pub mod Order
+pub mod Fuse
+pub mod Compile

@@ -1,0 +1,147 @@
+// FullTraversal: rules 1 and 5, and the whole compile.
+ghost use mathlib.Core.Path.{_≡_};
+ghost use lib.ListN.{drop};
+ghost use Rattle.layout.specs.Axes.{Table, tableOf, held};
+ghost use Rattle.layout.specs.Compile.{totalOf, checkedOr, emptyLayout, layoutOf, compileOf};
+use crate::axis::AxisTable;
+use crate::axis::PLACES;
+use crate::axis::ReduceOuterAxis;
+use integers::CheckedU64;
+
+// The largest total that is accepted.
+pub const MOST: u64 = 0x100_0000_0000;
+
+pub struct FullTraversal {
+    pub total: u64,
+    pub run_len: u64,
+    pub run_stride: i64,
+    pub axis_count: usize,
+    pub run_axes: [ReduceOuterAxis; PLACES],
+}
+
+// A compiled layout beside its code: 0, or the refusal.
+pub struct Compiled {
+    pub code: u32,
+    pub traversal: FullTraversal,
+}
+
+// Rule 1.
+pub fn checked_total(sizes: &[u64]) -> CheckedU64
+    ensures { λ r. ⌜ r ≡ checkedOr (totalOf (now (sizes .entry))) ⌝ }
+{
+    let mut total: u64 = 1;
+    let mut i: usize = 0;
+    while i < sizes.len() {
+        let t = integers::checked_mul_u64(total, sizes[i]);
+        if !t.ok {
+            return t;
+        }
+        total = t.value;
+        i += 1;
+    }
+    CheckedU64 {
+        ok: true,
+        value: total,
+    }
+}
+
+// The layout of total 0.
+pub fn empty() -> FullTraversal
+    ensures { λ r. ⌜ r ≡ emptyLayout ⌝ }
+{
+    let z = crate::axis::no_axis();
+    FullTraversal {
+        total: 0,
+        run_len: 0,
+        run_stride: 1,
+        axis_count: 0,
+        run_axes: [z; PLACES],
+    }
+}
+
+// The axes after the first.
+fn after_first(table: AxisTable) -> AxisTable
+    requires { ⌜ Table table ⌝ }
+    ensures { λ r. ⌜ r ≡ tableOf (drop 1 (held table)) ⌝ }
+{
+    let mut out = crate::axis::no_axes();
+    let count = table.count;
+    let mut i: usize = 1;
+    while i < count {
+        let a = table.places[i];
+        out = crate::axis::push(out, a);
+        i += 1;
+    }
+    out
+}
+
+// Rule 5: the first axis is the run, the others are outer.
+fn with_run(total: u64, fused: AxisTable) -> FullTraversal
+    requires { ⌜ Table fused ⌝ }
+    ensures { λ r. ⌜ r ≡ layoutOf total (held fused) ⌝ }
+{
+    let outer = after_first(fused);
+    let places = outer.places;
+    if fused.count == 0 {
+        return FullTraversal {
+            total,
+            run_len: 1,
+            run_stride: 1,
+            axis_count: 0,
+            run_axes: places,
+        };
+    }
+    let run = fused.places[0];
+    FullTraversal {
+        total,
+        run_len: run.extent,
+        run_stride: run.source_step,
+        axis_count: outer.count,
+        run_axes: places,
+    }
+}
+
+fn refused(code: u32) -> Compiled
+    ensures { λ r. ⌜ r ≡ record { code = code; traversal = emptyLayout } ⌝ }
+{
+    Compiled {
+        code,
+        traversal: empty(),
+    }
+}
+
+impl FullTraversal {
+    pub fn compile(sizes: &[u64], strides: &[i64]) -> Compiled
+        ensures { λ r. ⌜ r ≡ compileOf (now (sizes .entry)) (now (strides .entry)) ⌝ }
+    {
+        if sizes.len() != strides.len() {
+            return refused(1);
+        }
+        if PLACES < sizes.len() {
+            return refused(2);
+        }
+        let total = checked_total(sizes);
+        if !total.ok {
+            return refused(3);
+        }
+        let t = total.value;
+        if t == 0 {
+            return refused(0);
+        }
+        let ordered = crate::order::ordered_axes(sizes, strides);
+        if !ordered.ok {
+            return refused(3);
+        }
+        let fused = crate::fuse::compress_reduce_outer_axes(ordered.table);
+        if !fused.ok {
+            return refused(3);
+        }
+        if MOST < t {
+            return refused(4);
+        }
+        Compiled {
+            code: 0,
+            traversal: with_run(t, fused.table),
+        }
+    }
+}
