@@ -7,9 +7,7 @@ use mathlib.Core.List.{List, [], _∷_, _++_}
 use mathlib.Core.Option.{Option, none, some}
 use native.Mathlib.Omega.{arith}
 use lib.Dec.{T}
-use native.Mathlib.Numerals.{add-one}
 use lib.ListN.{length, take, drop, getD, length-append, length-take, drop-of-length-le}
-use lib.Seq.{drop-cons, getD-take}
 use lib.IntN.{ℤ, pos, negℤ, _*ℤ_}
 use Rattle.integers.specs.Checked.{fitsI64, eqZ}
 use Rattle.layout.specs.declared.axis.ReduceOuterAxis.{ReduceOuterAxis}
@@ -19,13 +17,13 @@ use Rattle.layout.specs.declared.fuse.Joined.the-variants.{One, Two, Ove
 use Rattle.layout.specs.declared.fuse.Fusing.{Fusing}
 use Rattle.layout.specs.Axes.{PLACES, Table, noAxis, tableOf, held, span, resetFits, axisOf}
 use Rattle.layout.specs.Fuse.{reach, joinOf, fuseFrom, fuse, nextFrom, nextOf}
-use Rattle.layout.proofs.Tables.{held-of, table-of, table-count, table-room, length-held}
+use Rattle.layout.proofs.Tables.{held-of, table-of, table-count, table-room, take-from}
 use Rattle.layout.proofs.Resets.{reset-large}
 
-some-inj : {A : Type 0} {x y : A} → some x ≡ some y → x ≡ y
+pub some-inj : {A : Type 0} {x y : A} → some x ≡ some y → x ≡ y
 some-inj e = cc
 
-none-some : {A : Type 0} {x : A} → _≡_ {A = Option A} none (some x) → ⊥
+pub none-some : {A : Type 0} {x : A} → _≡_ {A = Option A} none (some x) → ⊥
 none-some e = let z : _≡_ {A = ℕ} 0 1 = cc in omega arith
 
 module _ (a b : ReduceOuterAxis) where
@@ -53,15 +51,15 @@ pub count-of : (xs : List ReduceOuterAxis) → length xs ≤ PLACES → (tableOf
 count-of xs h = table-count (tableOf xs) (table-of xs h) ∙ ap length (held-of xs)
 
 module _ (done : List ReduceOuterAxis) (a b : ReduceOuterAxis) (bs : List ReduceOuterAxis) where
-  fused-one : (c : ReduceOuterAxis) → joinOf a b ≡ One c → fuseFrom done a (b ∷ bs) ≡ fuseFrom done c bs
+  pub fused-one : (c : ReduceOuterAxis) → joinOf a b ≡ One c → fuseFrom done a (b ∷ bs) ≡ fuseFrom done c bs
   unfolding fuseFrom
   fused-one c e = rw (e, fuseFrom)
 
-  fused-two : joinOf a b ≡ Two → fuseFrom done a (b ∷ bs) ≡ fuseFrom (done ++ a ∷ []) b bs
+  pub fused-two : joinOf a b ≡ Two → fuseFrom done a (b ∷ bs) ≡ fuseFrom (done ++ a ∷ []) b bs
   unfolding fuseFrom
   fused-two e = rw (e, fuseFrom)
 
-  fused-over : joinOf a b ≡ Overflow → fuseFrom done a (b ∷ bs) ≡ none
+  pub fused-over : joinOf a b ≡ Overflow → fuseFrom done a (b ∷ bs) ≡ none
   unfolding fuseFrom
   fused-over e = rw (e, fuseFrom)
 
@@ -113,13 +111,7 @@ pub record Fused (t : AxisTable) (f : Fusing) (i : ℕ) : Type 0 where
 -- the axis at i, and those after it
 pub from-i : (t : AxisTable) (i : ℕ) → Table t → i < t .count → drop i (held t) ≡ getD (t .places) i noAxis ∷ drop (i + 1) (held t)
 unfolding held
-from-i t i w h =
-    drop-cons (take (t .count) (t .places)) i noAxis inside
-    ∙ ap (λ (x : ReduceOuterAxis). x ∷ drop (suc i) (take (t .count) (t .places))) (getD-take (t .count) (t .places) i noAxis h)
-    ∙ ap (λ (n : ℕ). getD (t .places) i noAxis ∷ drop n (take (t .count) (t .places))) (sym (add-one i))
-  where
-    inside : i < length (take (t .count) (t .places))
-    inside = rw (length-held t (table-room t w)) h
+from-i t i w h = take-from (t .places) (t .count) i h (table-room t w)
 
 pub fused-first : (t : AxisTable) (f : Fusing) → Table t → (t .count ≡ 0 → ⊥) → f .ok ≡ true → f .done ≡ tableOf [] → f .last ≡ getD (t .places) 0 noAxis → Fused t f 1
 unfolding fuse

@@ -130,3 +130,13 @@ module _ (l : List ReduceOuterAxis) (n : ℕ) (h : n < length l) where
 pub table-same : (r t : AxisTable) → r .count ≡ t .count → r .places ≡ t .places → r ≡ t
 table-same r t e f =
     ap (λ (n : ℕ). record { count = n; places = r .places }) e ∙ ap (λ (l : List ReduceOuterAxis). record { count = t .count; places = l }) f
+
+-- the axis at i of the first n places, and those after it
+pub take-from : (l : List ReduceOuterAxis) (n i : ℕ) → i < n → n ≤ length l → drop i (take n l) ≡ getD l i noAxis ∷ drop (i + 1) (take n l)
+take-from l n i h k =
+    drop-cons (take n l) i noAxis inside
+    ∙ ap (λ (x : ReduceOuterAxis). x ∷ drop (suc i) (take n l)) (getD-take n l i noAxis h)
+    ∙ ap (λ (m : ℕ). getD l i noAxis ∷ drop m (take n l)) (sym (add-one i))
+  where
+    inside : i < length (take n l)
+    inside = simp length-take (omega arith)

@@ -101,7 +101,8 @@ fn with_run(total: u64, fused: AxisTable) -> FullTraversal
     }
 }
 
-fn refused(code: u32) -> Compiled
+// A refusal, beside the layout of total 0.
+pub fn refused(code: u32) -> Compiled
     ensures { λ r. ⌜ r ≡ record { code = code; traversal = emptyLayout } ⌝ }
 {
     Compiled {

@@ -1,0 +1,6 @@
+pub mod Ends
+pub mod Stepping
+pub mod Inside
+pub mod Fused
+pub mod Ranges
+pub mod Writing

@@ -1,0 +1,206 @@
+-- The refusals of a range, in rank.
+-- Assumes nothing.
+use Prim.Native.Nat.{ℕ, zero, suc, _-_, _≤_, _<_}
+use mathlib.Core.Path.{_≡_, refl, sym, _∙_, ap, subst}
+use mathlib.Core.Bool.{Bool, true, false, cond, not, _&&_}
+use mathlib.Core.List.{List, [], _∷_, _++_, append-assoc}
+use mathlib.Core.Option.{Option, none, some}
+use native.Mathlib.Omega.{arith}
+use lib.Dec.{T, ltb, leb, eqb}
+use lib.ListN.{length, drop}
+use native.Mathlib.Decide.{decLt}
+use lib.IntN.{ℤ}
+use borrow.Author.Tests.{lt-ltb, le-ltb, le-leb, lt-leb, eqb-true, eq-eqb, ne-eqb, ltb-false, leb-false, not-false}
+use Rattle.layout.specs.declared.axis.ReduceOuterAxis.{ReduceOuterAxis}
+use Rattle.layout.specs.declared.traversal.FullTraversal.{FullTraversal}
+use Rattle.layout.specs.declared.traversal.Compiled.{Compiled}
+use Rattle.layout.specs.Axes.{PLACES}
+use Rattle.layout.specs.Order.{axesOf}
+use Rattle.layout.specs.Compile.{Refusal, firstOf, compileRefusals, compileOf, accepted, emptyLayout, traversalOf, overflows, aboveMost}
+use Rattle.offsets.specs.Elements.{offset, within, every, allWithin}
+use Rattle.offsets.specs.Traversals.{runOf, outerOf, Traversal}
+use Rattle.offsets.specs.Lists.{totalIn, rangeRefusals, rangeCode, rangeOf, listCode, offsetsFrom, listBuffer}
+use Rattle.offsets.specs.Cursors.{Bounded}
+use Rattle.offsets.proofs.Ends.{ends-exact, ends-bounded}
+use Rattle.offsets.proofs.Fused.{Accepted, Same, is-accepted, refused-none, not-over}
+
+every-same : (n : ℕ) (p q : ℕ → Bool) → ((k : ℕ) → p k ≡ q k) → every n p ≡ every n q
+unfolding every
+every-same zero p q f = refl
+every-same (suc n) p q f = rw (every-same n p q f, f n)
+
+pub within-same : (xs ys : List ReduceOuterAxis) (n : ℕ) (base : ℤ) (len : ℕ) → Same xs ys → allWithin ys n base len ≡ allWithin xs n base len
+unfolding allWithin
+within-same xs ys n base len s = every-same n (λ k. within len (offset ys base k)) (λ k. within len (offset xs base k)) (λ k. ap (within len) (s .offsets base k))
+
+-- a refusal that applies hides those after it
+first-hides : (rs qs : List Refusal) → (firstOf rs ≡ 0 → ⊥) → firstOf (rs ++ qs) ≡ firstOf rs
+unfolding firstOf
+first-hides [] qs n = absurd (n refl)
+first-hides (r ∷ rs) qs n = go (r .1) refl (first-hides rs qs)
+  where
+    go : (b : Bool) → r .1 ≡ b → ((firstOf rs ≡ 0 → ⊥) → firstOf (rs ++ qs) ≡ firstOf rs) → cond (r .1) (r .0) (firstOf (rs ++ qs)) ≡ cond (r .1) (r .0) (firstOf rs)
+    go true e f = rw e
+    go false e f = rw e (f (λ z. n (rw e z)))
+
+module _ (ns : List ℕ) (ss : List ℤ) where
+  -- what a compile that refuses nothing says
+  pub record Clear : Type 0 where
+    pub same : length ns ≡ length ss
+    pub few : length ns ≤ PLACES
+    pub layout : FullTraversal
+    pub compiled : traversalOf ns ss ≡ some layout
+    pub is : (compileOf ns ss) .traversal ≡ layout
+    pub after : (rs : List Refusal) → firstOf (compileRefusals ns ss ++ rs) ≡ firstOf rs
+
+  pub clear : (compileOf ns ss) .code ≡ 0 → Clear
+  unfolding compileOf compileRefusals accepted firstOf
+  clear e =
+      let r4 : List Refusal = (4, aboveMost (traversalOf ns ss)) ∷ [] in
+      let r3 : List Refusal = (3, overflows (traversalOf ns ss)) ∷ r4 in
+      let r2 : List Refusal = (2, ltb PLACES (length ns)) ∷ r3 in
+      let a = refused-none 0 (not (eqb (length ns) (length ss))) r2 e in
+      let b = refused-none 1 (ltb PLACES (length ns)) r3 (a .1) in
+      let c = refused-none 2 (overflows (traversalOf ns ss)) r4 (b .1) in
+      let d = refused-none 3 (aboveMost (traversalOf ns ss)) [] (c .1) in
+      let l = not-over (traversalOf ns ss) (c .0) in
+      record {
+        same = eqb-true (length ns) (length ss) (not-false (eqb (length ns) (length ss)) (a .0));
+        few = ltb-false PLACES (length ns) (b .0);
+        layout = l .0;
+        compiled = l .1;
+        is = ap (λ (n : ℕ). accepted n (traversalOf ns ss)) e ∙ ap (accepted 0) (l .1);
+        after = λ rs. rw (a .0, b .0, c .0, d .0);
+      }
+
+  pub clear-accepted : (c : Clear) → 0 < (compileOf ns ss) .traversal .total → Accepted ns ss ((compileOf ns ss) .traversal)
+  clear-accepted c h = subst (Accepted ns ss) (sym (c .is)) (is-accepted ns ss (c .same) (c .few) (c .layout) (c .compiled) (subst (λ (l : FullTraversal). 0 < l .total) (c .is) h))
+
+module _ (ns : List ℕ) (ss : List ℤ) (base : ℤ) (start end len : ℕ) where
+  range-at : (c : ℕ) → rangeCode ns ss base start end len ≡ c → rangeOf ns ss base start end len ≡ record { code = c; traversal = accepted c (some ((compileOf ns ss) .traversal)) }
+  unfolding rangeOf
+  range-at c e = ap (λ (n : ℕ). record { code = n; traversal = accepted n (some ((compileOf ns ss) .traversal)) }) e
+
+  -- refusals 1 to 4 are the compile's
+  pub range-compile : ((compileOf ns ss) .code ≡ 0 → ⊥) → compileOf ns ss ≡ rangeOf ns ss base start end len
+  unfolding rangeCode compileOf accepted
+  range-compile n =
+      let q = first-hides (compileRefusals ns ss) (rangeRefusals ns ss base start end len) n in
+      go (firstOf (compileRefusals ns ss)) refl q
+    where
+      hidden : (k : ℕ) (o : Option FullTraversal) → _≡_ {A = Compiled} (record { code = suc k; traversal = accepted (suc k) o }) (record { code = suc k; traversal = accepted (suc k) (some ((compileOf ns ss) .traversal)) })
+      hidden k o = refl
+
+      go : (k : ℕ) → firstOf (compileRefusals ns ss) ≡ k → firstOf (compileRefusals ns ss ++ rangeRefusals ns ss base start end len) ≡ firstOf (compileRefusals ns ss)
+          → _≡_ {A = Compiled} (record { code = firstOf (compileRefusals ns ss); traversal = accepted (firstOf (compileRefusals ns ss)) (traversalOf ns ss) }) (rangeOf ns ss base start end len)
+      go zero e q = absurd (n e)
+      go (suc k) e q = ap (λ (m : ℕ). record { code = m; traversal = accepted m (traversalOf ns ss) }) e ∙ hidden k (traversalOf ns ss) ∙ sym (range-at (suc k) (q ∙ e))
+
+  module _ (c : Clear ns ss) where
+    pub range-5 : end ≤ start → rangeOf ns ss base start end len ≡ record { code = 5; traversal = emptyLayout }
+    unfolding rangeCode rangeRefusals firstOf accepted
+    range-5 h = range-at 5 (c .after (rangeRefusals ns ss base start end len) ∙ rw (le-leb end start h))
+
+    pub range-6 : start < end → (compileOf ns ss) .traversal .total < end → rangeOf ns ss base start end len ≡ record { code = 6; traversal = emptyLayout }
+    unfolding rangeCode rangeRefusals firstOf accepted totalIn
+    range-6 h k = range-at 6 (c .after (rangeRefusals ns ss base start end len) ∙ rw (lt-leb end start h, lt-ltb ((compileOf ns ss) .traversal .total) end k))
+
+    module _ (h : start < end) (k : end ≤ (compileOf ns ss) .traversal .total) where
+      -- the test over the compiled layout is the test over rule 2's axes
+      tested : (b : Bool) → allWithin (runOf ((compileOf ns ss) .traversal) ∷ outerOf ((compileOf ns ss) .traversal)) ((compileOf ns ss) .traversal .total) base len ≡ b → allWithin (axesOf ns ss) ((compileOf ns ss) .traversal .total) base len ≡ b
+      tested b e = sym (within-same (axesOf ns ss) _ _ base len (clear-accepted ns ss c (omega arith) .same)) ∙ e
+
+      pub range-7 : allWithin (runOf ((compileOf ns ss) .traversal) ∷ outerOf ((compileOf ns ss) .traversal)) ((compileOf ns ss) .traversal .total) base len ≡ false
+          → rangeOf ns ss base start end len ≡ record { code = 7; traversal = emptyLayout }
+      unfolding rangeCode rangeRefusals firstOf accepted totalIn
+      range-7 e = range-at 7 (c .after (rangeRefusals ns ss base start end len) ∙ rw (lt-leb end start h, le-ltb ((compileOf ns ss) .traversal .total) end k, tested false e))
+
+      pub range-0 : allWithin (runOf ((compileOf ns ss) .traversal) ∷ outerOf ((compileOf ns ss) .traversal)) ((compileOf ns ss) .traversal .total) base len ≡ true
+          → rangeOf ns ss base start end len ≡ record { code = 0; traversal = (compileOf ns ss) .traversal }
+      unfolding rangeCode rangeRefusals firstOf accepted totalIn
+      range-0 e = range-at 0 (c .after (rangeRefusals ns ss base start end len) ∙ rw (lt-leb end start h, le-ltb ((compileOf ns ss) .traversal .total) end k, tested true e))
+
+-- ---- an accepted range
+pub record Ranged (ns : List ℕ) (ss : List ℤ) (base : ℤ) (start end len : ℕ) : Type 0 where
+  pub clears : Clear ns ss
+  pub forward : start < end
+  pub inside : end ≤ (compileOf ns ss) .traversal .total
+  pub within : allWithin (axesOf ns ss) ((compileOf ns ss) .traversal .total) base len ≡ true
+  pub after : (rs : List Refusal) → firstOf (compileRefusals ns ss ++ rangeRefusals ns ss base start end len ++ rs) ≡ firstOf rs
+
+module _ (ns : List ℕ) (ss : List ℤ) (base : ℤ) (start end len : ℕ) where
+  code-is : firstOf (compileRefusals ns ss) ≡ 0 → (compileOf ns ss) .code ≡ 0
+  unfolding compileOf
+  code-is q = q
+
+  cleared : rangeCode ns ss base start end len ≡ 0 → Clear ns ss
+  unfolding rangeCode
+  cleared e = go (decLt 0 (firstOf (compileRefusals ns ss)))
+    where
+      go : Dec (0 < firstOf (compileRefusals ns ss)) → Clear ns ss
+      go (yes h) = absurd (clash (first-hides (compileRefusals ns ss) (rangeRefusals ns ss base start end len) nz))
+        where
+          nz : firstOf (compileRefusals ns ss) ≡ 0 → ⊥
+          nz k = omega arith
+
+          clash : firstOf (compileRefusals ns ss ++ rangeRefusals ns ss base start end len) ≡ firstOf (compileRefusals ns ss) → ⊥
+          clash q = omega (arith, sym q ∙ e)
+      go (no h) = clear ns ss (code-is (omega arith))
+
+  pub ranged : rangeCode ns ss base start end len ≡ 0 → Ranged ns ss base start end len
+  unfolding rangeCode rangeRefusals totalIn firstOf
+  ranged e =
+      let c = cleared e in
+      let t = (compileOf ns ss) .traversal .total in
+      let r7 : List Refusal = (7, not (allWithin (axesOf ns ss) t base len)) ∷ [] in
+      let r6 : List Refusal = (6, ltb t end) ∷ r7 in
+      let f : firstOf ((5, leb end start) ∷ r6) ≡ 0 = sym (c .after (rangeRefusals ns ss base start end len)) ∙ e in
+      let a = refused-none 4 (leb end start) r6 f in
+      let b = refused-none 5 (ltb t end) r7 (a .1) in
+      let d = refused-none 6 (not (allWithin (axesOf ns ss) t base len)) [] (b .1) in
+      record {
+        clears = c;
+        forward = leb-false end start (a .0);
+        inside = ltb-false t end (b .0);
+        within = not-false (allWithin (axesOf ns ss) t base len) (d .0);
+        after = λ rs. ap firstOf (append-assoc (compileRefusals ns ss) (rangeRefusals ns ss base start end len) rs) ∙ c .after (rangeRefusals ns ss base start end len ++ rs) ∙ rw (a .0, b .0, d .0);
+      }
+
+  module _ (r : Ranged ns ss base start end len) where
+    pub ranged-accepted : Accepted ns ss ((compileOf ns ss) .traversal)
+    ranged-accepted = clear-accepted ns ss (r .clears) (omega (arith, r .forward, r .inside))
+
+    pub ranged-bounded : Bounded (runOf ((compileOf ns ss) .traversal) ∷ outerOf ((compileOf ns ss) .traversal)) base
+    ranged-bounded =
+        let a = ranged-accepted in
+        let xs = runOf ((compileOf ns ss) .traversal) ∷ outerOf ((compileOf ns ss) .traversal) in
+        ends-bounded xs (a .traversal .axes) base len
+        (sym (ends-exact xs (a .traversal .axes) base len)
+        ∙ ap (λ (n : ℕ). allWithin xs n base len) (a .traversal .total)
+        ∙ within-same (axesOf ns ss) xs _ base len (a .same) ∙ r .within)
+
+    pub list-0 : (room : ℕ) → end - start ≤ room → listCode ns ss base start end len room ≡ 0
+    unfolding listCode firstOf
+    list-0 room h = r .after ((8, ltb room (end - start)) ∷ []) ∙ rw (le-ltb room (end - start) h)
+
+    pub list-8 : (room : ℕ) → room < end - start → listCode ns ss base start end len room ≡ 8
+    unfolding listCode firstOf
+    list-8 room h = r .after ((8, ltb room (end - start)) ∷ []) ∙ rw (lt-ltb room (end - start) h)
+
+  pub list-refused : (room : ℕ) → (rangeCode ns ss base start end len ≡ 0 → ⊥) → listCode ns ss base start end len room ≡ rangeCode ns ss base start end len
+  unfolding listCode rangeCode
+  list-refused room n = first-hides (compileRefusals ns ss ++ rangeRefusals ns ss base start end len) ((8, ltb room (end - start)) ∷ []) n
+
+  -- the buffer after the call
+  pub buffer-kept : (out : List ℤ) → (listCode ns ss base start end len (length out) ≡ 0 → ⊥) → out ≡ listBuffer ns ss base start end len out
+  unfolding listBuffer
+  buffer-kept out n = sym (ap (λ (b : Bool). cond b (offsetsFrom (axesOf ns ss) base start (end - start) ++ drop (end - start) out) out) (ne-eqb (listCode ns ss base start end len (length out)) 0 n))
+
+  pub buffer-filled : (out : List ℤ) → listCode ns ss base start end len (length out) ≡ 0 → offsetsFrom (axesOf ns ss) base start (end - start) ++ drop (end - start) out ≡ listBuffer ns ss base start end len out
+  unfolding listBuffer
+  buffer-filled out e = sym (ap (λ (b : Bool). cond b (offsetsFrom (axesOf ns ss) base start (end - start) ++ drop (end - start) out) out) (eq-eqb (listCode ns ss base start end len (length out)) 0 e))
+
+pub offsets-same : (xs ys : List ReduceOuterAxis) (base : ℤ) → Same xs ys → (n k : ℕ) → offsetsFrom ys base k n ≡ offsetsFrom xs base k n
+unfolding offsetsFrom
+offsets-same xs ys base s zero k = refl
+offsets-same xs ys base s (suc n) k = rw (s .offsets base k, offsets-same xs ys base s n (suc k))

@@ -1,0 +1,5 @@
+pub mod Elements
+pub mod Cursors
+pub mod Traversals
+pub mod Bounds
+pub mod Lists

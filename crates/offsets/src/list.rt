@@ -1,0 +1,111 @@
+// The offset list, and the refusals of a range.
+ghost use mathlib.Core.Path.{_≡_};
+ghost use mathlib.Core.List.{_∷_, _++_};
+ghost use Prim.Native.Nat.{ℕ, _+_, _-_, _≤_, _<_};
+ghost use Prim.Native.Nat.{min};
+ghost use lib.ListN.{length, take, drop};
+ghost use lib.IntN.{pos, _+ℤ_, _*ℤ_};
+ghost use mir.Val.{SFits};
+ghost use mir.Syntax.{w64};
+ghost use Rattle.offsets.specs.Cursors.{Bounded};
+ghost use Rattle.offsets.specs.Traversals.{runOf, outerOf, Traversal};
+ghost use Rattle.offsets.specs.Lists.{rangeOf, steps, offsetsFrom, listCode, listBuffer};
+use crate::cursor::ReduceOuterCursor;
+use layout::traversal::Compiled;
+use layout::traversal::FullTraversal;
+
+// Refusals 1 to 7 of a range, or its compiled layout: what every call over a range begins with.
+pub fn checked_range(
+    sizes: &[u64],
+    strides: &[i64],
+    base: i64,
+    start: u64,
+    end: u64,
+    length: u64,
+) -> Compiled
+    ensures { λ r. ⌜ r ≡ rangeOf (now (sizes .entry)) (now (strides .entry)) base start end length ⌝ }
+{
+    let c = FullTraversal::compile(sizes, strides);
+    if c.code != 0 {
+        return c;
+    }
+    if end <= start {
+        return layout::traversal::refused(5);
+    }
+    let l = c.traversal;
+    if l.total < end {
+        return layout::traversal::refused(6);
+    }
+    if crate::bounds::inside(l, base, length) {
+        return c;
+    }
+    layout::traversal::refused(7)
+}
+
+// Writes count offsets from `first` on, a stride apart, into out from `at` on. The stride is not added after the last: that sum may not fit.
+fn write_run(out: &mut [i64], at: usize, count: usize, first: i64, stride: i64)
+    requires { ⌜ (1 ≤ count) × (at + count ≤ length (now out)) × ((i : ℕ) → i < count → SFits w64 (first +ℤ stride *ℤ pos i)) ⌝ }
+    ensures { λ _. ⌜ now (out .exit) ≡ take at (now (out .entry)) ++ steps first stride count ++ drop (at + count) (now (out .entry)) ⌝ }
+{
+    out[at] = first;
+    let mut offset = first;
+    let mut i: usize = 1;
+    while i < count {
+        offset = offset + stride;
+        out[at + i] = offset;
+        i += 1;
+    }
+}
+
+fn least(a: u64, b: u64) -> u64
+    ensures { λ r. ⌜ r ≡ min a b ⌝ }
+{
+    if a <= b { a } else { b }
+}
+
+fn write_offsets(l: FullTraversal, base: i64, start: u64, end: u64, out: &mut [i64])
+    requires { ⌜ Traversal l × Bounded (runOf l ∷ outerOf l) base × (start < end) × (end ≤ l .total) × (end - start ≤ length (now out)) ⌝ }
+    ensures { λ _. ⌜ now (out .exit) ≡ offsetsFrom (runOf l ∷ outerOf l) base start (end - start) ++ drop (end - start) (now (out .entry)) ⌝ }
+{
+    let n = l.run_len;
+    let stride = l.run_stride;
+    let count = l.axis_count;
+    let axes = l.run_axes;
+    let mut col = start % n;
+    let mut runs = ReduceOuterCursor::decode(start / n, base, count, axes);
+    let mut k = start;
+    while k < end {
+        let len = least(n - col, end - k);
+        let first = runs.source_offset + stride * (col as i64);
+        write_run(&mut *out, (k - start) as usize, len as usize, first, stride);
+        k = k + len;
+        if k < end {
+            col = 0;
+            runs = runs.advance(count, axes);
+        }
+    }
+}
+
+pub fn offset_list(
+    sizes: &[u64],
+    strides: &[i64],
+    base: i64,
+    start: u64,
+    end: u64,
+    length: u64,
+    out: &mut [i64],
+) -> u32
+    ensures { λ r. do ⌜ r ≡ listCode (now (sizes .entry)) (now (strides .entry)) base start end length (← ⟦out.len()⟧ .entry) ⌝ }
+    ensures { λ _. ⌜ now (out .exit) ≡ listBuffer (now (sizes .entry)) (now (strides .entry)) base start end length (now (out .entry)) ⌝ }
+{
+    let c = checked_range(sizes, strides, base, start, end, length);
+    if c.code != 0 {
+        return c.code;
+    }
+    if (out.len() as u64) < end - start {
+        return 8;
+    }
+    let l = c.traversal;
+    write_offsets(l, base, start, end, &mut *out);
+    0
+}
