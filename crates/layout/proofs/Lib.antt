@@ -1,5 +1,6 @@
 pub mod Tables
 pub mod Resets
 pub mod Ordering
+pub mod Sorting
 pub mod Fusing
 pub mod Compiling

@@ -1,4 +1,5 @@
 pub mod Axes
 pub mod Order
+pub mod Sorting
 pub mod Fuse
 pub mod Compile

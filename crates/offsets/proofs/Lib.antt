@@ -4,3 +4,4 @@ pub mod Inside
 pub mod Fused
 pub mod Ranges
 pub mod Writing
+pub mod Cases

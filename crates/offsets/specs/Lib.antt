@@ -3,3 +3,4 @@ pub mod Cursors
 pub mod Traversals
 pub mod Bounds
 pub mod Lists
+pub mod Cases

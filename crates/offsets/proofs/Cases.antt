@@ -1,0 +1,16 @@
+-- Document 01's marked layout cases hold of the definitions.
+-- Assumes nothing.
+use mathlib.Core.Path.{_≡_, refl}
+use mathlib.Core.Bool.{true}
+use Rattle.integers.specs.Checked.{fitsI64, eqZ}
+use Rattle.layout.specs.Axes.{span, axisOf, resetFits, placesOf}
+use Rattle.layout.specs.Order.{kept, rank, precedes, insertAxis, orderFrom, axesOf, resetsFit}
+use Rattle.layout.specs.Fuse.{reach, joinOf, fuseFrom, fuse}
+use Rattle.layout.specs.Compile.{totalFrom, totalOf, fusedOf, layoutOf, emptyLayout, traversalAt, traversalOf, firstOf, overflows, aboveMost, compileRefusals, accepted, compileOf}
+use Rattle.offsets.specs.Elements.{digits, shift, offset, within, every, allWithin}
+use Rattle.offsets.specs.Lists.{totalIn, rangeRefusals, listCode, offsetsFrom, listBuffer}
+use Rattle.offsets.specs.Cases.{compiles, refuses, sameZ, lists, layoutTable}
+
+pub layout-table : layoutTable ≡ true
+unfolding fitsI64 eqZ span axisOf resetFits placesOf kept rank precedes insertAxis orderFrom axesOf resetsFit reach joinOf fuseFrom fuse totalFrom totalOf fusedOf layoutOf emptyLayout traversalAt traversalOf firstOf overflows aboveMost compileRefusals accepted compileOf digits shift offset within every allWithin totalIn rangeRefusals listCode offsetsFrom listBuffer compiles refuses sameZ lists layoutTable
+layout-table = refl
