@@ -220,10 +220,10 @@ module _ (ns : List ℕ) (ss : List ℤ) where
       unfolding compileRefusals firstOf accepted overflows
       code-3 f = answer 3 none (rw (eq-eqb (length ns) (length ss) e, le-ltb 8 (length ns) h, f)) f
 
-      pub code-4 : (l : FullTraversal) → traversalOf ns ss ≡ some l → 2 ^ 40 < l .total → compileOf ns ss ≡ record { code = 4; traversal = emptyLayout }
+      pub code-4 : (l : FullTraversal) (t : ℕ) → traversalOf ns ss ≡ some l → totalOf ns ≡ some t → 2 ^ 40 < t → compileOf ns ss ≡ record { code = 4; traversal = emptyLayout }
       unfolding compileRefusals firstOf accepted overflows aboveMost
-      code-4 l f k = answer 4 (some l) (rw (eq-eqb (length ns) (length ss) e, le-ltb 8 (length ns) h, f, lt-ltb (2 ^ 40) (l .total) k)) f
+      code-4 l t f g k = answer 4 (some l) (rw (eq-eqb (length ns) (length ss) e, le-ltb 8 (length ns) h, f, g, lt-ltb (2 ^ 40) t k)) f
 
-      pub code-0 : (l : FullTraversal) → traversalOf ns ss ≡ some l → l .total ≤ 2 ^ 40 → compileOf ns ss ≡ record { code = 0; traversal = l }
+      pub code-0 : (l : FullTraversal) (t : ℕ) → traversalOf ns ss ≡ some l → totalOf ns ≡ some t → t ≤ 2 ^ 40 → compileOf ns ss ≡ record { code = 0; traversal = l }
       unfolding compileRefusals firstOf accepted overflows aboveMost
-      code-0 l f k = answer 0 (some l) (rw (eq-eqb (length ns) (length ss) e, le-ltb 8 (length ns) h, f, le-ltb (2 ^ 40) (l .total) k)) f
+      code-0 l t f g k = answer 0 (some l) (rw (eq-eqb (length ns) (length ss) e, le-ltb 8 (length ns) h, f, g, le-ltb (2 ^ 40) t k)) f

@@ -62,9 +62,9 @@ unfoldable pub overflows : Option FullTraversal → Bool
 overflows none = true
 overflows (some l) = false
 
-unfoldable pub aboveMost : Option FullTraversal → Bool
+unfoldable pub aboveMost : Option ℕ → Bool
 aboveMost none = false
-aboveMost (some l) = ltb (2 ^ 40) (l .total)
+aboveMost (some t) = ltb (2 ^ 40) t
 
 -- refusals 1 to 4, in rank
 unfoldable pub compileRefusals : List ℕ → List ℤ → List Refusal
@@ -72,7 +72,7 @@ compileRefusals sizes strides =
     (1, not (eqb (length sizes) (length strides)))
     ∷ (2, ltb PLACES (length sizes))
     ∷ (3, overflows (traversalOf sizes strides))
-    ∷ (4, aboveMost (traversalOf sizes strides))
+    ∷ (4, aboveMost (totalOf sizes))
     ∷ []
 
 -- the layout beside a code

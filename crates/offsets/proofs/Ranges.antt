@@ -16,7 +16,7 @@ use Rattle.layout.specs.declared.traversal.FullTraversal.{FullTraversal}
 use Rattle.layout.specs.declared.traversal.Compiled.{Compiled}
 use Rattle.layout.specs.Axes.{PLACES}
 use Rattle.layout.specs.Order.{axesOf}
-use Rattle.layout.specs.Compile.{Refusal, firstOf, compileRefusals, compileOf, accepted, emptyLayout, traversalOf, overflows, aboveMost}
+use Rattle.layout.specs.Compile.{Refusal, firstOf, compileRefusals, compileOf, accepted, emptyLayout, totalOf, traversalOf, overflows, aboveMost}
 use Rattle.offsets.specs.Elements.{offset, within, every, allWithin}
 use Rattle.offsets.specs.Traversals.{runOf, outerOf, Traversal}
 use Rattle.offsets.specs.Lists.{totalIn, rangeRefusals, rangeCode, rangeOf, listCode, offsetsFrom, listBuffer}
@@ -56,13 +56,13 @@ module _ (ns : List ℕ) (ss : List ℤ) where
   pub clear : (compileOf ns ss) .code ≡ 0 → Clear
   unfolding compileOf compileRefusals accepted firstOf
   clear e =
-      let r4 : List Refusal = (4, aboveMost (traversalOf ns ss)) ∷ [] in
+      let r4 : List Refusal = (4, aboveMost (totalOf ns)) ∷ [] in
       let r3 : List Refusal = (3, overflows (traversalOf ns ss)) ∷ r4 in
       let r2 : List Refusal = (2, ltb PLACES (length ns)) ∷ r3 in
       let a = refused-none 0 (not (eqb (length ns) (length ss))) r2 e in
       let b = refused-none 1 (ltb PLACES (length ns)) r3 (a .1) in
       let c = refused-none 2 (overflows (traversalOf ns ss)) r4 (b .1) in
-      let d = refused-none 3 (aboveMost (traversalOf ns ss)) [] (c .1) in
+      let d = refused-none 3 (aboveMost (totalOf ns)) [] (c .1) in
       let l = not-over (traversalOf ns ss) (c .0) in
       record {
         same = eqb-true (length ns) (length ss) (not-false (eqb (length ns) (length ss)) (a .0));

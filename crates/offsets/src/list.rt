@@ -98,14 +98,14 @@ pub fn offset_list(
     ensures { λ r. do ⌜ r ≡ listCode (now (sizes .entry)) (now (strides .entry)) base start end length (← ⟦out.len()⟧ .entry) ⌝ }
     ensures { λ _. ⌜ now (out .exit) ≡ listBuffer (now (sizes .entry)) (now (strides .entry)) base start end length (now (out .entry)) ⌝ }
 {
-    let c = checked_range(sizes, strides, base, start, end, length);
-    if c.code != 0 {
-        return c.code;
+    let range = checked_range(sizes, strides, base, start, end, length);
+    if range.code != 0 {
+        return range.code;
     }
     if (out.len() as u64) < end - start {
         return 8;
     }
-    let l = c.traversal;
+    let l = range.traversal;
     write_offsets(l, base, start, end, &mut *out);
     0
 }

@@ -12,7 +12,7 @@ use Rattle.layout.specs.declared.traversal.FullTraversal.{FullTraversal}
 use Rattle.layout.specs.declared.traversal.Compiled.{Compiled}
 use Rattle.layout.specs.Axes.{PLACES, held}
 use Rattle.layout.specs.Compile.{totalOf, layoutOf, emptyLayout, traversalOf}
-use Rattle.layout.proofs.Compiling.{total-yes, total-no, no-elements, no-resets, ordered-held, no-fusing, fused-held, is-layout, code-1, code-2, code-3, code-4, code-0, layout-total}
+use Rattle.layout.proofs.Compiling.{total-yes, total-no, no-elements, no-resets, ordered-held, no-fusing, fused-held, is-layout, code-1, code-2, code-3, code-4, code-0}
 use borrow.Author.Needs.{needs}
 use Rattle.layout.proofs.traversal.FullTraversal.compile.Statement.{statement}
 use Rattle.layout.proofs.traversal.FullTraversal.compile.Tie as tie
@@ -27,16 +27,6 @@ use Rattle.layout.proofs.traversal.with_run.Reads as with-run-reads
 -- the total, where it fits
 counted : (c : tie.Else3) → totalOf (c .before .before .before .before .before .before .args .sizes .now) ≡ some (c .before .before .checked-total .result .value)
 counted c = let s = c .before .before .before .before .before .before in total-yes (s .args .sizes .now) (s .args .strides .now) _ (c .before .before .checked-total .ensures) (not-false _ (c .if3 .left))
-
-nothing : emptyLayout .total ≤ 2 ^ 40
-unfolding emptyLayout
-nothing = omega arith
-
-large : (t : ℕ) (xs : List ReduceOuterAxis) → 1099511627776 < t → 2 ^ 40 < (layoutOf t xs) .total
-large t xs h = rw (layout-total t xs) h
-
-small : (t : ℕ) (xs : List ReduceOuterAxis) → t ≤ 1099511627776 → (layoutOf t xs) .total ≤ 2 ^ 40
-small t xs h = rw (layout-total t xs) h
 
 -- the layout, where every check holds
 compiled : (c : tie.Else6) → traversalOf (c .before .before .before .before .before .before .before .before .before .before .before .before .before .args .sizes .now) (c .before .before .before .before .before .before .before .before .before .before .before .before .before .args .strides .now)
@@ -101,8 +91,8 @@ returns-4 c =
     let e = m .before .before in
     let s = e .before .before in
     c .refused4 .ensures
-    ∙ sym (code-0 (s .args .sizes .now) (s .args .strides .now) (e .if1 .left) (m .before .if2 .left) emptyLayout
-    (no-elements (s .args .sizes .now) (s .args .strides .now) (m .checked-total .result .value) (counted t) (c .before .if4 .taken)) nothing)
+    ∙ sym (code-0 (s .args .sizes .now) (s .args .strides .now) (e .if1 .left) (m .before .if2 .left) emptyLayout (m .checked-total .result .value)
+    (no-elements (s .args .sizes .now) (s .args .strides .now) (m .checked-total .result .value) (counted t) (c .before .if4 .taken)) (counted t) (omega (arith, c .before .if4 .taken)))
 
 -- src/traversal.rt:131:13
 ordered-axes-requires : tie.Need-ordered-axes-requires
@@ -166,7 +156,7 @@ returns-7 c =
     let e = m .before .before in
     let s = e .before .before in
     c .refused7 .ensures
-    ∙ sym (code-4 (s .args .sizes .now) (s .args .strides .now) (e .if1 .left) (m .before .if2 .left) _ (compiled k) (large (m .checked-total .result .value) _ (c .before .if7 .taken)))
+    ∙ sym (code-4 (s .args .sizes .now) (s .args .strides .now) (e .if1 .left) (m .before .if2 .left) _ (m .checked-total .result .value) (compiled k) (counted t) (c .before .if7 .taken))
 
 -- src/traversal.rt:144:24
 with-run-requires : tie.Need-with-run-requires
@@ -191,7 +181,7 @@ returns-8 c =
     let e = m .before .before in
     let s = e .before .before in
     ap (λ (l : FullTraversal). record { code = 0; traversal = l }) (c .with-run .ensures)
-    ∙ sym (code-0 (s .args .sizes .now) (s .args .strides .now) (e .if1 .left) (m .before .if2 .left) _ (compiled k) (small (m .checked-total .result .value) _ (c .before .if7 .left)))
+    ∙ sym (code-0 (s .args .sizes .now) (s .args .strides .now) (e .if1 .left) (m .before .if2 .left) _ (m .checked-total .result .value) (compiled k) (counted t) (c .before .if7 .left))
 
 pub compile-spec : {M : Type 1} → statement M
 compile-spec =

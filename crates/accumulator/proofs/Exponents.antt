@@ -1,0 +1,67 @@
+-- Exponents of accumulators: far from the ends of i64, so that their sums are exact; and the test of |e| against the limit. Assumes nothing.
+use mathlib.Core.Path.{_≡_, refl, sym, ap, _∙_, subst}
+use mathlib.Core.Bool.{Bool, true, false, _&&_}
+use Prim.Native.Nat.{ℕ, suc, _+_, _^_, _≤_}
+use native.Mathlib.Nat.{le-refl, le-trans, le-suc, lt-of-le-of-lt, add-le-add}
+use lib.IntN.{ℤ, pos, negsuc, natAbs, _+ℤ_}
+use lib.Dec.{leb, leb·suc-suc, lit<, lit≤}
+use lib.Signed.{mag, leZ}
+use mir.Syntax.{w64}
+use mir.Val.{SFits, toZ, ofZ}
+use mir.ValLaws.{toZ-ofZ}
+use Rattle.binary64.proofs.Factor.{add-size}
+use Rattle.accumulator.specs.Joining.{withinLimit}
+
+-- ---- sizes
+mag-le : (z : ℤ) → mag z ≤ natAbs z
+mag-le (pos n) = le-refl n
+mag-le (negsuc n) = le-suc n
+
+-- ---- far from the ends
+pub size-fits : (z : ℤ) → natAbs z ≤ 2 ^ 62 + 1 → SFits w64 z
+size-fits z h = record { sfits = lt-of-le-of-lt (le-trans (mag-le z) h) (lit< tt) }
+
+module _ (x y : ℤ) (hx : natAbs x ≤ 2 ^ 61) (hy : natAbs y ≤ 2 ^ 61) where
+  pub held : (z : ℤ) → natAbs z ≤ 2 ^ 61 → toZ w64 (ofZ w64 z) ≡ z
+  held z h = toZ-ofZ w64 z (size-fits z (le-trans h (lit≤ tt)))
+
+  sum-size : natAbs (x +ℤ y) ≤ 2 ^ 62
+  sum-size = le-trans (add-size x y) (le-trans (add-le-add hx hy) (lit≤ tt))
+
+  more-size : natAbs (x +ℤ y +ℤ pos 1) ≤ 2 ^ 62 + 1
+  more-size = le-trans (add-size (x +ℤ y) (pos 1)) (add-le-add sum-size (le-refl 1))
+
+  -- x + y, as the machine has it
+  abbrev pub sum : ℤ
+  sum = toZ w64 (ofZ w64 x) +ℤ toZ w64 (ofZ w64 y)
+
+  sum-is : sum ≡ x +ℤ y
+  sum-is = ap (λ (z : ℤ). z +ℤ toZ w64 (ofZ w64 y)) (held x hx) ∙ ap (λ (z : ℤ). x +ℤ z) (held y hy)
+
+  pub sum-fits : SFits w64 sum
+  sum-fits = subst (SFits w64) (sym sum-is) (size-fits (x +ℤ y) (le-trans sum-size (lit≤ tt)))
+
+  pub sum-held : toZ w64 (ofZ w64 sum) ≡ x +ℤ y
+  sum-held = toZ-ofZ w64 sum sum-fits ∙ sum-is
+
+  pub more-fits : SFits w64 (toZ w64 (ofZ w64 sum) +ℤ pos 1)
+  more-fits = subst (λ (z : ℤ). SFits w64 (z +ℤ pos 1)) (sym sum-held) (size-fits (x +ℤ y +ℤ pos 1) more-size)
+
+  pub more-held : toZ w64 (ofZ w64 (toZ w64 (ofZ w64 sum) +ℤ pos 1)) ≡ x +ℤ y +ℤ pos 1
+  more-held = toZ-ofZ w64 (toZ w64 (ofZ w64 sum) +ℤ pos 1) more-fits ∙ ap (λ (z : ℤ). z +ℤ pos 1) sum-held
+
+-- ---- -(k + 1) ≤ e ≤ k + 1
+pub limits : (k : ℕ) (e : ℤ) → (leZ (negsuc k) e && leZ e (pos (suc k))) ≡ leb (natAbs e) (suc k)
+limits k (pos n) = refl
+limits k (negsuc n) = both (leb n k) ∙ sym (leb·suc-suc n k)
+  where
+    both : (t : Bool) → (t && true) ≡ t
+    both true = refl
+    both false = refl
+
+-- the two ways of the code's test
+pub limit-taken : (e : ℤ) → leZ (negsuc 4503599627370495) e ≡ true → leZ e (pos 4503599627370496) ≡ withinLimit e
+limit-taken e h = ap (λ (t : Bool). t && leZ e (pos 4503599627370496)) (sym h) ∙ limits 4503599627370495 e
+
+pub limit-left : (e : ℤ) → leZ (negsuc 4503599627370495) e ≡ false → leZ (negsuc 4503599627370495) e ≡ withinLimit e
+limit-left e h = h ∙ ap (λ (t : Bool). t && leZ e (pos 4503599627370496)) (sym h) ∙ limits 4503599627370495 e

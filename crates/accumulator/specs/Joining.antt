@@ -1,0 +1,64 @@
+-- The accumulator of the paper: joining without and with refusals, and what an answer tells. Definitions only.
+use Prim.Native.Nat.{ℕ, _^_}
+use mathlib.Core.Bool.{Bool, true, false, not, cond, _&&_, _||_}
+use lib.IntN.{ℤ, pos, negsuc, natAbs, _+ℤ_}
+use lib.Dec.{leb}
+use lib.Ieee.{Float, fin}
+use Rattle.binary64.specs.Product.{productOf}
+use Rattle.binary64.specs.Factor.{Factor}
+use Rattle.binary64.specs.Magnitude.{inUnit, twoOrMore, factorAt}
+use Rattle.accumulator.specs.declared.StableProductFloatAcc.{StableProductFloatAcc}
+use Rattle.accumulator.specs.declared.Reduced.{Reduced}
+use Rattle.accumulator.specs.declared.Reduced.the-variants.{Acc, Refused}
+
+-- Identity: 1.0, 0, false
+abbrev pub identityAcc : StableProductFloatAcc
+identityAcc = record { m = fin false 1 (pos 0); e = pos 0; bad = false }
+
+-- the factor of an accumulator: the sign of m, |m| × 2^52, and e
+abbrev pub factorOfAcc : StableProductFloatAcc → Factor
+factorOfAcc a = factorAt 52 (a .m) (a .e)
+
+-- Joining two of which neither is bad: multiply; if |m| >= 2, halve m and add 1 to e.
+abbrev pub half : Float
+half = fin false 1 (negsuc 0)
+
+unfoldable pub multiplied : StableProductFloatAcc → StableProductFloatAcc → StableProductFloatAcc
+multiplied a b =
+    let m = productOf 11 52 (a .m) (b .m) in
+    let e = a .e +ℤ b .e in
+    cond (twoOrMore m) (record { m = productOf 11 52 m half; e = e +ℤ pos 1; bad = false }) (record { m = m; e = e; bad = false })
+
+-- if either is bad, the left m and e, bad
+unfoldable pub combined : StableProductFloatAcc → StableProductFloatAcc → StableProductFloatAcc
+unfolding multiplied
+combined a b = cond (a .bad || b .bad) (record { m = a .m; e = a .e; bad = true }) (multiplied a b)
+
+-- |e| <= 2^52
+abbrev pub withinLimit : ℤ → Bool
+withinLimit e = leb (natAbs e) (2 ^ 52)
+
+-- what refusal 9 asks of a given accumulator, bad or not: 1 <= |m| < 2 and |e| <= 2^52
+unfoldable pub stands : StableProductFloatAcc → Bool
+stands a = inUnit (a .m) && withinLimit (a .e)
+
+-- What an answer tells: an accumulator's values, or a refusal's number with nothing beside it.
+pub data Told : Type 0 where
+  accumulator : Float → ℤ → Bool → Told
+  refusal : ℕ → Told
+
+abbrev pub told : Reduced → Told
+told (Acc a) = accumulator (a .m) (a .e) (a .bad)
+told (Refused n) = refusal n
+
+-- of two that stand: 10 if neither is bad and the joined |e| would be above 2^52; else the joined accumulator
+unfoldable pub answered : StableProductFloatAcc → StableProductFloatAcc → Told
+unfolding combined
+answered a b =
+    let r = combined a b in
+    cond (not (a .bad || b .bad) && not (withinLimit (r .e))) (refusal 10) (accumulator (r .m) (r .e) (r .bad))
+
+-- 9 if either does not stand
+unfoldable pub joined : StableProductFloatAcc → StableProductFloatAcc → Told
+unfolding stands answered
+joined a b = cond (not (stands a && stands b)) (refusal 9) (answered a b)

@@ -1,0 +1,2 @@
+-- The accumulator and joining, as the paper has them. Definitions only.
+pub mod Joining

@@ -1,0 +1,122 @@
+// The accumulator of a stable product, and joining two of them.
+ghost use mathlib.Core.Path.{_≡_};
+ghost use Prim.Native.Nat.{_^_, _≤_};
+ghost use lib.IntN.{natAbs};
+ghost use Rattle.binary64.specs.Magnitude.{inUnit, twoOrMore};
+ghost use Rattle.accumulator.specs.Joining.{identityAcc, combined, withinLimit, stands, told, joined};
+
+// The largest exponent, either way, of an accumulator that is given or answered: 2^52.
+const LIMIT: i64 = 4503599627370496;
+
+// Refusals of document 01: a given accumulator is out of range; a joined one would be.
+const GIVEN_OUT_OF_RANGE: u32 = 9;
+
+const JOINED_OUT_OF_RANGE: u32 = 10;
+
+// A signed m with |m| in [1, 2), the exact exponent, and whether a bad factor entered.
+pub struct StableProductFloatAcc {
+    pub m: f64,
+    pub e: i64,
+    pub bad: bool,
+}
+
+impl StableProductFloatAcc {
+    // Lanes of a piece, and the values of a block that is multiplied unsplit.
+    pub const LANES: usize = 8;
+
+    pub const BLOCK: usize = 64;
+
+    pub fn identity() -> StableProductFloatAcc
+        ensures { λ r. ⌜ r ≡ identityAcc ⌝ }
+    {
+        StableProductFloatAcc {
+            m: 1.0,
+            e: 0,
+            bad: false,
+        }
+    }
+}
+
+// An accumulator, or the number of a refusal.
+pub enum Reduced {
+    Acc(StableProductFloatAcc),
+    Refused(u32),
+}
+
+// 2 <= |m|, by comparisons: there is no abs.
+fn two_or_more(m: f64) -> bool
+    ensures { λ r. ⌜ r ≡ twoOrMore m ⌝ }
+{
+    m <= -2.0 || m >= 2.0
+}
+
+// 1 <= |m| < 2
+fn in_unit(m: f64) -> bool
+    ensures { λ r. ⌜ r ≡ inUnit m ⌝ }
+{
+    if m < 0.0 {
+        m <= -1.0 && m > -2.0
+    } else {
+        m >= 1.0 && m < 2.0
+    }
+}
+
+// |e| <= 2^52, -2^63 included among the others.
+fn within_limit(e: i64) -> bool
+    ensures { λ r. ⌜ r ≡ withinLimit e ⌝ }
+{
+    -LIMIT <= e && e <= LIMIT
+}
+
+fn stands_up(a: StableProductFloatAcc) -> bool
+    ensures { λ r. ⌜ r ≡ stands a ⌝ }
+{
+    in_unit(a.m) && within_limit(a.e)
+}
+
+// Joins two accumulators with one rounding step. The exponents are far from the ends of i64, so that their sum cannot wrap.
+pub fn stable_float_combine(
+    lhs: StableProductFloatAcc,
+    rhs: StableProductFloatAcc,
+) -> StableProductFloatAcc
+    requires { ⌜ (natAbs (lhs .e) ≤ 2 ^ 61) × (natAbs (rhs .e) ≤ 2 ^ 61) ⌝ }
+    ensures { λ r. ⌜ r ≡ combined lhs rhs ⌝ }
+{
+    if lhs.bad | rhs.bad {
+        return StableProductFloatAcc {
+            m: lhs.m,
+            e: lhs.e,
+            bad: true,
+        };
+    }
+    let m = lhs.m * rhs.m;
+    let e = lhs.e + rhs.e;
+    if two_or_more(m) {
+        let carried = e + 1;
+        StableProductFloatAcc {
+            m: m * 0.5,
+            e: carried,
+            bad: false,
+        }
+    } else {
+        StableProductFloatAcc { m, e, bad: false }
+    }
+}
+
+// Joins two accumulators, the first on the left.
+pub fn join(a: StableProductFloatAcc, b: StableProductFloatAcc) -> Reduced
+    ensures { λ r. ⌜ told r ≡ joined a b ⌝ }
+{
+    if !stands_up(a) {
+        return Reduced::Refused(GIVEN_OUT_OF_RANGE);
+    }
+    if !stands_up(b) {
+        return Reduced::Refused(GIVEN_OUT_OF_RANGE);
+    }
+    let r = stable_float_combine(a, b);
+    if within_limit(r.e) {
+        Reduced::Acc(r)
+    } else {
+        Reduced::Refused(JOINED_OUT_OF_RANGE)
+    }
+}

@@ -1,0 +1,149 @@
+// The lines of standard input, read by chunks into a buffer that holds the longest line and its newline.
+ghost use Prim.Native.Nat.{_≤_};
+ghost use mathlib.Core.Path.{_≡_};
+ghost use lib.ListN.{length};
+
+// The buffer's first `count` bytes are not answered yet. `cut` says that the line they go on was too long.
+struct Held {
+    more: bool,
+    count: usize,
+    cut: bool,
+}
+
+// What is left of a chunk once its whole lines are answered.
+struct Left {
+    from: usize,
+    cut: bool,
+}
+
+fn answer_line(line: &[u8], cut: bool, out: &mut [u8])
+    requires { ⌜ 131072 ≤ length (now out) ⌝ }
+{
+    if cut {
+        let n = crate::answer::malformed(&mut *out);
+        io::write_all(libc::STDOUT_FILENO, &out[..n]);
+        return;
+    }
+    let n = crate::answer::answer(line, &mut *out);
+    io::write_all(libc::STDOUT_FILENO, &out[..n]);
+}
+
+fn answer_lines(chunk: &[u8], cut_before: bool, out: &mut [u8]) -> Left
+    requires { ⌜ 131072 ≤ length (now out) ⌝ }
+    ensures { λ r. ⌜ r .from ≤ length (now (chunk .entry)) ⌝ }
+{
+    let mut cut = cut_before;
+    let mut from: usize = 0;
+    while from < chunk.len() {
+        let end = text::word::find(chunk, from, b'\n');
+        if end == chunk.len() {
+            return Left { from, cut };
+        }
+        answer_line(&chunk[from..end], cut, &mut *out);
+        cut = false;
+        from = end + 1;
+    }
+    Left { from, cut }
+}
+
+// Moves the bytes from `from` up to `to` to the buffer's start, and answers how many they are.
+fn move_down(buf: &mut [u8], from: usize, to: usize) -> usize
+    requires { ⌜ (from ≤ to) × (to ≤ length (now buf)) ⌝ }
+    ensures { λ r. ⌜ r ≤ to ⌝ }
+{
+    let count = to - from;
+    let mut i: usize = 0;
+    while i < count {
+        let b = buf[from + i];
+        buf[i] = b;
+        i += 1;
+    }
+    count
+}
+
+// Answers the whole lines among the first `count` bytes and keeps what is left of the last.
+fn keep_rest(buf: &mut [u8], count: usize, cut: bool, out: &mut [u8]) -> Held
+    requires { ⌜ (count ≤ length (now buf)) × (131072 ≤ length (now out)) ⌝ }
+    ensures { λ r. ⌜ r .count ≤ length (now (buf .entry)) ⌝ }
+{
+    let left = answer_lines(&buf[..count], cut, &mut *out);
+    let from = left.from;
+    if left.cut {
+        return Held {
+            more: true,
+            count: 0,
+            cut: true,
+        };
+    }
+    let kept = move_down(&mut *buf, from, count);
+    if kept == buf.len() {
+        return Held {
+            more: true,
+            count: 0,
+            cut: true,
+        };
+    }
+    Held {
+        more: true,
+        count: kept,
+        cut: false,
+    }
+}
+
+// The input has ended: a line with no newline is answered too.
+fn answer_last(buf: &[u8], count: usize, cut: bool, out: &mut [u8])
+    requires { ⌜ (count ≤ length (now buf)) × (131072 ≤ length (now out)) ⌝ }
+{
+    if cut {
+        answer_line(buf, cut, &mut *out);
+        return;
+    }
+    if 0 < count {
+        answer_line(&buf[..count], cut, &mut *out);
+    }
+}
+
+// One read behind the bytes that are held, and the answers to the lines that are whole now.
+fn turn(buf: &mut [u8], held: Held, out: &mut [u8]) -> Held
+    requires { ⌜ (held .count ≤ length (now buf)) × (131072 ≤ length (now out)) ⌝ }
+    ensures { λ r. ⌜ r .count ≤ length (now (buf .entry)) ⌝ }
+{
+    let count = held.count;
+    let got = read_some(&mut buf[count..]);
+    if got == 0 {
+        answer_last(&*buf, count, held.cut, &mut *out);
+        return Held {
+            more: false,
+            count: 0,
+            cut: false,
+        };
+    }
+    keep_rest(&mut *buf, count + got, held.cut, &mut *out)
+}
+
+// One read: how many bytes came, 0 at the input's end.
+fn read_some(space: &mut [u8]) -> usize
+    ensures { λ r. ⌜ r ≤ length (now (space .entry)) ⌝ }
+{
+    let got = libc::read(libc::STDIN_FILENO, &mut *space);
+    io::count(got, &*space)
+}
+
+// Every function ends, so the turns are counted down from a number that no run uses up.
+pub fn answer_all(buf: &mut [u8], out: &mut [u8])
+    requires { ⌜ 131072 ≤ length (now out) ⌝ }
+{
+    let mut held = Held {
+        more: true,
+        count: 0,
+        cut: false,
+    };
+    let mut turns: u64 = 0xffff_ffff_ffff_ffff;
+    while 0 < turns {
+        held = turn(&mut *buf, held, &mut *out);
+        if !held.more {
+            return;
+        }
+        turns -= 1;
+    }
+}

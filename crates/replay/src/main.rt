@@ -1,0 +1,9 @@
+// Answers each line of standard input, a call of the engine, with a line on standard output.
+mod answer;
+mod input;
+
+fn main() {
+    let mut space = [0u8; 131073];
+    let mut out = [0u8; 131072];
+    input::answer_all(&mut space, &mut out);
+}

@@ -1,0 +1,135 @@
+//! Ours: the lines of a case file and their answers.
+
+use crate::erased::calls::{Acc, Layout};
+use crate::rules::{self, Range};
+use crate::words::Words;
+use std::io::{Read, Result, Write};
+
+const MOST_LINE: usize = 128 * 1024;
+const MOST_AXES_GIVEN: u64 = 32;
+const MOST_VALUES: u64 = 4096;
+const MOST_PLACES: u64 = 4096;
+
+pub fn replay() -> Result<()> {
+    let mut input = Vec::new();
+    std::io::stdin().lock().read_to_end(&mut input)?;
+    let mut output = std::io::BufWriter::new(std::io::stdout().lock());
+    for line in lines(&input) {
+        let answer = answer(line).unwrap_or_else(|| String::from("malformed"));
+        output.write_all(answer.as_bytes())?;
+        output.write_all(b"\n")?;
+    }
+    output.flush()
+}
+
+/// A line ends at its newline or at the end of the input.
+fn lines(input: &[u8]) -> impl Iterator<Item = &[u8]> {
+    input
+        .split_inclusive(|&byte| byte == b'\n')
+        .map(|line| line.strip_suffix(b"\n").unwrap_or(line))
+}
+
+fn answer(line: &[u8]) -> Option<String> {
+    if line.len() > MOST_LINE {
+        return None;
+    }
+    let mut words = Words::new(line);
+    match words.word()? {
+        b"compile" => compile(words),
+        b"list" => list(words),
+        b"reduce" => Some(acc_text(reduced(words)?)),
+        b"product" => Some(number_text(rules::finish(reduced(words)?))),
+        b"join" => join(words),
+        b"finish" => finish(words),
+        _ => None,
+    }
+}
+
+fn axes(words: &mut Words) -> Option<(Vec<u64>, Vec<i64>)> {
+    let sizes = words.list(MOST_AXES_GIVEN, Words::u64)?;
+    let strides = words.list(MOST_AXES_GIVEN, Words::i64)?;
+    Some((sizes, strides))
+}
+
+fn compile(mut words: Words) -> Option<String> {
+    let (sizes, strides) = axes(&mut words)?;
+    words.end()?;
+    Some(match rules::compile(&sizes, &strides) {
+        Ok(layout) => layout_text(&layout),
+        Err(code) => compile_text(code, (0, 0, 1), &[]),
+    })
+}
+
+fn layout_text(layout: &Layout) -> String {
+    compile_text(0, (layout.total, layout.run_len, layout.run_stride), &layout.axes)
+}
+
+fn compile_text(code: u32, run: (u64, u64, i64), axes: &[(u64, i64, i64)]) -> String {
+    let (total, len, stride) = run;
+    let mut text = format!("compile {code} {total} {len} {stride} {}", axes.len());
+    for place in 0..rules::MOST_AXES {
+        let (size, step, reset) = axes.get(place).copied().unwrap_or((0, 0, 0));
+        text += &format!(" {size} {step} {reset}");
+    }
+    text
+}
+
+fn list(mut words: Words) -> Option<String> {
+    let (sizes, strides) = axes(&mut words)?;
+    let base = words.i64()?;
+    let (start, end, length) = (words.u64()?, words.u64()?, words.u64()?);
+    let mut buffer = words.list(MOST_PLACES, Words::i64)?;
+    words.end()?;
+    let range = Range { base, start, end, length };
+    let code = rules::list(&sizes, &strides, &range, &mut buffer);
+    let mut text = format!("list {code} {}", buffer.len());
+    for place in &buffer {
+        text += &format!(" {place}");
+    }
+    Some(text)
+}
+
+fn reduced(mut words: Words) -> Option<std::result::Result<Acc, u32>> {
+    let (sizes, strides) = axes(&mut words)?;
+    let base = words.i64()?;
+    let (start, end) = (words.u64()?, words.u64()?);
+    let values = words.list(MOST_VALUES, Words::f64)?;
+    words.end()?;
+    let range = Range { base, start, end, length: values.len() as u64 };
+    Some(rules::reduce(&sizes, &strides, &range, &values))
+}
+
+fn acc(words: &mut Words) -> Option<Acc> {
+    Some(Acc { m: words.f64()?, e: words.i64()?, bad: words.bit()? })
+}
+
+fn join(mut words: Words) -> Option<String> {
+    let left = acc(&mut words)?;
+    let right = acc(&mut words)?;
+    words.end()?;
+    Some(acc_text(rules::join(left, right)))
+}
+
+fn finish(mut words: Words) -> Option<String> {
+    let answer = match words.word()? {
+        b"acc" => Ok(acc(&mut words)?),
+        b"refused" => Err(words.u32()?),
+        _ => return None,
+    };
+    words.end()?;
+    Some(number_text(rules::finish(answer)))
+}
+
+fn acc_text(answer: std::result::Result<Acc, u32>) -> String {
+    match answer {
+        Ok(acc) => format!("acc {:016x} {} {}", acc.m.to_bits(), acc.e, u32::from(acc.bad)),
+        Err(code) => format!("refused {code}"),
+    }
+}
+
+fn number_text(answer: std::result::Result<f64, u32>) -> String {
+    match answer {
+        Ok(number) => format!("number {:016x}", number.to_bits()),
+        Err(code) => format!("refused {code}"),
+    }
+}

@@ -1,0 +1,3 @@
+//! Ours: the source's short vector of axes, as a plain `Vec`.
+
+pub type InlineVec<T> = Vec<T>;

@@ -1,0 +1,53 @@
+//! The oracle: the Rust source itself, asked the calls of a case file.
+//!
+//! `oracle replay < cases > answers` answers each line of a case file.
+//! `oracle generate KIND SEED COUNT` prints COUNT random case lines.
+//!
+//! The source's: `reduce_kernel.rs`, a copy that is the same to the byte.
+//! Ours: this file and every other. `erased.rs` stands in for the file of the source that we lack, and is
+//! written from the rules of the product engine; `inline.rs`, `simd.rs` and `complex.rs` stand in for the few
+//! other names that the copy imports.
+
+extern crate self as num_complex;
+
+mod cases;
+mod complex;
+mod erased;
+mod generate;
+mod inline;
+mod rules;
+mod simd;
+mod words;
+
+pub use complex::{Complex32, Complex64};
+
+/// Ours: the two errors of the source that can arise here, under the source's names.
+#[derive(Clone, Copy, Debug, Eq, PartialEq)]
+pub enum StridedError {
+    StrideLengthMismatch,
+    OffsetOverflow,
+}
+
+pub type Result<T> = core::result::Result<T, StridedError>;
+
+fn usage() -> ! {
+    eprintln!("usage: oracle replay < cases, or oracle generate KIND SEED COUNT");
+    std::process::exit(2);
+}
+
+fn main() {
+    let args: Vec<String> = std::env::args().skip(1).collect();
+    let words: Vec<&str> = args.iter().map(String::as_str).collect();
+    let done = match words.as_slice() {
+        ["replay"] => cases::replay(),
+        ["generate", kind, seed, count] => match (generate::maker(kind), seed.parse(), count.parse()) {
+            (Some(make), Ok(seed), Ok(count)) => generate::print(make, seed, count),
+            _ => usage(),
+        },
+        _ => usage(),
+    };
+    if let Err(error) = done {
+        eprintln!("oracle: {error}");
+        std::process::exit(1);
+    }
+}

@@ -1,0 +1,138 @@
+//! Ours: what the product engine adds to the source, stated from its rules: refusals 2 and 4 to 10, the order in
+//! which they are asked, and the offset of an element. All sums here are made in 128 bits.
+
+use crate::erased::calls::{self, Acc, Layout};
+use crate::StridedError;
+
+pub const MOST_AXES: usize = 8;
+const MOST_ELEMENTS: u64 = 1 << 40;
+const MOST_EXPONENT: u64 = 1 << 52;
+
+/// Tables of this many elements and fewer are walked by the source's loop too.
+const WALKED: u64 = 1 << 12;
+
+pub struct Range {
+    pub base: i64,
+    pub start: u64,
+    pub end: u64,
+    pub length: u64,
+}
+
+/// Refusals 1 to 4.
+pub fn compile(sizes: &[u64], strides: &[i64]) -> Result<Layout, u32> {
+    if sizes.len() != strides.len() {
+        return Err(1);
+    }
+    if sizes.len() > MOST_AXES {
+        return Err(2);
+    }
+    let layout = calls::compile(sizes, strides).map_err(|error| match error {
+        StridedError::StrideLengthMismatch => 1u32,
+        StridedError::OffsetOverflow => 3,
+    })?;
+    if layout.total > MOST_ELEMENTS {
+        return Err(4);
+    }
+    Ok(layout)
+}
+
+/// The least and the greatest offset of a layout that has an element: base plus the sum of (size - 1) × stride
+/// over the negative strides, and over the positive ones. In an accepted layout each of these fits an i64.
+pub fn ends(sizes: &[u64], strides: &[i64], base: i64) -> (i128, i128) {
+    let mut low = i128::from(base);
+    let mut high = low;
+    for (&size, &stride) in sizes.iter().zip(strides) {
+        let span = (i128::from(size) - 1) * i128::from(stride);
+        low = low.saturating_add(span.min(0));
+        high = high.saturating_add(span.max(0));
+    }
+    (low, high)
+}
+
+/// Refusals 1 to 7.
+pub fn range(sizes: &[u64], strides: &[i64], r: &Range) -> Result<Layout, u32> {
+    let layout = compile(sizes, strides)?;
+    if r.start >= r.end {
+        return Err(5);
+    }
+    if r.end > layout.total {
+        return Err(6);
+    }
+    let (low, high) = ends(sizes, strides, r.base);
+    if low < 0 || high > i128::from(i64::MAX) || high >= i128::from(r.length) {
+        return Err(7);
+    }
+    Ok(layout)
+}
+
+/// The axes of rule 2: those of size 1 dropped, the rest by |stride|, equal ones in input order, stride 0 last.
+fn axes(sizes: &[u64], strides: &[i64]) -> Vec<(u64, i64)> {
+    let mut kept: Vec<(usize, u64, i64)> = (0..sizes.len())
+        .filter(|&place| sizes[place] != 1)
+        .map(|place| (place, sizes[place], strides[place]))
+        .collect();
+    kept.sort_unstable_by_key(|&(place, _, stride)| (stride == 0, stride.unsigned_abs(), place));
+    kept.into_iter().map(|(_, size, stride)| (size, stride)).collect()
+}
+
+/// Where element k lies: base plus the sum of digit × stride, the digits being k in mixed radix over the axes of
+/// rule 2, first axis fastest. No axis is fused here.
+fn offset(axes: &[(u64, i64)], base: i64, k: u64) -> i64 {
+    let mut left = k;
+    let mut at = i128::from(base);
+    for &(size, stride) in axes {
+        at += i128::from(left % size) * i128::from(stride);
+        left /= size;
+    }
+    i64::try_from(at).expect("an element of an accepted layout lies inside")
+}
+
+/// The offset list: refusals 1 to 8, or the buffer's new contents in its first places.
+pub fn list(sizes: &[u64], strides: &[i64], r: &Range, buffer: &mut [i64]) -> u32 {
+    let layout = match range(sizes, strides, r) {
+        Ok(layout) => layout,
+        Err(code) => return code,
+    };
+    if (buffer.len() as u64) < r.end - r.start {
+        return 8;
+    }
+    let axes = axes(sizes, strides);
+    for k in r.start..r.end {
+        buffer[(k - r.start) as usize] = offset(&axes, r.base, k);
+    }
+    let count = (r.end - r.start) as usize;
+    let (_, high) = ends(sizes, strides, r.base);
+    if high < i128::from(WALKED) {
+        let walked = calls::visited(&layout, r.base, (r.start, r.end), high as u64 + 1);
+        assert_eq!(walked, buffer[..count], "the source's loop visits other elements than the rule says");
+    }
+    0
+}
+
+pub fn reduce(sizes: &[u64], strides: &[i64], r: &Range, values: &[f64]) -> Result<Acc, u32> {
+    let layout = range(sizes, strides, r)?;
+    Ok(calls::product(&layout, r.base, (r.start, r.end), values))
+}
+
+/// Refusal 9. A NaN has no magnitude in [1, 2), so it is refused too.
+fn given(acc: Acc) -> Result<Acc, u32> {
+    let size = acc.m.abs();
+    if size >= 1.0 && size < 2.0 && acc.e.unsigned_abs() <= MOST_EXPONENT {
+        Ok(acc)
+    } else {
+        Err(9)
+    }
+}
+
+/// Refusals 9, then 10, which is asked of the exponent after the carry.
+pub fn join(left: Acc, right: Acc) -> Result<Acc, u32> {
+    let joined = calls::join(given(left)?, given(right)?);
+    if !joined.bad && joined.e.unsigned_abs() > MOST_EXPONENT {
+        return Err(10);
+    }
+    Ok(joined)
+}
+
+pub fn finish(answer: Result<Acc, u32>) -> Result<f64, u32> {
+    Ok(calls::finish(given(answer?)?))
+}

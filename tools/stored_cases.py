@@ -1,0 +1,464 @@
+#!/usr/bin/env python3
+"""Prints the stored cases of the program `replay`, a line for each call.
+
+The format has no comments, so this file says what each group is for.
+The answers are the oracle's: crates/replay/stdout.
+"""
+
+import sys
+
+LEAST = -(2**63)
+MOST = 2**63 - 1
+MANY = 2**40
+OUT = []
+
+
+def say(line):
+    OUT.append(line)
+
+
+def items(numbers):
+    return " ".join(str(n) for n in [len(numbers), *numbers])
+
+
+def compile_(sizes, strides):
+    say(f"compile {items(sizes)} {items(strides)}")
+
+
+def list_(sizes, strides, base, start, end, length, buffer):
+    say(f"list {items(sizes)} {items(strides)} {base} {start} {end} {length} {items(buffer)}")
+
+
+def marks(count):
+    """Contents of a buffer that no offset equals."""
+    return [-1 - i for i in range(count)]
+
+
+def both(sizes, strides, base, start, end, length, places):
+    """The compile call and the list call of one layout."""
+    compile_(sizes, strides)
+    list_(sizes, strides, base, start, end, length, marks(places))
+
+
+def named_layouts():
+    """The layouts that the rules name."""
+    both([2, 3], [3, 1], 0, 0, 6, 6, 6)
+    both([2, 3], [1, -2], 4, 0, 6, 6, 6)
+    list_([2, 3], [1, -2], 3, 0, 6, 6, marks(6))
+    both([2, 2], [2, -2], 2, 0, 4, 5, 4)
+    both([3, 2], [0, 1], 0, 0, 6, 2, 6)
+    compile_([2**63, 2, 0], [1, 1, 1])
+    compile_([0, 2**63, 2], [1, 1, 1])
+    compile_([2], [LEAST])
+    compile_([1], [LEAST])
+    compile_([2, 2], [2**62, 0])
+    compile_([2**63 + 1], [0])
+    compile_([MANY], [0])
+    compile_([MANY + 1], [0])
+    compile_([], [])
+    list_([], [], 0, 0, 1, 1, marks(1))
+    list_([], [], 0, 0, 1, 0, marks(1))
+    list_([], [], 5, 0, 1, 6, marks(2))
+    list_([MANY], [0], 7, MANY - 3, MANY, 8, marks(3))
+
+
+def refusal_1():
+    """Sizes and strides that differ in number, before every other refusal."""
+    compile_([2, 3], [1, 2])
+    compile_([2, 3], [1])
+    compile_([2], [1, 2])
+    compile_([], [1])
+    compile_([2], [])
+    compile_([2] * 9, [1] * 8)
+    compile_([2] * 8, [1] * 9)
+    compile_([2**63, 2], [1])
+    compile_([MANY + 1], [])
+    list_([2, 3], [1], 0, 0, 1, 6, marks(6))
+    list_([2], [1, 2], 9, 5, 5, 0, [])
+
+
+def refusal_2():
+    """Nine axes and more, of which those of size 1 count."""
+    powers = [2**i for i in range(32)]
+    compile_([2] * 8, powers[:8])
+    compile_([2] * 9, powers[:9])
+    compile_([1] * 8, [1] * 8)
+    compile_([1] * 9, [1] * 9)
+    compile_([1] * 32, [0] * 32)
+    compile_([2] * 10, powers[:10])
+    compile_([0] * 8, [1] * 8)
+    compile_([0] * 9, [1] * 9)
+    compile_([2**63] * 9, [1] * 9)
+    compile_([2] * 32, powers)
+    list_([2] * 8, powers[:8], 0, 250, 256, 256, marks(6))
+    list_([2] * 9, powers[:9], 0, 250, 256, 512, marks(6))
+    list_([2] * 9, powers[:9], 0, 6, 6, 0, [])
+
+
+def refusal_3():
+    """Checks of rules 1, 3 and 4 that overflow, each beside one that fits."""
+    # Rule 1: the product of the sizes, left to right.
+    compile_([2**32, 2**32], [0, 0])
+    compile_([2**32, 2**32 - 1], [0, 0])
+    compile_([2**64 - 1], [0])
+    compile_([2**64 - 1, 1], [0, 5])
+    compile_([2**63, 1, 2, 0], [1, 1, 1, 1])
+    compile_([2**63, 0, 2], [1, 1, 1])
+    compile_([3, 2**63 - 1], [0, 0])
+    # Rule 3: size - 1, the product, and its sign.
+    compile_([2**63], [0])
+    compile_([2**63 + 1], [0])
+    compile_([2], [MOST])
+    compile_([2], [-MOST])
+    compile_([2], [LEAST])
+    compile_([3], [2**62 - 1])
+    compile_([3], [2**62])
+    compile_([3], [-(2**62) + 1])
+    compile_([3], [-(2**62)])
+    compile_([2, 2], [1, LEAST])
+    compile_([2, 1], [1, LEAST])
+    compile_([2**40, 2], [2**23, 0])
+    compile_([2**40], [2**23])
+    compile_([2**40], [2**22])
+    compile_([2**40], [-(2**23)])
+    # Rule 4: step × size where another axis follows.
+    compile_([2], [2**62])
+    compile_([2, 2], [2**62, 0])
+    compile_([2, 2], [2**62, 2**62])
+    compile_([2, 2], [2**61, 2**62])
+    compile_([2, 2], [-(2**62), 0])
+    compile_([2, 2], [2**62 - 1, 0])
+    compile_([2, 2], [MOST, 0])
+    compile_([2, 2], [-(2**61), -(2**62)])
+    compile_([2, 2], [3, MOST])
+    # Fusing alone can overflow.
+    compile_([2, 2], [3 * 2**60, 3 * 2**61])
+    compile_([2, 2], [2**60, 2**61])
+    compile_([2, 2], [-3 * 2**60, -3 * 2**61])
+    compile_([4, 2], [2**60, 2**62])
+    compile_([4, 3], [2**60, 2**62])
+    compile_([2, 2, 2], [2**60, 2**61, 2**62])
+    # A fused axis whose step × size does not fit, with another axis behind it.
+    compile_([2, 2, 2], [2**61, 2**62, 0])
+    compile_([2, 2, 2], [2**60, 2**61, 0])
+    compile_([2, 2, 2], [-(2**61), -(2**62), 0])
+    list_([2, 2], [2**62, 0], 0, 0, 1, 2**64 - 1, marks(2))
+    list_([2], [2**62], 0, 0, 2, 2**62 + 1, marks(2))
+
+
+def refusal_4():
+    """Totals above 2^40, and the checks of rules 3 and 4 that come before."""
+    compile_([2**20, 2**20], [1, 2**20])
+    compile_([2**20, 2**20], [2**20, 1])
+    compile_([2**20 + 1, 2**20], [1, 2**21])
+    compile_([2**20, 2**20, 2], [0, 0, 0])
+    compile_([2**20, 2**20, 1], [0, 0, 0])
+    compile_([MANY - 1], [1])
+    compile_([MANY, 1], [1, LEAST])
+    compile_([MANY + 1], [1])
+    compile_([2**63], [1])
+    compile_([2**62], [1])
+    compile_([2**63 - 1], [1])
+    compile_([2**32, 2**32 - 1], [0, 0])
+    compile_([2**32, 2**32 - 1], [0, 1])
+    compile_([2**41], [2**22])
+    compile_([2**41], [2**23])
+    compile_([2**41, 2], [2**22, 0])
+    compile_([2**64 - 1], [0])
+    list_([MANY], [0], 0, 0, 1, 1, marks(1))
+    list_([MANY + 1], [0], 0, 0, 1, 1, marks(1))
+    list_([MANY + 1], [0], 0, 1, 1, 0, [])
+    list_([2**20, 2**20], [1, 2**20], 0, 2**20 - 1, 2**20 + 2, MANY, marks(3))
+
+
+def refusal_5():
+    """Empty and reversed ranges."""
+    list_([4], [1], 0, 2, 3, 4, marks(2))
+    list_([4], [1], 0, 2, 2, 4, marks(2))
+    list_([4], [1], 0, 3, 2, 4, marks(2))
+    list_([4], [1], 0, 0, 0, 4, [])
+    list_([4], [1], 0, 9, 9, 4, marks(1))
+    list_([4], [1], -1, 4, 4, 0, [])
+    list_([4], [1], 0, 2**64 - 1, 2**64 - 1, 4, [])
+    list_([4], [1], 0, 2**64 - 1, 0, 4, [])
+    list_([0], [1], 0, 0, 0, 0, [])
+    list_([3, 0], [1, 1], 0, 1, 1, 9, marks(2))
+
+
+def refusal_6():
+    """Ranges that end above the total."""
+    list_([4], [1], 0, 3, 4, 4, marks(1))
+    list_([4], [1], 0, 3, 5, 4, marks(2))
+    list_([4], [1], 0, 4, 5, 4, marks(1))
+    list_([4], [1], 0, 0, 2**64 - 1, 4, marks(4))
+    list_([4], [1], -1, 0, 5, 0, [])
+    list_([0], [1], 0, 0, 1, 9, marks(1))
+    list_([2, 0, 3], [1, 2, 3], 0, 0, 1, 9, marks(1))
+    list_([], [], 0, 0, 2, 9, marks(2))
+    list_([1, 1], [5, 5], 0, 0, 2, 9, marks(2))
+    list_([MANY], [0], 0, MANY - 1, MANY + 1, 1, marks(2))
+
+
+def refusal_7():
+    """Elements outside the values, visited or not; lengths and bases that fit exactly and by one not."""
+    for base, length in [(0, 4), (0, 3), (1, 5), (1, 4), (-1, 4), (0, 0), (0, 2**64 - 1)]:
+        list_([4], [1], base, 0, 4, length, marks(4))
+    for base, length in [(3, 4), (2, 4), (3, 3), (4, 5), (LEAST, 4), (MOST, 4)]:
+        list_([4], [-1], base, 0, 4, length, marks(4))
+    # Only the first element is visited, and the last lies outside.
+    list_([4], [1], 0, 0, 1, 4, marks(1))
+    list_([4], [1], 0, 0, 1, 3, marks(1))
+    list_([4], [-1], 3, 0, 1, 4, marks(1))
+    list_([4], [-1], 2, 0, 1, 4, marks(1))
+    list_([2, 3], [1, -2], 4, 0, 1, 5, marks(1))
+    list_([2, 3], [1, -2], 4, 0, 1, 6, marks(1))
+    list_([2, 3], [-1, 2], 1, 0, 6, 6, marks(6))
+    list_([2, 3], [-1, 2], 0, 0, 6, 6, marks(6))
+    list_([2, 3], [-1, 2], 1, 0, 6, 5, marks(6))
+    # Stride 0: the base alone counts.
+    list_([5], [0], 3, 0, 5, 4, marks(5))
+    list_([5], [0], 3, 0, 5, 3, marks(5))
+    list_([5], [0], -1, 0, 5, 3, marks(5))
+    # Bases near 2^63, with lengths on both sides of it.
+    list_([2], [1], MOST - 1, 0, 2, 2**63, marks(2))
+    list_([2], [1], MOST - 1, 0, 2, 2**63 - 1, marks(2))
+    list_([2], [1], MOST, 0, 2, 2**64 - 1, marks(2))
+    list_([2], [-1], MOST, 0, 2, 2**63, marks(2))
+    list_([2], [-1], MOST, 0, 2, 2**63 - 1, marks(2))
+    list_([1], [1], MOST, 0, 1, 2**63, marks(1))
+    list_([], [], MOST, 0, 1, 2**64 - 1, marks(1))
+    list_([], [], MOST, 0, 1, 2**63 - 1, marks(1))
+    list_([], [], LEAST, 0, 1, 2**64 - 1, marks(1))
+    list_([2], [MOST], 0, 0, 2, 2**63, marks(2))
+    list_([2], [MOST], 0, 0, 2, 2**63 - 1, marks(2))
+    list_([2], [MOST], 1, 0, 2, 2**64 - 1, marks(2))
+    list_([2], [-MOST], MOST, 0, 2, 2**63, marks(2))
+    list_([2], [-MOST], MOST - 1, 0, 2, 2**63, marks(2))
+    list_([2, 2], [MOST, -MOST], MOST, 0, 4, 2**63, marks(4))
+    # Sums over the axes that pass 64 bits, one way and both ways.
+    tall = [2**61] * 8
+    list_([2] * 8, tall, 0, 0, 2, 2**64 - 1, marks(2))
+    list_([2] * 8, [-s for s in tall], MOST, 0, 2, 2**64 - 1, marks(2))
+    list_([2] * 4, [2**61, 2**61, 2**61, 2**61], 0, 0, 2, 2**64 - 1, marks(2))
+    list_([2] * 3, [2**61, 2**61, 2**61], 0, 0, 8, 2**63, marks(8))
+    list_([2] * 4, [2**61, -(2**61), 2**61, -(2**61)], 2**62, 0, 16, 2**63, marks(16))
+    list_([2] * 4, [2**61, -(2**61), 2**61, -(2**61)], 2**62 - 1, 0, 16, 2**63, marks(16))
+    list_([2] * 4, [2**61, -(2**61), 2**61, -(2**61)], 2**62, 0, 16, 2**63 - 1, marks(16))
+
+
+def refusal_8():
+    """Buffers exactly full, one short, longer and empty; the refusals that come before."""
+    for places in [4, 3, 5, 0, 1, 9]:
+        list_([4], [1], 0, 0, 4, 4, marks(places))
+    list_([4], [1], 0, 1, 3, 4, marks(2))
+    list_([4], [1], 0, 1, 3, 4, marks(1))
+    list_([4], [1], 0, 3, 4, 4, [])
+    list_([4], [1], 0, 2, 2, 4, [])
+    list_([4], [1], 0, 0, 5, 4, [])
+    list_([4], [1], 0, 0, 4, 3, [])
+    list_([MANY], [0], 0, 0, MANY, 1, marks(3))
+    list_([4], [1], 0, 0, 4, 4, [LEAST, MOST, 0, -1, 7, LEAST])
+    list_([4], [1], 0, 0, 4, 3, [LEAST, MOST, 0, -1, 7])
+    list_([64, 64], [64, 1], 0, 0, 4096, 4096, marks(4096))
+    list_([64, 64], [64, 1], 0, 0, 4096, 4096, marks(4095))
+    list_([64, 65], [65, 1], 0, 64, 4160, 4160, marks(4096))
+
+
+def order_of_axes():
+    """Equal strides in both orders, zero strides last, negative ones by their size."""
+    both([2, 3], [1, 1], 0, 0, 6, 4, 6)
+    both([3, 2], [1, 1], 0, 0, 6, 4, 6)
+    both([2, 3], [1, -1], 2, 0, 6, 4, 6)
+    both([3, 2], [-1, 1], 2, 0, 6, 4, 6)
+    both([2, 2], [-2, 2], 2, 0, 4, 5, 4)
+    both([3, 2, 4], [5, 5, 5], 0, 0, 24, 31, 24)
+    both([4, 2, 3], [5, -5, 5], 5, 0, 24, 31, 24)
+    both([2, 3], [0, 0], 0, 0, 6, 1, 6)
+    both([3, 2], [0, 0], 4, 0, 6, 5, 6)
+    both([2, 3, 2], [0, 1, 0], 0, 0, 12, 3, 12)
+    both([2, 3, 2], [0, -1, 0], 2, 0, 12, 3, 12)
+    both([2, 3], [0, MOST // 2], 0, 0, 6, 2**64 - 1, 6)
+    both([3, 2, 2], [7, -3, 100], 3, 0, 12, 200, 12)
+    both([2, 2, 2], [100, 1, -10], 10, 0, 8, 112, 8)
+    compile_([2, 2, 2, 2, 2, 2, 2, 2], [1, 1, 1, 1, 1, 1, 1, 1])
+    compile_([2, 3, 4, 5, 6, 7, 8, 9], [8, 7, 6, 5, 4, 3, 2, 1])
+    compile_([2, 3, 4, 5, 6, 7, 8, 9], [0, 7, 0, -7, 7, 0, -7, 7])
+    compile_([2, 2], [LEAST + 1, 1])
+    compile_([2, 2], [1, LEAST + 1])
+
+
+def fusing():
+    """Axes that meet, that nearly meet, and that meet after others did."""
+    both([2, 3, 4], [12, 4, 1], 0, 0, 24, 24, 24)
+    both([2, 3, 4], [1, 2, 6], 0, 5, 20, 24, 15)
+    both([2, 3, 4], [4, 8, 1], 0, 0, 24, 24, 24)
+    both([2, 3, 4], [13, 4, 1], 0, 0, 24, 25, 24)
+    both([2, 3, 4], [12, 5, 1], 0, 0, 24, 26, 24)
+    both([2, 3, 4], [24, 8, 2], 0, 0, 24, 47, 24)
+    both([2, 3], [-3, -1], 5, 0, 6, 6, 6)
+    both([2, 3], [-3, 1], 3, 0, 6, 6, 6)
+    both([2, 3], [3, -1], 2, 0, 6, 6, 6)
+    both([2, 2, 2], [1, 2, 2], 0, 0, 8, 6, 8)
+    both([2, 2, 2], [2, 1, 2], 0, 0, 8, 6, 8)
+    both([2, 2, 2, 2], [1, 2, 8, 16], 0, 0, 16, 28, 16)
+    both([2] * 8, [1, 2, 4, 8, 16, 32, 64, 128], 0, 100, 130, 256, 30)
+    both([2] * 8, [1, 2, 4, 9, 18, 36, 72, 200], 0, 100, 130, 400, 30)
+    both([2] * 8, [1, 3, 9, 27, 81, 243, 729, 2187], 0, 0, 256, 3281, 256)
+    compile_([2**20, 2**20], [3, 3 * 2**20])
+    compile_([2, 2, 2, 2], [2**59, 2**60, 2**61, 2**62])
+    compile_([2, 2], [-(2**61), -(2**62)])
+
+
+def sizes_0_and_1():
+    """Sizes 0 and 1 in every place."""
+    for place in range(4):
+        for size in [0, 1]:
+            sizes = [2, 3, 4]
+            strides = [12, 4, 1]
+            sizes.insert(place, size)
+            strides.insert(place, 5)
+            both(sizes, strides, 0, 3, 9, 24, 7)
+    for place in range(3):
+        sizes = [1, 1]
+        sizes.insert(place, 4)
+        both(sizes, [7, 7, 7], 1, 0, 4, 23, 4)
+    compile_([1], [0])
+    compile_([1, 1, 1], [LEAST, MOST, 0])
+    list_([1, 1, 1], [LEAST, MOST, 0], 3, 0, 1, 4, marks(1))
+    compile_([0], [LEAST])
+    compile_([0, 2**64 - 1], [LEAST, LEAST])
+    compile_([2**64 - 1, 0], [LEAST, LEAST])
+    compile_([2**64 - 1, 2, 0], [LEAST, LEAST, 1])
+    compile_([0, 2**64 - 1, 2], [LEAST, LEAST, 1])
+    compile_([1, 0], [3, 3])
+    compile_([0, 0], [0, 0])
+
+
+def ranges():
+    """Ranges inside a run, over its end, over several runs, and single elements."""
+    for start, end in [(0, 1), (0, 4), (1, 3), (3, 5), (4, 8), (2, 11), (11, 12), (0, 12), (7, 8), (8, 12)]:
+        list_([4, 3], [1, 10], 0, start, end, 24, marks(end - start + 1))
+        list_([4, 3], [-1, -10], 23, start, end, 24, marks(end - start))
+    for start, end in [(0, 24), (5, 19), (6, 7), (23, 24), (12, 13), (0, 7)]:
+        list_([2, 3, 4], [100, 10, 1], 0, start, end, 124, marks(end - start))
+        list_([2, 3, 4], [100, 0, -1], 3, start, end, 104, marks(end - start))
+
+
+def malformed():
+    """Lines that are not of the format, each between two that are."""
+    good = "compile 1 2 1 1"
+    bad = [
+        "",
+        " ",
+        "compile",
+        "compile ",
+        "compil 1 2 1 1",
+        "Compile 1 2 1 1",
+        "compiled 1 2 1 1",
+        " compile 1 2 1 1",
+        "compile 1 2 1 1 ",
+        "compile  1 2 1 1",
+        "compile 1  2 1 1",
+        "compile\t1 2 1 1",
+        "compile 1 2 1 1\r",
+        "compile 1 2 1 1 1",
+        "compile 1 2 1",
+        "compile 2 2 1 1",
+        "compile 1 2 2 1",
+        "compile 1 2",
+        "compile 1",
+        "compile 0",
+        "compile 1 2 0 1",
+        "compile 1 -2 1 1",
+        "compile -1 2 1 1",
+        "compile 1 +2 1 1",
+        "compile 1 2 1 +1",
+        "compile 1 02 1 1",
+        "compile 01 2 1 1",
+        "compile 1 2 1 01",
+        "compile 1 2 1 -01",
+        "compile 1 2 1 -0",
+        "compile 1 00 1 1",
+        "compile 1 2 1 -",
+        "compile 1 2 1 --1",
+        "compile 1 2 1 1-",
+        "compile 1 2x 1 1",
+        "compile 1 x 1 1",
+        "compile 1 : 1 1",
+        "compile 1 / 1 1",
+        "compile 1 2.0 1 1",
+        "compile 1 0x2 1 1",
+        "compile 1 18446744073709551616 1 1",
+        "compile 1 184467440737095516150 1 1",
+        "compile 1 2 1 9223372036854775808",
+        "compile 1 2 1 -9223372036854775809",
+        "compile 1 2 1 99999999999999999999999999",
+        "compile " + " ".join(["33"] + ["1"] * 33 + ["33"] + ["1"] * 33),
+        "compile " + " ".join(["33"] + ["1"] * 33 + ["1", "1"]),
+        "compile " + " ".join(["1", "1", "33"] + ["1"] * 33),
+        "compile 18446744073709551615 1 1 1",
+        "list",
+        "list 1 4 1 1",
+        "list 1 4 1 1 0 0 4 4",
+        "list 1 4 1 1 0 0 4 4 2 0",
+        "list 1 4 1 1 0 0 4 4 1 0 0",
+        "list 1 4 1 1 0 0 4 4 0 ",
+        "list 1 4 1 1 9223372036854775808 0 4 4 0",
+        "list 1 4 1 1 -0 0 4 4 0",
+        "list 1 4 1 1 0 -1 4 4 0",
+        "list 1 4 1 1 0 0 -4 4 0",
+        "list 1 4 1 1 0 0 4 -4 0",
+        "list 1 4 1 1 0 0 18446744073709551616 4 0",
+        "list 1 4 1 1 0 0 4 18446744073709551616 0",
+        "list 1 4 1 1 0 0 4 4 1 -9223372036854775809",
+        "list 1 4 1 1 0 0 4 4 4097" + " 0" * 4097,
+        "list 1 4 1 1 0 0 4 4 4097",
+        "unknown 1 2 3",
+        "1 2 3",
+        "\x00",
+        "compile 1 2 1 1\x00",
+        "compile 1 2 1 1 \u00e9",
+        # A line of 128 KiB, one of a byte more, and one that takes more than two buffers.
+        "x" * 131072,
+        "x" * 131073,
+        "compile " + "1" * 270000 + " 2 1 1",
+    ]
+    say(good)
+    for line in bad:
+        say(line)
+        say(good)
+
+
+def longest():
+    """The longest numbers, the most axes and the fullest buffer that a line can hold."""
+    compile_([2**64 - 1] * 32, [LEAST] * 32)
+    compile_([2**64 - 1], [LEAST])
+    list_([2**64 - 1], [LEAST], LEAST, 2**64 - 1, 2**64 - 1, 2**64 - 1, [LEAST, MOST])
+    list_([1], [0], 0, 0, 1, 1, [LEAST] * 4096)
+    list_([4096], [1], MOST - 4095, 0, 4096, 2**63, [LEAST] * 4096)
+
+
+def main():
+    for group in [
+        named_layouts,
+        refusal_1,
+        refusal_2,
+        refusal_3,
+        refusal_4,
+        refusal_5,
+        refusal_6,
+        refusal_7,
+        refusal_8,
+        order_of_axes,
+        fusing,
+        sizes_0_and_1,
+        ranges,
+        longest,
+        malformed,
+    ]:
+        group()
+    # The last line has no newline, and counts all the same.
+    sys.stdout.buffer.write("\n".join(OUT).encode())
+
+
+main()
