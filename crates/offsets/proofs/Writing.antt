@@ -1,4 +1,4 @@
--- The offset list, piece by piece: along a run the offsets are a stride apart.
+-- The offset list, piece by piece.
 -- Assumes nothing.
 use Prim.Native.Nat.{ℕ, zero, suc, _+_, _-_, _*_, _/_, _%_, _^_, _≤_, _<_, min}
 use mathlib.Core.Path.{_≡_, refl, sym, _∙_, ap, subst}
@@ -6,21 +6,19 @@ use mathlib.Core.Bool.{Bool, true, false}
 use mathlib.Core.List.{List, [], _∷_, _++_, append-assoc, append-nil}
 use native.Mathlib.Omega.{arith}
 use native.Mathlib.Numerals.{add-one}
-use native.Mathlib.Nat.{div-add-mod', mod-lt, add-zero, zero-add, suc-add, add-suc}
+use native.Mathlib.Nat.{add-zero, zero-add, suc-add, add-suc}
 use lib.ListN.{length, take, drop, getD, set, length-append, length-take, length-drop, length-set, take-append-drop}
 use lib.Seq.{set-set, set-split, take-set-le, drop-set-lt, drop-cons, set-at, take-append-le, drop-append-add, length-take-le, drop-drop, take-at, drop-at}
-use lib.Arith.{digits-div, digits-mod}
+use lib.Arith.{digits-mod}
 use lib.IntN.{ℤ, pos, _+ℤ_, _*ℤ_}
 use Rattle.integers.proofs.Difference.{ints, atoms}
 use Rattle.layout.specs.declared.axis.ReduceOuterAxis.{ReduceOuterAxis}
 use Rattle.offsets.specs.Elements.{offset}
 use Rattle.offsets.specs.Lists.{steps, offsetsFrom}
-use mir.Val.{SFits}
-use mir.Syntax.{w64}
-use Rattle.layout.specs.Axes.{PLACES, axisOf}
+use Rattle.layout.specs.Axes.{axisOf}
 use Rattle.offsets.specs.declared.cursor.ReduceOuterCursor.{ReduceOuterCursor}
-use Rattle.offsets.specs.Cursors.{Axes, Bounded, Stands, cursorAt, advanced}
-use Rattle.offsets.proofs.Stepping.{offset-cons, offset-moved, axis-small, axes-at, bounded-after, bounded-offset, Small, small-fits, advance-next}
+use Rattle.offsets.specs.Cursors.{Axes, Bounded}
+use Rattle.offsets.proofs.Walking.{split, along, Walk, some, first-is, len-run, len-end}
 
 -- ---- numbers a stride apart
 pub steps-more : (z s : ℤ) (n : ℕ) → steps z s (n + 1) ≡ steps z s n ++ (z +ℤ s *ℤ pos n) ∷ []
@@ -76,28 +74,6 @@ filled-none out at z s h = ap (λ (l : List ℤ). l ++ drop (at + 0) out) (appen
 pub length-filled : (out : List ℤ) (at : ℕ) (z s : ℤ) (i : ℕ) → at + i ≤ length out → length (filled out at z s i) ≡ length out
 unfolding filled
 length-filled out at z s i h = simp (length-append, length-steps, length-drop) (let e = length-take-le at out (omega arith) in omega arith)
-
--- ---- along a run
-module _ (a : ReduceOuterAxis) (xs : List ReduceOuterAxis) (base : ℤ) (k : ℕ) (h : 1 ≤ a .extent) where
-  split : (j : ℕ) → k + j ≡ k / a .extent * a .extent + (k % a .extent + j)
-  split j = let q = div-add-mod' k (a .extent) in omega arith
-
-  -- the offset j further on in the run
-  pub along : (j : ℕ) → k % a .extent + j < a .extent → offset (a ∷ xs) base (k + j) ≡ offset (a ∷ xs) base k +ℤ a .«source_step» *ℤ pos j
-  along j l =
-      offset-cons a xs base (k + j)
-      ∙ ap (λ (d : ℕ). offset xs (base +ℤ a .«source_step» *ℤ pos d) ((k + j) / a .extent)) (ap (λ (n : ℕ). n % a .extent) (split j) ∙ digits-mod (k / a .extent) l)
-      ∙ ap (λ (q : ℕ). offset xs (base +ℤ a .«source_step» *ℤ pos (k % a .extent + j)) q) (ap (λ (n : ℕ). n / a .extent) (split j) ∙ digits-div (k / a .extent) l)
-      ∙ ap (λ (z : ℤ). offset xs z (k / a .extent)) (ring base (a .«source_step») (k % a .extent) j)
-      ∙ offset-moved xs (base +ℤ a .«source_step» *ℤ pos (k % a .extent)) (a .«source_step» *ℤ pos j) (k / a .extent)
-      ∙ ap (λ (z : ℤ). z +ℤ a .«source_step» *ℤ pos j) (sym (offset-cons a xs base k))
-    where
-      ring : (b s : ℤ) (d j : ℕ) → b +ℤ s *ℤ pos (d + j) ≡ (b +ℤ s *ℤ pos d) +ℤ s *ℤ pos j
-      ring b s d j = simp ints (simp atoms (omega arith))
-
-  -- the run's column, from the cursor's offset
-  pub at-column : offset xs base (k / a .extent) +ℤ a .«source_step» *ℤ pos (k % a .extent) ≡ offset (a ∷ xs) base k
-  at-column = sym (offset-cons a xs base k ∙ offset-moved xs base (a .«source_step» *ℤ pos (k % a .extent)) (k / a .extent))
 
 -- a piece of a run, as numbers a stride apart
 pub piece : (a : ReduceOuterAxis) (xs : List ReduceOuterAxis) (base : ℤ) (n k : ℕ) → 1 ≤ a .extent → k % a .extent + n ≤ a .extent
@@ -165,128 +141,34 @@ filled-over out at z s v n h =
     ap (λ (l : List ℤ). l ++ steps z s n ++ drop (at + n) (set out at v)) (take-set-le at out at v (omega arith))
     ∙ ap (λ (l : List ℤ). take at out ++ steps z s n ++ l) (drop-set-lt (at + n) out at v (omega arith))
 
--- ---- the loop over the pieces: offsets up to k are listed, and the cursor stands at k's run
-pub record Listing (n : ℕ) (s : ℤ) (outer : List ReduceOuterAxis) (base : ℤ) (start end : ℕ) (out₀ out : List ℤ) (col k : ℕ) (runs : ReduceOuterCursor) : Type 0 where
-  pub from : start ≤ k
-  pub upto : k ≤ end
-  pub lists : out ≡ listed (axisOf n s ∷ outer) base start (k - start) out₀
-  pub column : k < end → col ≡ k % n
-  pub run : k < end → runs ≡ cursorAt outer base (k / n)
+-- ---- the loop over the pieces: the offsets up to k are listed
+module _ (n : ℕ) (s : ℤ) (outer : List ReduceOuterAxis) (base : ℤ) (start end : ℕ) (out₀ out : List ℤ) (col k : ℕ) (runs : ReduceOuterCursor)
+    (w : Axes (axisOf n s ∷ outer)) (b : Bounded (axisOf n s ∷ outer) base) (p : Walk n outer base start end col k runs) (h : k < end)
+    (room : end - start ≤ length out₀) (lists : out ≡ listed (axisOf n s ∷ outer) base start (k - start) out₀) (len : ℕ) (e : len ≡ min (n - col) (end - k)) where
+  pub enough : k - start + len ≤ length out
+  enough =
+      omega (arith, ap length lists, length-listed (axisOf n s ∷ outer) base start (k - start) out₀ (omega (arith, p .from)), len-end n s outer base start end col k runs w b p h len e, p .from)
 
-pub listing-none : (n : ℕ) (s : ℤ) (outer : List ReduceOuterAxis) (base : ℤ) (start end : ℕ) (out : List ℤ) (runs : ReduceOuterCursor) → start < end → runs ≡ cursorAt outer base (start / n)
-    → Listing n s outer base start end out out (start % n) start runs
+  pub written : (r : List ℤ) → r ≡ take (k - start) out ++ steps (runs .«source_offset» +ℤ s *ℤ pos col) s len ++ drop (k - start + len) out → r ≡ listed (axisOf n s ∷ outer) base start (k + len - start) out₀
+  unfolding axisOf
+  written r g =
+      g
+      ∙ ap (λ (z : ℤ). take (k - start) out ++ steps z s len ++ drop (k - start + len) out) (first-is n s outer base start end col k runs w b p h)
+      ∙ ap (λ (l : List ℤ). take (k - start) out ++ l ++ drop (k - start + len) out) (piece (axisOf n s) outer base len k (some n s outer base start end col k runs w b p h) (len-run n s outer base start end col k runs w b p h len e))
+      ∙ ap (λ (o : List ℤ). take (k - start) o ++ offsetsFrom (axisOf n s ∷ outer) base k len ++ drop (k - start + len) o) lists
+      ∙ ap (λ (j : ℕ). take (k - start) (listed (axisOf n s ∷ outer) base start (k - start) out₀) ++ offsetsFrom (axisOf n s ∷ outer) base j len ++ drop (k - start + len) (listed (axisOf n s ∷ outer) base start (k - start) out₀)) back
+      ∙ listed-more (axisOf n s ∷ outer) base start (k - start) len out₀ (omega (arith, len-end n s outer base start end col k runs w b p h len e, p .from))
+      ∙ ap (λ (m : ℕ). listed (axisOf n s ∷ outer) base start m out₀) ahead
+    where
+      back : k ≡ start + (k - start)
+      back = omega (arith, p .from)
+
+      ahead : k - start + len ≡ k + len - start
+      ahead = omega (arith, p .from)
+
+pub listed-none : (xs : List ReduceOuterAxis) (base : ℤ) (start : ℕ) (out : List ℤ) → out ≡ listed xs base start (start - start) out
 unfolding listed offsetsFrom
-listing-none n s outer base start end out runs h e =
-    record {
-      from = omega arith;
-      upto = omega arith;
-      lists = ap (λ (m : ℕ). offsetsFrom (axisOf n s ∷ outer) base start m ++ drop m out) z;
-      column = λ _. refl;
-      run = λ _. e;
-    }
+listed-none xs base start out = ap (λ (m : ℕ). offsetsFrom xs base start m ++ drop m out) z
   where
     z : 0 ≡ start - start
     z = omega arith
-
-module _ (n : ℕ) (s : ℤ) (outer : List ReduceOuterAxis) (base : ℤ) (start end : ℕ) (out₀ out : List ℤ) (col k : ℕ) (runs : ReduceOuterCursor)
-    (w : Axes (axisOf n s ∷ outer)) (b : Bounded (axisOf n s ∷ outer) base) (room : end - start ≤ length out₀) (p : Listing n s outer base start end out₀ out col k runs) (h : k < end) where
-  pub some : 1 ≤ n
-  unfolding Axes axisOf
-  some = w .0 .1
-
-  pub small-run : n ≤ 2 ^ 63
-  unfolding Axes axisOf
-  small-run = axis-small (axisOf n s) (w .0)
-
-  pub column-lt : col < n
-  column-lt = rw (p .column h) (mod-lt k some)
-
-  outer-axes : Axes outer
-  outer-axes = axes-at (axisOf n s) outer (axisOf n s ∷ outer) refl w .1
-
-  outer-bounded : Bounded outer base
-  outer-bounded = bounded-after (axisOf n s) outer base b
-
-  -- the cursor's offset, the run's column and their sum
-  pub run-offset : runs .«source_offset» ≡ offset outer base (k / n)
-  unfolding cursorAt
-  run-offset = ap (λ (c : ReduceOuterCursor). c .«source_offset») (p .run h)
-
-  pub run-small : Small (runs .«source_offset»)
-  run-small = rw run-offset (bounded-offset outer base (k / n) outer-axes outer-bounded)
-
-  pub first-is : runs .«source_offset» +ℤ s *ℤ pos col ≡ offset (axisOf n s ∷ outer) base k
-  unfolding axisOf
-  first-is = ap (λ (z : ℤ). z +ℤ s *ℤ pos col) run-offset ∙ ap (λ (d : ℕ). offset outer base (k / n) +ℤ s *ℤ pos d) (p .column h) ∙ at-column (axisOf n s) outer base k some
-
-  pub first-small : Small (runs .«source_offset» +ℤ s *ℤ pos col)
-  first-small = rw first-is (bounded-offset (axisOf n s ∷ outer) base k w b)
-
-  pub stands : length outer ≤ PLACES → Stands outer runs
-  stands f = record { base = base; index = k / n; axes = outer-axes; few = f; bounded = outer-bounded; at = p .run h }
-
-  pub long : length out ≡ length out₀
-  long = ap length (p .lists) ∙ length-listed (axisOf n s ∷ outer) base start (k - start) out₀ (omega (arith, p .from))
-
-  module _ (len : ℕ) (e : len ≡ min (n - col) (end - k)) where
-    pub len-pos : 1 ≤ len
-    len-pos = omega (arith, e, column-lt, h)
-
-    pub len-run : k % n + len ≤ n
-    len-run = omega (arith, e, column-lt, p .column h)
-
-    pub len-end : k + len ≤ end
-    len-end = omega (arith, e, h)
-
-    pub fits : (i : ℕ) → i < len → SFits w64 ((runs .«source_offset» +ℤ s *ℤ pos col) +ℤ s *ℤ pos i)
-    unfolding axisOf
-    fits i l =
-        rw (first-is)
-        (subst (SFits w64) (along (axisOf n s) outer base k some i (omega (arith, len-run)))
-        (small-fits _ (bounded-offset (axisOf n s ∷ outer) base (k + i) w b)))
-
-    module _ (r : List ℤ) (g : r ≡ take (k - start) out ++ steps (runs .«source_offset» +ℤ s *ℤ pos col) s len ++ drop (k - start + len) out) where
-      written : r ≡ listed (axisOf n s ∷ outer) base start (k + len - start) out₀
-      unfolding axisOf
-      written =
-          g
-          ∙ ap (λ (z : ℤ). take (k - start) out ++ steps z s len ++ drop (k - start + len) out) first-is
-          ∙ ap (λ (l : List ℤ). take (k - start) out ++ l ++ drop (k - start + len) out) (piece (axisOf n s) outer base len k some len-run)
-          ∙ ap (λ (o : List ℤ). take (k - start) o ++ offsetsFrom (axisOf n s ∷ outer) base k len ++ drop (k - start + len) o) (p .lists)
-          ∙ ap (λ (j : ℕ). take (k - start) (listed (axisOf n s ∷ outer) base start (k - start) out₀) ++ offsetsFrom (axisOf n s ∷ outer) base j len ++ drop (k - start + len) (listed (axisOf n s ∷ outer) base start (k - start) out₀)) back
-          ∙ listed-more (axisOf n s ∷ outer) base start (k - start) len out₀ (omega (arith, len-end, p .from))
-          ∙ ap (λ (m : ℕ). listed (axisOf n s ∷ outer) base start m out₀) ahead
-        where
-          back : k ≡ start + (k - start)
-          back = omega (arith, p .from)
-
-          ahead : k - start + len ≡ k + len - start
-          ahead = omega (arith, p .from)
-
-      -- the last piece: nothing is left
-      pub listing-end : end ≤ k + len → (c : ℕ) (q : ReduceOuterCursor) → Listing n s outer base start end out₀ r c (k + len) q
-      listing-end l c q =
-          record {
-            from = omega (arith, p .from);
-            upto = len-end;
-            lists = written;
-            column = λ m. absurd (no m);
-            run = λ m. absurd (no m);
-          }
-        where
-          no : k + len < end → ⊥
-          no m = omega arith
-
-      -- a whole run is done: the next begins at its first column
-      pub listing-more : k + len < end → (q : ReduceOuterCursor) → q ≡ advanced outer runs → Listing n s outer base start end out₀ r 0 (k + len) q
-      listing-more l q a =
-          record {
-            from = omega (arith, p .from);
-            upto = len-end;
-            lists = written;
-            column = λ m. sym (ap (λ (j : ℕ). j % n) whole ∙ digits-mod (k / n + 1) some);
-            run = λ m. a ∙ ap (advanced outer) (p .run h) ∙ advance-next outer base (k / n) outer-axes ∙ ap (cursorAt outer base) (sym (ap (λ (j : ℕ). j / n) whole ∙ digits-div (k / n + 1) some));
-          }
-        where
-          whole : k + len ≡ (k / n + 1) * n + 0
-          whole = let q = div-add-mod' k n in omega (arith, e, l, p .column h, column-lt)

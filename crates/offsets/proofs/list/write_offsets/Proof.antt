@@ -1,4 +1,4 @@
--- `offsets::list::write_offsets` meets its contract. The loop's invariant, `Listing`: the offsets up to k are listed, and the cursor stands at the run of k.
+-- `offsets::list::write_offsets` meets its contract. The loop's invariant: the cursor stands at the run of k (`Walk`), and the offsets up to k are listed.
 -- Assumes nothing.
 use Prim.Native.Nat.{ℕ, _+_, _-_, _^_, _≤_, _<_, min}
 use mathlib.Core.Path.{_≡_, refl, sym, _∙_, ap, subst}
@@ -17,7 +17,8 @@ use Rattle.integers.proofs.Machine.{pos-fits, toZ-small}
 use Rattle.offsets.specs.Cursors.{Axes, Bounded}
 use Rattle.offsets.specs.Traversals.{runOf, outerOf, Traversal}
 use Rattle.offsets.proofs.Stepping.{bounded-after, axes-at, Small, small-fits, share-fits}
-use Rattle.offsets.proofs.Writing.{Listing, listing-none, some, small-run, column-lt, run-small, first-small, stands, long, len-pos, len-run, len-end, fits, listing-end, listing-more, listed, length-listed}
+use Rattle.offsets.proofs.Walking.{Walk, walk-none, some, small-run, column-lt, run-small, first-small, stands, len-pos, len-end, fits, walk-end, walk-more}
+use Rattle.offsets.proofs.Writing.{listed, listed-none, length-listed, enough, written}
 use Rattle.offsets.proofs.list.write_offsets.Statement.{statement}
 use Rattle.offsets.proofs.list.write_offsets.Tie as tie
 use Rattle.offsets.proofs.list.write_offsets.Reads as reads
@@ -29,7 +30,7 @@ use Rattle.offsets.proofs.list.write_run.Reads as write-run-reads
 
 abbrev Inv-loop : tie.InvT-loop
 Inv-loop base start end out₀ n stride count axes col₀ runs₀ k₀ out col runs k =
-    Listing n (toZ w64 stride) (take count axes) (toZ w64 base) start end out₀ out col k runs
+    Walk n (take count axes) (toZ w64 base) start end col k runs × (out ≡ listed (axisOf n (toZ w64 stride) ∷ take count axes) (toZ w64 base) start (k - start) out₀)
 
 abbrev μ-loop : tie.MeasureT-loop
 μ-loop base start end out₀ n stride count axes col₀ runs₀ k₀ out col runs k = end - k
@@ -72,23 +73,26 @@ loop-holds : tie.Need-loop-holds Inv-loop μ-loop
 loop-holds c =
     let s = c .before .before .before in
     simp (toZ-ofZ (s .fits .base), toZ-ofZ (stride-fits (c .before .before)))
-    (listing-none (s .args .l .«run_len») (s .args .l .«run_stride») (take (s .args .l .«axis_count») (s .args .l .«run_axes»)) (s .args .base) (s .args .start) (s .args .end) (s .args .out .now) _ (s .pre .2) (simp (toZ-ofZ (s .fits .base)) at (c .decode .ensures)))
+    (walk-none (s .args .l .«run_len») (take (s .args .l .«axis_count») (s .args .l .«run_axes»)) (s .args .base) (s .args .start) (s .args .end) _ (s .pre .2) (simp (toZ-ofZ (s .fits .base)) at (c .decode .ensures)), listed-none _ (s .args .base) (s .args .start) (s .args .out .now))
 
 -- the invariant, over the arguments themselves
-listing : (c : tie.At-loop Inv-loop μ-loop) → Listing (c .before .before .before .before .args .l .«run_len») (c .before .before .before .before .args .l .«run_stride») (take (c .before .before .before .before .args .l .«axis_count») (c .before .before .before .before .args .l .«run_axes»)) (c .before .before .before .before .args .base) (c .before .before .before .before .args .start) (c .before .before .before .before .args .end) (c .before .before .before .before .args .out .now) (c .loop .out) (c .loop .col) (c .loop .k) (c .loop .runs)
-listing c = let s = c .before .before .before .before in simp (toZ-ofZ (s .fits .base), toZ-ofZ (stride-fits (c .before .before .before))) at (c .loop .inv)
+walk : (c : tie.At-loop Inv-loop μ-loop) → Walk (c .before .before .before .before .args .l .«run_len») (take (c .before .before .before .before .args .l .«axis_count») (c .before .before .before .before .args .l .«run_axes»)) (c .before .before .before .before .args .base) (c .before .before .before .before .args .start) (c .before .before .before .before .args .end) (c .loop .col) (c .loop .k) (c .loop .runs)
+walk c = let s = c .before .before .before .before in simp (toZ-ofZ (s .fits .base)) at (c .loop .inv .0)
+
+lists : (c : tie.At-loop Inv-loop μ-loop) → c .loop .out ≡ listed (axisOf (c .before .before .before .before .args .l .«run_len») (c .before .before .before .before .args .l .«run_stride») ∷ take (c .before .before .before .before .args .l .«axis_count») (c .before .before .before .before .args .l .«run_axes»)) (c .before .before .before .before .args .base) (c .before .before .before .before .args .start) (c .loop .k - c .before .before .before .before .args .start) (c .before .before .before .before .args .out .now)
+lists c = let s = c .before .before .before .before in simp (toZ-ofZ (s .fits .base), toZ-ofZ (stride-fits (c .before .before .before))) at (c .loop .inv .1)
 
 column : (c : tie.In-loop Inv-loop μ-loop) → c .before .loop .col < c .before .before .before .before .before .args .l .«run_len»
-column c = let s = c .before .before .before .before .before in column-lt _ _ _ _ _ _ _ _ _ _ _ (axes-of s) (bounded-of s) (s .pre .4) (listing (c .before)) (c .loop-test .taken)
+column c = let s = c .before .before .before .before .before in column-lt _ _ _ _ _ _ _ _ _ (axes-of s) (bounded-of s) (walk (c .before)) (c .loop-test .taken)
 
 column-small : (c : tie.In-loop Inv-loop μ-loop) → c .before .loop .col < 2 ^ 63
-column-small c = let s = c .before .before .before .before .before in omega (arith, column c, small-run _ _ _ _ _ _ _ _ _ _ _ (axes-of s) (bounded-of s) (s .pre .4) (listing (c .before)) (c .loop-test .taken))
+column-small c = let s = c .before .before .before .before .before in omega (arith, column c, small-run _ _ _ _ _ _ _ _ _ (axes-of s) (bounded-of s) (walk (c .before)) (c .loop-test .taken))
 
 from-here : (c : tie.In-loop Inv-loop μ-loop) → Small (c .before .loop .runs .«source_offset»)
-from-here c = let s = c .before .before .before .before .before in run-small _ _ _ _ _ _ _ _ _ _ _ (axes-of s) (bounded-of s) (s .pre .4) (listing (c .before)) (c .loop-test .taken)
+from-here c = let s = c .before .before .before .before .before in run-small _ _ _ _ _ _ _ _ _ (axes-of s) (bounded-of s) (walk (c .before)) (c .loop-test .taken)
 
 first-here : (c : tie.In-loop Inv-loop μ-loop) → Small (c .before .loop .runs .«source_offset» +ℤ c .before .before .before .before .before .args .l .«run_stride» *ℤ pos (c .before .loop .col))
-first-here c = let s = c .before .before .before .before .before in first-small _ _ _ _ _ _ _ _ _ _ _ (axes-of s) (bounded-of s) (s .pre .4) (listing (c .before)) (c .loop-test .taken)
+first-here c = let s = c .before .before .before .before .before in first-small _ _ _ _ _ _ _ _ _ (axes-of s) (bounded-of s) (walk (c .before)) (c .loop-test .taken)
 
 -- src/list.rt:78:25
 sub-least : tie.Need-sub-least Inv-loop μ-loop
@@ -123,21 +127,14 @@ add-first c =
 
 -- src/list.rt:80:31
 sub-write-run : tie.Need-sub-write-run Inv-loop μ-loop
-sub-write-run c = listing (c .before .before .before .before .before) .from
+sub-write-run c = walk (c .before .before .before .before .before) .from
 
 -- a piece ends within the range, and the buffer has room for it
 ends : (c : tie.In-loop Inv-loop μ-loop) (n : ℕ) → n ≡ min (c .before .before .before .before .before .args .l .«run_len» - c .before .loop .col) (c .before .before .before .before .before .args .end - c .before .loop .k) → c .before .loop .k + n ≤ c .before .before .before .before .before .args .end
-ends c n e = let s = c .before .before .before .before .before in len-end _ _ _ _ _ _ _ _ _ _ _ (axes-of s) (bounded-of s) (s .pre .4) (listing (c .before)) (c .loop-test .taken) n e
+ends c n e = let s = c .before .before .before .before .before in len-end _ _ _ _ _ _ _ _ _ (axes-of s) (bounded-of s) (walk (c .before)) (c .loop-test .taken) n e
 
 begins : (c : tie.In-loop Inv-loop μ-loop) (n : ℕ) → n ≡ min (c .before .before .before .before .before .args .l .«run_len» - c .before .loop .col) (c .before .before .before .before .before .args .end - c .before .loop .k) → 1 ≤ n
-begins c n e = let s = c .before .before .before .before .before in len-pos _ _ _ _ _ _ _ _ _ _ _ (axes-of s) (bounded-of s) (s .pre .4) (listing (c .before)) (c .loop-test .taken) n e
-
-enough : (c : tie.In-loop Inv-loop μ-loop) (n : ℕ) → n ≡ min (c .before .before .before .before .before .args .l .«run_len» - c .before .loop .col) (c .before .before .before .before .before .args .end - c .before .loop .k)
-    → c .before .loop .k - c .before .before .before .before .before .args .start + n ≤ length (c .before .loop .out)
-enough c n e =
-    let s = c .before .before .before .before .before in
-    let p = listing (c .before) in
-    omega (arith, ends c n e, p .from, s .pre .4, long _ _ _ _ _ _ _ _ _ _ _ (axes-of s) (bounded-of s) (s .pre .4) p (c .loop-test .taken))
+begins c n e = let s = c .before .before .before .before .before in len-pos _ _ _ _ _ _ _ _ _ (axes-of s) (bounded-of s) (walk (c .before)) (c .loop-test .taken) n e
 
 -- what the piece left in the buffer
 wrote : (c : tie.After-write-run Inv-loop μ-loop)
@@ -155,7 +152,7 @@ write-run-requires c κs =
     let s = t .before .before .before .before .before in
     let e = c .before .before .before .least .ensures in
     simp (toZ-ofZ (stride-fits (t .before .before .before .before)), toZ-small _ (column-small t), toZ-ofZ (small-fits _ (from-here t)), toZ-ofZ (share-fits (t .before .loop .runs .«source_offset») (s .args .l .«run_stride» *ℤ pos (t .before .loop .col)) (from-here t) (first-here t)), toZ-ofZ (small-fits _ (first-here t)))
-    (len-pos _ _ _ _ _ _ _ _ _ _ _ (axes-of s) (bounded-of s) (s .pre .4) (listing (t .before)) (t .loop-test .taken) (c .before .before .before .least .result) e, enough t (c .before .before .before .least .result) e, fits _ _ _ _ _ _ _ _ _ _ _ (axes-of s) (bounded-of s) (s .pre .4) (listing (t .before)) (t .loop-test .taken) (c .before .before .before .least .result) e)
+    (len-pos _ _ _ _ _ _ _ _ _ (axes-of s) (bounded-of s) (walk (t .before)) (t .loop-test .taken) (c .before .before .before .least .result) e, enough _ _ _ _ _ _ _ _ _ _ _ (axes-of s) (bounded-of s) (walk (t .before)) (t .loop-test .taken) (s .pre .4) (lists (t .before)) (c .before .before .before .least .result) e, fits _ _ _ _ _ _ _ _ _ (axes-of s) (bounded-of s) (walk (t .before)) (t .loop-test .taken) (c .before .before .before .least .result) e)
 
 -- src/list.rt:81:13
 add-k : tie.Need-add-k Inv-loop μ-loop
@@ -169,7 +166,7 @@ advance-requires : tie.Need-advance-requires Inv-loop μ-loop
 advance-requires c κs =
     let t = c .before .before .before .before .before .before .before in
     let s = t .before .before .before .before .before in
-    (s .pre .0 .places, s .pre .0 .few, stands _ _ _ _ _ _ _ _ _ _ _ (axes-of s) (bounded-of s) (s .pre .4) (listing (t .before)) (t .loop-test .taken) (few-outer s))
+    (s .pre .0 .places, s .pre .0 .few, stands _ _ _ _ _ _ _ _ _ (axes-of s) (bounded-of s) (walk (t .before)) (t .loop-test .taken) (few-outer s))
 
 -- src/list.rt:77:5
 loop-less : tie.Need-loop-less Inv-loop μ-loop
@@ -184,8 +181,10 @@ loop-again c =
     let u = w .before .before .before .before in
     let t = u .before in
     let s = t .before .before .before .before .before in
-    simp (toZ-ofZ (s .fits .base), toZ-ofZ (stride-fits (t .before .before .before .before)))
-    (listing-more _ _ _ _ _ _ _ _ _ _ _ (axes-of s) (bounded-of s) (s .pre .4) (listing (t .before)) (t .loop-test .taken) (u .least .result) (u .least .ensures) (w .write-run .last .0) (wrote w) (c .before .if1 .taken) (c .advance .result) (c .advance .ensures))
+    simp (toZ-ofZ (s .fits .base), toZ-ofZ (stride-fits (t .before .before .before .before))) (
+      walk-more _ _ _ _ _ _ _ _ _ (axes-of s) (bounded-of s) (walk (t .before)) (t .loop-test .taken) (u .least .result) (u .least .ensures) (c .before .if1 .taken) (c .advance .result) (c .advance .ensures),
+      written _ _ _ _ _ _ _ _ _ _ _ (axes-of s) (bounded-of s) (walk (t .before)) (t .loop-test .taken) (s .pre .4) (lists (t .before)) (u .least .result) (u .least .ensures) (w .write-run .last .0) (wrote w),
+    )
 
 -- src/list.rt:77:5
 loop-less-2 : tie.Need-loop-less-2 Inv-loop μ-loop
@@ -200,24 +199,25 @@ loop-again-2 c =
     let u = w .before .before .before .before in
     let t = u .before in
     let s = t .before .before .before .before .before in
-    simp (toZ-ofZ (s .fits .base), toZ-ofZ (stride-fits (t .before .before .before .before)))
-    (listing-end _ _ _ _ _ _ _ _ _ _ _ (axes-of s) (bounded-of s) (s .pre .4) (listing (t .before)) (t .loop-test .taken) (u .least .result) (u .least .ensures) (w .write-run .last .0) (wrote w) (c .if1 .left) _ _)
+    simp (toZ-ofZ (s .fits .base), toZ-ofZ (stride-fits (t .before .before .before .before))) (
+      walk-end _ _ _ _ _ _ _ _ _ (axes-of s) (bounded-of s) (walk (t .before)) (t .loop-test .taken) (u .least .result) (u .least .ensures) (c .if1 .left) _ _,
+      written _ _ _ _ _ _ _ _ _ _ _ (axes-of s) (bounded-of s) (walk (t .before)) (t .loop-test .taken) (s .pre .4) (lists (t .before)) (u .least .result) (u .least .ensures) (w .write-run .last .0) (wrote w),
+    )
 
 -- src/list.rt:66:1
 same-length : tie.Need-same-length Inv-loop μ-loop
 same-length c =
     let s = c .before .before .before .before .before in
-    let p = listing (c .before) in
-    ap length (p .lists) ∙ length-listed _ _ _ _ _ (omega (arith, p .upto, s .pre .4))
+    let p = walk (c .before) in
+    ap length (lists (c .before)) ∙ length-listed _ _ _ _ _ (omega (arith, p .upto, s .pre .4))
 
--- src/list.rt:66:1
 returns : tie.Need-returns Inv-loop μ-loop
 unfolding runOf outerOf listed
 returns c =
     let s = c .before .before .before .before .before in
-    let p = listing (c .before) in
+    let p = walk (c .before) in
     let e : c .before .loop .k ≡ s .args .end = omega (arith, p .upto, c .loop-test .left) in
-    p .lists
+    lists (c .before)
     ∙ ap (λ (k : ℕ). listed (axisOf (s .args .l .«run_len») (s .args .l .«run_stride») ∷ take (s .args .l .«axis_count») (s .args .l .«run_axes»)) (s .args .base) (s .args .start) (k - s .args .start) (s .args .out .now)) e
 
 pub write-offsets-spec : {M : Type 1} → statement M
