@@ -1,21 +1,25 @@
--- Walking a range, piece by piece: the cursor stands at the run of element k, and along the run the offsets are a stride apart.
+-- The pieces of a range: along a run the offsets are a stride apart, and the next piece begins where this one ends.
 -- Assumes nothing.
 use Prim.Native.Nat.{ℕ, zero, suc, _+_, _-_, _*_, _/_, _%_, _^_, _≤_, _<_, min}
 use mathlib.Core.Path.{_≡_, refl, sym, _∙_, ap, subst}
 use mathlib.Core.List.{List, [], _∷_}
 use native.Mathlib.Omega.{arith}
 use native.Mathlib.Nat.{div-add-mod', mod-lt}
-use lib.ListN.{length}
+use mathlib.Core.Bool.{Bool, cond}
+use borrow.Author.Tests.{lt-ltb}
+use lib.ListN.{length, length-take}
 use lib.Arith.{digits-div, digits-mod}
 use lib.IntN.{ℤ, pos, _+ℤ_, _*ℤ_}
-use mir.Val.{SFits}
-use mir.Syntax.{w64}
 use Rattle.integers.proofs.Difference.{ints, atoms}
 use Rattle.layout.specs.declared.axis.ReduceOuterAxis.{ReduceOuterAxis}
 use Rattle.layout.specs.Axes.{PLACES, axisOf}
 use Rattle.offsets.specs.declared.cursor.ReduceOuterCursor.{ReduceOuterCursor}
 use Rattle.offsets.specs.Elements.{offset}
-use Rattle.offsets.specs.Cursors.{Axes, Bounded, Stands, cursorAt, advanced}
+use Rattle.layout.specs.declared.traversal.FullTraversal.{FullTraversal}
+use Rattle.offsets.specs.Cursors.{Axis, Axes, Bounded, Stands, cursorAt, advanced}
+use Rattle.offsets.specs.Traversals.{runOf, outerOf, Traversal}
+use Rattle.offsets.specs.declared.pieces.RangeCursor.{RangeCursor}
+use Rattle.offsets.specs.Pieces.{pieceLength, rangeAt, pieceOf, OnRange}
 use Rattle.offsets.proofs.Stepping.{offset-cons, offset-moved, axis-small, axes-at, bounded-after, bounded-offset, Small, small-fits, advance-next}
 
 -- ---- along a run
@@ -40,87 +44,112 @@ module _ (a : ReduceOuterAxis) (xs : List ReduceOuterAxis) (base : ℤ) (k : ℕ
   pub at-column : offset xs base (k / a .extent) +ℤ a .«source_step» *ℤ pos (k % a .extent) ≡ offset (a ∷ xs) base k
   at-column = sym (offset-cons a xs base k ∙ offset-moved xs base (a .«source_step» *ℤ pos (k % a .extent)) (k / a .extent))
 
--- ---- the walk: at k, with the column and the cursor of its run
-pub record Walk (n : ℕ) (outer : List ReduceOuterAxis) (base : ℤ) (start end : ℕ) (col k : ℕ) (runs : ReduceOuterCursor) : Type 0 where
-  pub from : start ≤ k
-  pub upto : k ≤ end
-  pub column : k < end → col ≡ k % n
-  pub run : k < end → runs ≡ cursorAt outer base (k / n)
+-- ---- the piece at element k
+module _ (l : FullTraversal) (t : Traversal l) (base : ℤ) (b : Bounded (runOf l ∷ outerOf l) base) (k : ℕ) where
+  run-axis : Axis (runOf l)
+  run-axis = axes-at (runOf l) (outerOf l) (runOf l ∷ outerOf l) refl (t .axes) .0
 
-pub walk-none : (n : ℕ) (outer : List ReduceOuterAxis) (base : ℤ) (start end : ℕ) (runs : ReduceOuterCursor) → start < end → runs ≡ cursorAt outer base (start / n)
-    → Walk n outer base start end (start % n) start runs
-walk-none n outer base start end runs h e = record { from = omega arith; upto = omega arith; column = λ _. refl; run = λ _. e }
+  pub outer-axes : Axes (outerOf l)
+  outer-axes = axes-at (runOf l) (outerOf l) (runOf l ∷ outerOf l) refl (t .axes) .1
 
-module _ (n : ℕ) (s : ℤ) (outer : List ReduceOuterAxis) (base : ℤ) (start end : ℕ) (col k : ℕ) (runs : ReduceOuterCursor)
-    (w : Axes (axisOf n s ∷ outer)) (b : Bounded (axisOf n s ∷ outer) base) (p : Walk n outer base start end col k runs) (h : k < end) where
-  pub some : 1 ≤ n
-  unfolding Axes axisOf
-  some = w .0 .1
+  pub outer-bounded : Bounded (outerOf l) base
+  outer-bounded = bounded-after (runOf l) (outerOf l) base b
 
-  pub small-run : n ≤ 2 ^ 63
-  unfolding Axes axisOf
-  small-run = axis-small (axisOf n s) (w .0)
+  pub some : 1 ≤ l .«run_len»
+  unfolding runOf axisOf
+  some = run-axis .1
 
-  pub column-lt : col < n
-  column-lt = rw (p .column h) (mod-lt k some)
+  pub column-small : k % l .«run_len» < 2 ^ 63
+  unfolding runOf axisOf
+  column-small = omega (arith, mod-lt k some, axis-small (runOf l) run-axis)
 
-  outer-axes : Axes outer
-  outer-axes = axes-at (axisOf n s) outer (axisOf n s ∷ outer) refl w .1
+  -- the cursor's offset, and with the column's share
+  pub run-small : Small (offset (outerOf l) base (k / l .«run_len»))
+  run-small = bounded-offset (outerOf l) base (k / l .«run_len») outer-axes outer-bounded
 
-  outer-bounded : Bounded outer base
-  outer-bounded = bounded-after (axisOf n s) outer base b
+  pub first-is : offset (outerOf l) base (k / l .«run_len») +ℤ l .«run_stride» *ℤ pos (k % l .«run_len») ≡ offset (runOf l ∷ outerOf l) base k
+  unfolding runOf axisOf
+  first-is = at-column (axisOf (l .«run_len») (l .«run_stride»)) (outerOf l) base k some
 
-  -- the cursor's offset, the run's column and their sum
-  pub run-offset : runs .«source_offset» ≡ offset outer base (k / n)
+  pub first-small : Small (offset (outerOf l) base (k / l .«run_len») +ℤ l .«run_stride» *ℤ pos (k % l .«run_len»))
+  first-small = rw first-is (bounded-offset (runOf l ∷ outerOf l) base k (t .axes) b)
+
+  pub run-stands : Stands (outerOf l) (cursorAt (outerOf l) base (k / l .«run_len»))
+  unfolding outerOf
+  run-stands =
+      record { base = base; index = k / l .«run_len»; axes = outer-axes; few = simp length-take (omega (arith, t .few)); bounded = outer-bounded; at = refl }
+
+  module _ (end : ℕ) (h : k < end) where
+    pub len-pos : 1 ≤ pieceLength (l .«run_len») end k
+    len-pos = omega (arith, mod-lt k some)
+
+    pub len-run : k % l .«run_len» + pieceLength (l .«run_len») end k ≤ l .«run_len»
+    len-run = omega (arith, mod-lt k some)
+
+    pub len-end : k + pieceLength (l .«run_len») end k ≤ end
+    len-end = omega arith
+
+    -- every offset of the piece is an element's
+    pub piece-offset : (i : ℕ) → i < pieceLength (l .«run_len») end k → offset (runOf l ∷ outerOf l) base k +ℤ l .«run_stride» *ℤ pos i ≡ offset (runOf l ∷ outerOf l) base (k + i)
+    unfolding runOf axisOf
+    piece-offset i q = sym (along (axisOf (l .«run_len») (l .«run_stride»)) (outerOf l) base k some i (omega (arith, len-run)))
+
+    pub piece-small : (i : ℕ) → i < pieceLength (l .«run_len») end k → Small (offset (runOf l ∷ outerOf l) base k +ℤ l .«run_stride» *ℤ pos i)
+    piece-small i q = rw (piece-offset i q) (bounded-offset (runOf l ∷ outerOf l) base (k + i) (t .axes) b)
+
+    -- a run that is done ends at a multiple of the run length
+    whole : k + pieceLength (l .«run_len») end k < end → k + pieceLength (l .«run_len») end k ≡ (k / l .«run_len» + 1) * l .«run_len» + 0
+    whole q = let d = div-add-mod' k (l .«run_len») in omega (arith, mod-lt k some)
+
+    -- the piece at the cursor of k
+    pub piece-first : pieceOf l end (rangeAt l base k) .first ≡ offset (runOf l ∷ outerOf l) base k
+    unfolding pieceOf rangeAt cursorAt
+    piece-first = first-is
+
+    pub piece-len : pieceOf l end (rangeAt l base k) .len ≡ pieceLength (l .«run_len») end k
+    unfolding pieceOf rangeAt
+    piece-len = refl
+
+    pub piece-at : pieceOf l end (rangeAt l base k) .next .at ≡ k + pieceLength (l .«run_len») end k
+    unfolding pieceOf rangeAt
+    piece-at = refl
+
+    pub piece-next : k + pieceLength (l .«run_len») end k < end → pieceOf l end (rangeAt l base k) .next ≡ rangeAt l base (k + pieceLength (l .«run_len») end k)
+    unfolding pieceOf rangeAt
+    piece-next q =
+        ap (λ (x : Bool). record { at = k + len; col = 0; runs = cond x (advanced (outerOf l) (cursorAt (outerOf l) base (k / l .«run_len»))) (cursorAt (outerOf l) base (k / l .«run_len»)) }) (lt-ltb (k + len) end q)
+        ∙ ap (λ (c : ReduceOuterCursor). record { at = k + len; col = 0; runs = c }) (advance-next (outerOf l) base (k / l .«run_len») outer-axes)
+        ∙ ap (λ (d : ℕ). record { at = k + len; col = d; runs = cursorAt (outerOf l) base (k / l .«run_len» + 1) }) (sym (ap (λ (j : ℕ). j % l .«run_len») (whole q) ∙ digits-mod (k / l .«run_len» + 1) some))
+        ∙ ap (λ (d : ℕ). record { at = k + len; col = (k + len) % l .«run_len»; runs = cursorAt (outerOf l) base d }) (sym (ap (λ (j : ℕ). j / l .«run_len») (whole q) ∙ digits-div (k / l .«run_len» + 1) some))
+      where
+        len : ℕ
+        len = pieceLength (l .«run_len») end k
+
+-- ---- a cursor that stands on a range
+module _ (l : FullTraversal) (t : Traversal l) (c : RangeCursor) (o : OnRange l c) where
+  col-is : c .col ≡ c .at % l .«run_len»
+  unfolding rangeAt
+  col-is = ap (λ (x : RangeCursor). x .col) (o .stands)
+
+  runs-are : c .runs ≡ cursorAt (outerOf l) (o .base) (c .at / l .«run_len»)
+  unfolding rangeAt
+  runs-are = ap (λ (x : RangeCursor). x .runs) (o .stands)
+
+  from-is : c .runs .«source_offset» ≡ offset (outerOf l) (o .base) (c .at / l .«run_len»)
   unfolding cursorAt
-  run-offset = ap (λ (c : ReduceOuterCursor). c .«source_offset») (p .run h)
+  from-is = ap (λ (x : ReduceOuterCursor). x .«source_offset») runs-are
 
-  pub run-small : Small (runs .«source_offset»)
-  run-small = rw run-offset (bounded-offset outer base (k / n) outer-axes outer-bounded)
+  pub on-column : c .col < l .«run_len»
+  on-column = rw col-is (mod-lt (c .at) (some l t (o .base) (o .bounded) (c .at)))
 
-  pub first-is : runs .«source_offset» +ℤ s *ℤ pos col ≡ offset (axisOf n s ∷ outer) base k
-  unfolding axisOf
-  first-is = ap (λ (z : ℤ). z +ℤ s *ℤ pos col) run-offset ∙ ap (λ (d : ℕ). offset outer base (k / n) +ℤ s *ℤ pos d) (p .column h) ∙ at-column (axisOf n s) outer base k some
+  pub on-column-small : c .col < 2 ^ 63
+  on-column-small = rw col-is (column-small l t (o .base) (o .bounded) (c .at))
 
-  pub first-small : Small (runs .«source_offset» +ℤ s *ℤ pos col)
-  first-small = rw first-is (bounded-offset (axisOf n s ∷ outer) base k w b)
+  pub on-run : Small (c .runs .«source_offset»)
+  on-run = rw from-is (run-small l t (o .base) (o .bounded) (c .at))
 
-  pub stands : length outer ≤ PLACES → Stands outer runs
-  stands f = record { base = base; index = k / n; axes = outer-axes; few = f; bounded = outer-bounded; at = p .run h }
+  pub on-first : Small (c .runs .«source_offset» +ℤ l .«run_stride» *ℤ pos (c .col))
+  on-first = rw from-is (rw col-is (first-small l t (o .base) (o .bounded) (c .at)))
 
-  module _ (len : ℕ) (e : len ≡ min (n - col) (end - k)) where
-    pub len-pos : 1 ≤ len
-    len-pos = omega (arith, e, column-lt, h)
-
-    pub len-run : k % n + len ≤ n
-    len-run = omega (arith, e, column-lt, p .column h)
-
-    pub len-end : k + len ≤ end
-    len-end = omega (arith, e, h)
-
-    pub fits : (i : ℕ) → i < len → SFits w64 ((runs .«source_offset» +ℤ s *ℤ pos col) +ℤ s *ℤ pos i)
-    unfolding axisOf
-    fits i l =
-        rw (first-is)
-        (subst (SFits w64) (along (axisOf n s) outer base k some i (omega (arith, len-run)))
-        (small-fits _ (bounded-offset (axisOf n s ∷ outer) base (k + i) w b)))
-
-    -- the last piece: nothing is left
-    pub walk-end : end ≤ k + len → (c : ℕ) (q : ReduceOuterCursor) → Walk n outer base start end c (k + len) q
-    walk-end l c q = record { from = omega (arith, p .from); upto = len-end; column = λ m. absurd (no m); run = λ m. absurd (no m) }
-      where
-        no : k + len < end → ⊥
-        no m = omega arith
-
-    -- a whole run is done: the next begins at its first column
-    pub walk-more : k + len < end → (q : ReduceOuterCursor) → q ≡ advanced outer runs → Walk n outer base start end 0 (k + len) q
-    walk-more l q a =
-        record {
-          from = omega (arith, p .from);
-          upto = len-end;
-          column = λ m. sym (ap (λ (j : ℕ). j % n) whole ∙ digits-mod (k / n + 1) some);
-          run = λ m. a ∙ ap (advanced outer) (p .run h) ∙ advance-next outer base (k / n) outer-axes ∙ ap (cursorAt outer base) (sym (ap (λ (j : ℕ). j / n) whole ∙ digits-div (k / n + 1) some));
-        }
-      where
-        whole : k + len ≡ (k / n + 1) * n + 0
-        whole = let q = div-add-mod' k n in omega (arith, e, l, p .column h, column-lt)
+  pub on-stands : Stands (outerOf l) (c .runs)
+  on-stands = subst (Stands (outerOf l)) (sym runs-are) (run-stands l t (o .base) (o .bounded) (c .at))

@@ -16,9 +16,16 @@ use Rattle.layout.specs.declared.axis.ReduceOuterAxis.{ReduceOuterAxis}
 use Rattle.offsets.specs.Elements.{offset}
 use Rattle.offsets.specs.Lists.{steps, offsetsFrom}
 use Rattle.layout.specs.Axes.{axisOf}
-use Rattle.offsets.specs.declared.cursor.ReduceOuterCursor.{ReduceOuterCursor}
-use Rattle.offsets.specs.Cursors.{Axes, Bounded}
-use Rattle.offsets.proofs.Walking.{split, along, Walk, some, first-is, len-run, len-end}
+use Rattle.offsets.specs.Cursors.{Bounded}
+use mir.Val.{SFits}
+use mir.Syntax.{w64}
+use Rattle.layout.specs.declared.traversal.FullTraversal.{FullTraversal}
+use Rattle.offsets.specs.declared.pieces.RangeCursor.{RangeCursor}
+use Rattle.offsets.specs.declared.pieces.RangePiece.{RangePiece}
+use Rattle.offsets.specs.Traversals.{runOf, outerOf, Traversal}
+use Rattle.offsets.specs.Pieces.{pieceLength, rangeAt, pieceOf}
+use Rattle.offsets.proofs.Stepping.{small-fits, bounded-offset}
+use Rattle.offsets.proofs.Walking.{split, along, some, len-pos, len-run, len-end, piece-small, piece-first, piece-len, piece-at, piece-next}
 
 -- ---- numbers a stride apart
 pub steps-more : (z s : ℤ) (n : ℕ) → steps z s (n + 1) ≡ steps z s n ++ (z +ℤ s *ℤ pos n) ∷ []
@@ -141,34 +148,88 @@ filled-over out at z s v n h =
     ap (λ (l : List ℤ). l ++ steps z s n ++ drop (at + n) (set out at v)) (take-set-le at out at v (omega arith))
     ∙ ap (λ (l : List ℤ). take at out ++ steps z s n ++ l) (drop-set-lt (at + n) out at v (omega arith))
 
--- ---- the loop over the pieces: the offsets up to k are listed
-module _ (n : ℕ) (s : ℤ) (outer : List ReduceOuterAxis) (base : ℤ) (start end : ℕ) (out₀ out : List ℤ) (col k : ℕ) (runs : ReduceOuterCursor)
-    (w : Axes (axisOf n s ∷ outer)) (b : Bounded (axisOf n s ∷ outer) base) (p : Walk n outer base start end col k runs) (h : k < end)
-    (room : end - start ≤ length out₀) (lists : out ≡ listed (axisOf n s ∷ outer) base start (k - start) out₀) (len : ℕ) (e : len ≡ min (n - col) (end - k)) where
-  pub enough : k - start + len ≤ length out
-  enough =
-      omega (arith, ap length lists, length-listed (axisOf n s ∷ outer) base start (k - start) out₀ (omega (arith, p .from)), len-end n s outer base start end col k runs w b p h len e, p .from)
+-- ---- the loop over the pieces: the cursor stands at c .at while that is below the end, and the offsets before it are listed
+pub record Listing (l : FullTraversal) (base : ℤ) (start end : ℕ) (out₀ out : List ℤ) (c : RangeCursor) : Type 0 where
+  pub from : start ≤ c .at
+  pub upto : c .at ≤ end
+  pub stands : c .at < end → c ≡ rangeAt l base (c .at)
+  pub lists : out ≡ listed (runOf l ∷ outerOf l) base start (c .at - start) out₀
 
-  pub written : (r : List ℤ) → r ≡ take (k - start) out ++ steps (runs .«source_offset» +ℤ s *ℤ pos col) s len ++ drop (k - start + len) out → r ≡ listed (axisOf n s ∷ outer) base start (k + len - start) out₀
-  unfolding axisOf
-  written r g =
-      g
-      ∙ ap (λ (z : ℤ). take (k - start) out ++ steps z s len ++ drop (k - start + len) out) (first-is n s outer base start end col k runs w b p h)
-      ∙ ap (λ (l : List ℤ). take (k - start) out ++ l ++ drop (k - start + len) out) (piece (axisOf n s) outer base len k (some n s outer base start end col k runs w b p h) (len-run n s outer base start end col k runs w b p h len e))
-      ∙ ap (λ (o : List ℤ). take (k - start) o ++ offsetsFrom (axisOf n s ∷ outer) base k len ++ drop (k - start + len) o) lists
-      ∙ ap (λ (j : ℕ). take (k - start) (listed (axisOf n s ∷ outer) base start (k - start) out₀) ++ offsetsFrom (axisOf n s ∷ outer) base j len ++ drop (k - start + len) (listed (axisOf n s ∷ outer) base start (k - start) out₀)) back
-      ∙ listed-more (axisOf n s ∷ outer) base start (k - start) len out₀ (omega (arith, len-end n s outer base start end col k runs w b p h len e, p .from))
-      ∙ ap (λ (m : ℕ). listed (axisOf n s ∷ outer) base start m out₀) ahead
-    where
-      back : k ≡ start + (k - start)
-      back = omega (arith, p .from)
-
-      ahead : k - start + len ≡ k + len - start
-      ahead = omega (arith, p .from)
-
-pub listed-none : (xs : List ReduceOuterAxis) (base : ℤ) (start : ℕ) (out : List ℤ) → out ≡ listed xs base start (start - start) out
-unfolding listed offsetsFrom
-listed-none xs base start out = ap (λ (m : ℕ). offsetsFrom xs base start m ++ drop m out) z
+pub listing-none : (l : FullTraversal) (base : ℤ) (start end : ℕ) (out : List ℤ) (c : RangeCursor) → start < end → c ≡ rangeAt l base start → Listing l base start end out out c
+unfolding rangeAt listed offsetsFrom
+listing-none l base start end out c h e =
+    let k : c .at ≡ start = ap (λ (x : RangeCursor). x .at) e in
+    record {
+      from = omega arith;
+      upto = omega arith;
+      stands = λ _. e ∙ ap (rangeAt l base) (sym k);
+      lists = ap (λ (m : ℕ). offsetsFrom (runOf l ∷ outerOf l) base start m ++ drop m out) (z k);
+    }
   where
-    z : 0 ≡ start - start
-    z = omega arith
+    z : c .at ≡ start → 0 ≡ c .at - start
+    z k = omega arith
+
+-- what the piece p at the cursor gives the loop
+pub record Taken (l : FullTraversal) (base : ℤ) (start end : ℕ) (out₀ out : List ℤ) (c : RangeCursor) (p : RangePiece) : Type 0 where
+  pub some-len : 1 ≤ p .len
+  pub enough : c .at - start + p .len ≤ length out
+  pub first-fits : SFits w64 (p .first)
+  pub offsets-fit : (i : ℕ) → i < p .len → SFits w64 (p .first +ℤ l .«run_stride» *ℤ pos i)
+  pub next-at : p .next .at ≡ c .at + p .len
+  pub more : (r : List ℤ) → r ≡ take (c .at - start) out ++ steps (p .first) (l .«run_stride») (p .len) ++ drop (c .at - start + p .len) out → Listing l base start end out₀ r (p .next)
+
+module _ (l : FullTraversal) (t : Traversal l) (base : ℤ) (b : Bounded (runOf l ∷ outerOf l) base) (start end : ℕ) (out₀ out : List ℤ) (c : RangeCursor) (room : end - start ≤ length out₀)
+    (q : Listing l base start end out₀ out c) (h : c .at < end) (p : RangePiece) (e : p ≡ pieceOf l end c) where
+  piece-is : p ≡ pieceOf l end (rangeAt l base (c .at))
+  piece-is = e ∙ ap (pieceOf l end) (q .stands h)
+
+  len-is : p .len ≡ pieceLength (l .«run_len») end (c .at)
+  len-is = ap (λ (x : RangePiece). x .len) piece-is ∙ piece-len l t base b (c .at) end h
+
+  first-of : p .first ≡ offset (runOf l ∷ outerOf l) base (c .at)
+  first-of = ap (λ (x : RangePiece). x .first) piece-is ∙ piece-first l t base b (c .at) end h
+
+  first-fits : SFits w64 (p .first)
+  first-fits = rw first-of (small-fits _ (bounded-offset (runOf l ∷ outerOf l) base (c .at) (t .axes) b))
+
+  next-at : p .next .at ≡ c .at + p .len
+  next-at = ap (λ (x : RangePiece). x .next .at) piece-is ∙ piece-at l t base b (c .at) end h ∙ ap (λ (n : ℕ). c .at + n) (sym len-is)
+
+  some-len : 1 ≤ p .len
+  some-len = rw len-is (len-pos l t base b (c .at) end h)
+
+  enough : c .at - start + p .len ≤ length out
+  enough =
+      omega (arith, ap length (q .lists), length-listed (runOf l ∷ outerOf l) base start (c .at - start) out₀ (omega (arith, q .from)), len-is, len-end l t base b (c .at) end h, q .from)
+
+  offsets-fit : (i : ℕ) → i < p .len → SFits w64 (p .first +ℤ l .«run_stride» *ℤ pos i)
+  offsets-fit i k = rw first-of (small-fits _ (piece-small l t base b (c .at) end h i (rw len-is at k)))
+
+  listing-more : (r : List ℤ) → r ≡ take (c .at - start) out ++ steps (p .first) (l .«run_stride») (p .len) ++ drop (c .at - start + p .len) out → Listing l base start end out₀ r (p .next)
+  unfolding runOf axisOf
+  listing-more r g =
+      record {
+        from = omega (arith, next-at, q .from);
+        upto = omega (arith, next-at, len-is, len-end l t base b (c .at) end h);
+        stands = λ k.
+            ap (λ (x : RangePiece). x .next) piece-is
+            ∙ piece-next l t base b (c .at) end h (omega (arith, next-at, len-is, k))
+            ∙ ap (λ (n : ℕ). rangeAt l base (c .at + n)) (sym len-is) ∙ ap (rangeAt l base) (sym next-at);
+        lists =
+            g
+            ∙ ap (λ (z : ℤ). take (c .at - start) out ++ steps z (l .«run_stride») (p .len) ++ drop (c .at - start + p .len) out) first-of
+            ∙ ap (λ (x : List ℤ). take (c .at - start) out ++ x ++ drop (c .at - start + p .len) out) (piece (axisOf (l .«run_len») (l .«run_stride»)) (outerOf l) base (p .len) (c .at) (some l t base b (c .at)) (rw len-is (len-run l t base b (c .at) end h)))
+            ∙ ap (λ (o : List ℤ). take (c .at - start) o ++ offsetsFrom (runOf l ∷ outerOf l) base (c .at) (p .len) ++ drop (c .at - start + p .len) o) (q .lists)
+            ∙ ap (λ (j : ℕ). take (c .at - start) (listed (runOf l ∷ outerOf l) base start (c .at - start) out₀) ++ offsetsFrom (runOf l ∷ outerOf l) base j (p .len) ++ drop (c .at - start + p .len) (listed (runOf l ∷ outerOf l) base start (c .at - start) out₀)) back
+            ∙ listed-more (runOf l ∷ outerOf l) base start (c .at - start) (p .len) out₀ (omega (arith, len-is, len-end l t base b (c .at) end h, q .from))
+            ∙ ap (λ (m : ℕ). listed (runOf l ∷ outerOf l) base start m out₀) ahead;
+      }
+    where
+      back : c .at ≡ start + (c .at - start)
+      back = omega (arith, q .from)
+
+      ahead : c .at - start + p .len ≡ p .next .at - start
+      ahead = omega (arith, q .from, next-at)
+
+  pub listing-taken : Taken l base start end out₀ out c p
+  listing-taken = record { some-len = some-len; enough = enough; first-fits = first-fits; offsets-fit = offsets-fit; next-at = next-at; more = listing-more }

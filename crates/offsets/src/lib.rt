@@ -2,3 +2,4 @@
 pub mod bounds;
 pub mod cursor;
 pub mod list;
+pub mod pieces;

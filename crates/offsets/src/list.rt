@@ -2,7 +2,6 @@
 ghost use mathlib.Core.Path.{_≡_};
 ghost use mathlib.Core.List.{_∷_, _++_};
 ghost use Prim.Native.Nat.{ℕ, _+_, _-_, _≤_, _<_};
-ghost use Prim.Native.Nat.{min};
 ghost use lib.ListN.{length, take, drop};
 ghost use lib.IntN.{pos, _+ℤ_, _*ℤ_};
 ghost use mir.Val.{SFits};
@@ -10,7 +9,6 @@ ghost use mir.Syntax.{w64};
 ghost use Rattle.offsets.specs.Cursors.{Bounded};
 ghost use Rattle.offsets.specs.Traversals.{runOf, outerOf, Traversal};
 ghost use Rattle.offsets.specs.Lists.{rangeOf, steps, offsetsFrom, listCode, listBuffer};
-use crate::cursor::ReduceOuterCursor;
 use layout::traversal::Compiled;
 use layout::traversal::FullTraversal;
 
@@ -57,32 +55,22 @@ fn write_run(out: &mut [i64], at: usize, count: usize, first: i64, stride: i64)
     }
 }
 
-fn least(a: u64, b: u64) -> u64
-    ensures { λ r. ⌜ r ≡ min a b ⌝ }
-{
-    if a <= b { a } else { b }
-}
-
 fn write_offsets(l: FullTraversal, base: i64, start: u64, end: u64, out: &mut [i64])
     requires { ⌜ Traversal l × Bounded (runOf l ∷ outerOf l) base × (start < end) × (end ≤ l .total) × (end - start ≤ length (now out)) ⌝ }
     ensures { λ _. ⌜ now (out .exit) ≡ offsetsFrom (runOf l ∷ outerOf l) base start (end - start) ++ drop (end - start) (now (out .entry)) ⌝ }
 {
-    let n = l.run_len;
     let stride = l.run_stride;
-    let count = l.axis_count;
-    let axes = l.run_axes;
-    let mut col = start % n;
-    let mut runs = ReduceOuterCursor::decode(start / n, base, count, axes);
-    let mut k = start;
-    while k < end {
-        let len = least(n - col, end - k);
-        let first = runs.source_offset + stride * (col as i64);
-        write_run(&mut *out, (k - start) as usize, len as usize, first, stride);
-        k = k + len;
-        if k < end {
-            col = 0;
-            runs = runs.advance(count, axes);
-        }
+    let mut c = crate::pieces::begin(l, base, start);
+    while c.at < end {
+        let p = crate::pieces::next_piece(l, end, c);
+        write_run(
+            &mut *out,
+            (c.at - start) as usize,
+            p.len as usize,
+            p.first,
+            stride,
+        );
+        c = p.next;
     }
 }
 

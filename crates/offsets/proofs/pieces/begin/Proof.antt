@@ -1,0 +1,40 @@
+-- `offsets::pieces::begin` meets its contract.
+-- Assumes nothing.
+use Prim.Native.Nat.{_%_}
+use mathlib.Core.Path.{_≡_, refl, sym, _∙_, ap, subst}
+use mir.Facts.{toZ-ofZ}
+use Rattle.offsets.specs.declared.cursor.ReduceOuterCursor.{ReduceOuterCursor}
+use Rattle.offsets.specs.Traversals.{outerOf}
+use Rattle.offsets.specs.Pieces.{rangeAt}
+use Rattle.offsets.proofs.Walking.{some, outer-axes, outer-bounded}
+use Rattle.offsets.proofs.pieces.begin.Statement.{statement}
+use Rattle.offsets.proofs.pieces.begin.Tie as tie
+use Rattle.offsets.proofs.pieces.begin.Reads as reads
+use Rattle.offsets.proofs.pieces.begin.Lts as lts
+use Rattle.offsets.proofs.cursor.ReduceOuterCursor.decode.Reads as decode-reads
+
+-- src/pieces.rt:40:14
+rem-t7 : tie.Need-rem-t7
+rem-t7 c = let s = c .before in some (s .args .l) (s .pre .0) (s .args .base) (s .pre .1) (s .args .start)
+
+-- src/pieces.rt:41:41
+div-decode : tie.Need-div-decode
+div-decode c = rem-t7 c
+
+-- src/pieces.rt:41:15
+decode-requires : tie.Need-decode-requires
+unfolding outerOf
+decode-requires c κs =
+    let s = c .before in
+    simp (toZ-ofZ (s .fits .base))
+    (s .pre .0 .places, s .pre .0 .few, outer-axes (s .args .l) (s .pre .0) (s .args .base) (s .pre .1) (s .args .start), outer-bounded (s .args .l) (s .pre .0) (s .args .base) (s .pre .1) (s .args .start))
+
+-- src/pieces.rt:31:1
+returns : tie.Need-returns
+unfolding rangeAt outerOf
+returns c =
+    let s = c .before .before in
+    ap (λ (r : ReduceOuterCursor). record { at = s .args .start; col = s .args .start % s .args .l .«run_len»; runs = r }) (simp (toZ-ofZ (s .fits .base)) at (c .decode .ensures))
+
+pub begin-spec : {M : Type 1} → statement M
+begin-spec = tie.close (tie.spec rem-t7 div-decode decode-requires returns)

@@ -1,0 +1,72 @@
+// A range, cut into pieces before each element number that is a multiple of the run length.
+ghost use mathlib.Core.Path.{_≡_};
+ghost use mathlib.Core.List.{_∷_};
+ghost use Prim.Native.Nat.{_<_, min};
+ghost use Rattle.offsets.specs.Cursors.{Bounded};
+ghost use Rattle.offsets.specs.Traversals.{runOf, outerOf, Traversal};
+ghost use Rattle.offsets.specs.Pieces.{rangeAt, pieceOf, OnRange};
+use crate::cursor::ReduceOuterCursor;
+use layout::traversal::FullTraversal;
+
+// An element number of a range, with its column in the run and the cursor of the run.
+pub struct RangeCursor {
+    pub at: u64,
+    pub col: u64,
+    pub runs: ReduceOuterCursor,
+}
+
+// A piece: the offset of its first element, how many elements it has, and where the next begins.
+pub struct RangePiece {
+    pub first: i64,
+    pub len: u64,
+    pub next: RangeCursor,
+}
+
+fn least(a: u64, b: u64) -> u64
+    ensures { λ r. ⌜ r ≡ min a b ⌝ }
+{
+    if a <= b { a } else { b }
+}
+
+pub fn begin(l: FullTraversal, base: i64, start: u64) -> RangeCursor
+    requires { ⌜ Traversal l × Bounded (runOf l ∷ outerOf l) base ⌝ }
+    ensures { λ r. ⌜ r ≡ rangeAt l base start ⌝ }
+{
+    let n = l.run_len;
+    let count = l.axis_count;
+    let axes = l.run_axes;
+    RangeCursor {
+        at: start,
+        col: start % n,
+        runs: ReduceOuterCursor::decode(start / n, base, count, axes),
+    }
+}
+
+// The piece at a cursor that is not at the end. The cursor of the runs advances only if another piece follows.
+pub fn next_piece(l: FullTraversal, end: u64, c: RangeCursor) -> RangePiece
+    requires { ⌜ Traversal l × (c .at < end) × OnRange l c ⌝ }
+    ensures { λ r. ⌜ r ≡ pieceOf l end c ⌝ }
+{
+    let at = c.at;
+    let col = c.col;
+    let runs = c.runs;
+    let len = least(l.run_len - col, end - at);
+    let first = runs.source_offset + l.run_stride * (col as i64);
+    let k = at + len;
+    if k < end {
+        let count = l.axis_count;
+        let axes = l.run_axes;
+        let next = RangeCursor {
+            at: k,
+            col: 0,
+            runs: runs.advance(count, axes),
+        };
+        return RangePiece { first, len, next };
+    }
+    let next = RangeCursor {
+        at: k,
+        col: 0,
+        runs,
+    };
+    RangePiece { first, len, next }
+}
