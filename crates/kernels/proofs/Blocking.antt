@@ -1,0 +1,325 @@
+-- Blocks of 64: with no bad rate they are the plain product's piece, whichever blocks are multiplied unsplit; the mark is set exactly if some rate is bad.
+-- Assumes nothing.
+use Prim.Native.Nat.{ℕ, zero, suc, _+_, _-_, _*_, _/_, _≤_, _<_, zero-le}
+use mathlib.Core.Path.{_≡_, refl, sym, ap, _∙_, subst}
+use mathlib.Core.Bool.{Bool, true, false, not, cond, _||_}
+use mathlib.Core.List.{List, [], _∷_, map, map-append}
+use native.Mathlib.Nat.{le-refl, mul-le-mul, mul-le-mul-left}
+use native.Mathlib.Omega.{arith}
+use lib.ListN.{length, getD, set, take, drop, replicate, length-set, length-replicate, getD-replicate, length-take, length-drop, take-append-drop, length-map}
+use lib.Seq.{set-getD}
+use lib.IntN.{ℤ, pos, _+ℤ_, +ℤ-idr}
+use lib.Arith.{lt-of-le-ne}
+use lib.Dec.{T, ltb, lit≤}
+use lib.Ieee.{Float, nan, fin, binary64, fits, isNan}
+use borrow.Author.Tests.{lt-ltb, le-ltb, ltb-false}
+use Rattle.binary64.specs.Product.{productOf}
+use Rattle.binary64.specs.Factor.{Factor, unit, times}
+use Rattle.binary64.specs.Splitting.{isBad, rate, split}
+use Rattle.binary64.proofs.Splitting.{split-bad}
+use Rattle.accumulator.specs.declared.StableProductFloatAcc.{StableProductFloatAcc}
+use Rattle.accumulator.specs.Joining.{identityAcc}
+use Rattle.kernels.specs.declared.blocks.Lanes.{Lanes}
+use Rattle.kernels.specs.Lanes.{Each, feed, laneOf, inOrder, every, some}
+use Rattle.kernels.specs.Plain.{laneTimes, lanes, pieceProduct}
+use Rattle.kernels.specs.Blocks.{startLanes, mOf, eOf, unsplitStep, splitStep, inBounds, renormLane, renorm, unsplit, block, blocks, laneIn, lanesIn, contiguous}
+use Rattle.kernels.specs.Pieces.{Rate, accOf}
+use Rattle.kernels.proofs.Feeding.{feed-related, feed-append, feed-eights, feed-mark, order-keeps, order-related, and-both, every-each, each-map, each-both, each-take, each-drop, some-append, some-none, or-none, or-assoc}
+use Rattle.kernels.proofs.Factors.{lane-lt, set-cases, times-again}
+use Rattle.kernels.proofs.Standing.{Stands, stands-more, stands-times, stands-split, stands-rate, stands-whole, stands-one, stands-acc}
+use Rattle.kernels.proofs.Bounds.{within-good, within-exponent}
+
+-- values of binary64, as all f64 are
+abbrev Value : Float → Type 0
+Value x = T (fits binary64 x)
+
+-- ---- eight lanes stand for eight factors, lane k within b k of [1, 2)
+pub record Held (b : ℕ → ℕ) (s : Lanes) (fs : List Factor) : Type 0 where
+  pub m-long : length (s .m) ≡ 8
+  pub e-long : length (s .e) ≡ 8
+  pub f-long : length fs ≡ 8
+  pub at : (k : ℕ) → k < 8 → Stands (b k) (mOf s k) (eOf s k) (getD fs k (unit 52))
+
+held-same : (b b' : ℕ → ℕ) (s s' : Lanes) (fs fs' : List Factor) → s .m ≡ s' .m → s .e ≡ s' .e → fs ≡ fs' → ((k : ℕ) → k < 8 → b k ≤ b' k) → Held b s fs → Held b' s' fs'
+held-same b b' s s' fs fs' p q r l h = record {
+  m-long = ap length (sym p) ∙ h .m-long;
+  e-long = ap length (sym q) ∙ h .e-long;
+  f-long = ap length (sym r) ∙ h .f-long;
+  at = λ k i.
+      stands-more (b k) (b' k) (mOf s' k) (eOf s' k) (getD fs' k (unit 52)) (l k i)
+      (subst (λ (l : List Float). Stands (b k) (getD l k nan) (eOf s' k) (getD fs' k (unit 52))) p
+      (subst (λ (l : List ℤ). Stands (b k) (mOf s k) (getD l k (pos 0)) (getD fs' k (unit 52))) q
+      (subst (λ (l : List Factor). Stands (b k) (mOf s k) (eOf s k) (getD l k (unit 52))) r (h .at k i))));
+}
+
+-- lane j gets a new m, e and factor
+module _ (b b' : ℕ → ℕ) (s : Lanes) (fs : List Factor) (j : ℕ) (m' : Float) (e' : ℤ) (g : Factor) (q : Bool) (h : Held b s fs) (J : j < 8) (S : Stands (b' j) m' e' g)
+    (l : (k : ℕ) → k < 8 → (k ≡ j → ⊥) → b k ≤ b' k) where
+  in-m : j < length (s .m)
+  in-m = subst (λ (n : ℕ). j < n) (sym (h .m-long)) J
+
+  in-e : j < length (s .e)
+  in-e = subst (λ (n : ℕ). j < n) (sym (h .e-long)) J
+
+  in-f : j < length fs
+  in-f = subst (λ (n : ℕ). j < n) (sym (h .f-long)) J
+
+  held-at : (k : ℕ) → k < 8 → Stands (b' k) (getD (set (s .m) j m') k nan) (getD (set (s .e) j e') k (pos 0)) (getD (set fs j g) k (unit 52))
+  held-at k i =
+      set-cases (λ (x : Float). Stands (b' k) x (getD (set (s .e) j e') k (pos 0)) (getD (set fs j g) k (unit 52))) (s .m) j k m' nan in-m
+      (λ p. set-cases (λ (y : ℤ). Stands (b' k) m' y (getD (set fs j g) k (unit 52))) (s .e) j k e' (pos 0) in-e
+      (λ p'. set-cases (λ (f : Factor). Stands (b' k) m' e' f) fs j k g (unit 52) in-f (λ p''. subst (λ (x : ℕ). Stands (b' x) m' e' g) (sym p) S) (λ n. absurd (n p))) (λ n. absurd (n p)))
+      (λ n. set-cases (λ (y : ℤ). Stands (b' k) (mOf s k) y (getD (set fs j g) k (unit 52))) (s .e) j k e' (pos 0) in-e (λ p. absurd (n p))
+      (λ n'. set-cases (λ (f : Factor). Stands (b' k) (mOf s k) (eOf s k) f) fs j k g (unit 52) in-f (λ p. absurd (n p)) (λ n''. stands-more (b k) (b' k) (mOf s k) (eOf s k) (getD fs k (unit 52)) (l k i n) (h .at k i))))
+
+  held-set : Held b' (record { m = set (s .m) j m'; e = set (s .e) j e'; bad = q }) (set fs j g)
+  held-set = record {
+    m-long = length-set (s .m) j m' ∙ h .m-long;
+    e-long = length-set (s .e) j e' ∙ h .e-long;
+    f-long = length-set fs j g ∙ h .f-long;
+    at = held-at;
+  }
+
+held-start : Held (λ (k : ℕ). 0) startLanes (replicate 8 (unit 52))
+held-start = record {
+  m-long = length-replicate 8 (fin false 1 (pos 0));
+  e-long = length-replicate 8 (pos 0);
+  f-long = length-replicate 8 (unit 52);
+  at = λ k i.
+      subst (λ (x : Float). Stands 0 x (getD (replicate 8 (pos 0)) k (pos 0)) (getD (replicate 8 (unit 52)) k (unit 52))) (sym (getD-replicate 8 k (fin false 1 (pos 0)) nan i))
+      (subst (λ (y : ℤ). Stands 0 (fin false 1 (pos 0)) y (getD (replicate 8 (unit 52)) k (unit 52))) (sym (getD-replicate 8 k (pos 0) (pos 0) i))
+      (subst (λ (f : Factor). Stands 0 (fin false 1 (pos 0)) (pos 0) f) (sym (getD-replicate 8 k (unit 52) (unit 52) i)) stands-one));
+}
+
+-- ---- values
+-- how many of the first i values went to lane k
+abbrev count : ℕ → ℕ → ℕ
+count k i = (i + 7 - k) / 8
+
+-- a value that stays within C of its place, one of at most eight of its lane
+turn-room : (C i : ℕ) → C ≤ 120 → i < 64 → suc C * count (laneOf i) i + C + 1 ≤ suc C * count (laneOf i) (suc i)
+turn-room C i h l =
+    let e : count (laneOf i) (suc i) ≡ suc (count (laneOf i) i) = omega arith in
+    rw e (omega arith)
+
+turn-small : (C i : ℕ) → C ≤ 120 → i < 64 → suc C * count (laneOf i) i + C + 1 ≤ 1022
+turn-small C i h l =
+    let c : count (laneOf i) i ≤ 7 = omega arith in
+    bound (count (laneOf i) i) c
+  where
+    bound : (n : ℕ) → n ≤ 7 → suc C * n + C + 1 ≤ 1022
+    bound n c = let p : suc C * n ≤ 121 * 7 = mul-le-mul (let a : suc C ≤ 121 = omega arith in a) c in omega arith
+
+turn-other : (C i k : ℕ) → suc C * count k i ≤ suc C * count k (suc i)
+turn-other C i k = mul-le-mul-left (suc C) (let l : count k i ≤ count k (suc i) = omega arith in l)
+
+-- unsplit: the value is in the bounds
+record Near (x : Float) : Type 0 where
+  value : Value x
+  near : inBounds x ≡ true
+
+unsplit-more : (i : ℕ) (s : Lanes) (fs : List Factor) (x : Float) → i < 64 → Near x → Held (λ (k : ℕ). 121 * count k i) s fs → Held (λ (k : ℕ). 121 * count k (suc i)) (unsplitStep i s x) (laneTimes 52 i fs (rate x))
+unfolding unsplitStep
+unsplit-more i s fs x l n h =
+    let j = laneOf i in
+    let m' = productOf 11 52 (mOf s j) x in
+    let f = getD fs j (unit 52) in
+    let b : ℕ → ℕ = λ (k : ℕ). 121 * count k (suc i) in
+    let X = stands-whole 120 x (n .value) (within-good 120 (lit≤ tt) x (n .value) (n .near)) (within-exponent 119 (lit≤ tt) x (n .value) (n .near)) in
+    held-same b b (record { m = set (s .m) j m'; e = set (s .e) j (eOf s j); bad = s .bad }) (record { m = set (s .m) j m'; e = s .e; bad = s .bad }) (set fs j (times 52 f (rate x))) (set fs j (times 52 f (rate x)))
+    refl (set-getD (s .e) j (pos 0)) refl (λ k a. le-refl (121 * count k (suc i)))
+    (held-set (λ (k : ℕ). 121 * count k i) b s fs j m' (eOf s j) (times 52 f (rate x)) (s .bad) h (lane-lt i)
+    (stands-more (121 * count j i + 120 + 1) (121 * count j (suc i)) m' (eOf s j) (times 52 f (rate x)) (turn-room 120 i (le-refl 120) l)
+    (subst (λ (e : ℤ). Stands (121 * count j i + 120 + 1) m' e (times 52 f (rate x))) (+ℤ-idr (eOf s j))
+    (stands-times (121 * count j i) 120 (mOf s j) x (eOf s j) (pos 0) f (rate x) (h .at j (lane-lt i)) X (turn-small 120 i (le-refl 120) l))))
+    (λ k a d. turn-other 120 i k))
+
+split-more : (i : ℕ) (s : Lanes) (fs : List Factor) (x : Float) → i < 64 → Value x → Held (λ (k : ℕ). 1 * count k i) s fs → Held (λ (k : ℕ). 1 * count k (suc i)) (splitStep i s x) (laneTimes 52 i fs (rate x))
+unfolding splitStep
+split-more i s fs x l n h =
+    let j = laneOf i in
+    let S = h .at j (lane-lt i) in
+    held-set (λ (k : ℕ). 1 * count k i) (λ (k : ℕ). 1 * count k (suc i)) s fs j (productOf 11 52 (mOf s j) (split x .m)) (eOf s j +ℤ split x .e) (times 52 (getD fs j (unit 52)) (rate x)) (s .bad || split x .bad) h (lane-lt i)
+    (stands-more (1 * count j i + 0 + 1) (1 * count j (suc i)) (productOf 11 52 (mOf s j) (split x .m)) (eOf s j +ℤ split x .e) (times 52 (getD fs j (unit 52)) (rate x)) (turn-room 0 i (lit≤ tt) l)
+    (stands-times (1 * count j i) 0 (mOf s j) (split x .m) (eOf s j) (split x .e) (getD fs j (unit 52)) (rate x) S (stands-rate x) (turn-small 0 i (lit≤ tt) l)))
+    (λ k a n. turn-other 0 i k)
+
+-- ---- bringing back
+-- lanes below k are in [1, 2), the others within B
+abbrev back : ℕ → ℕ → ℕ → ℕ
+back B k j = cond (ltb j k) 0 B
+
+back-more : (B k j : ℕ) → (j ≡ k → ⊥) → back B k j ≤ back B (suc k) j
+back-more B k j n = go (ltb j k) refl
+  where
+    go : (t : Bool) → ltb j k ≡ t → cond t 0 B ≤ back B (suc k) j
+    go true e = zero-le
+    go false e = subst (λ (t : Bool). B ≤ cond t 0 B) (sym (le-ltb j (suc k) (lt-of-le-ne (ltb-false j k e) (λ (p : k ≡ j). n (sym p))))) (le-refl B)
+
+module _ (B : ℕ) (small : B ≤ 1022) (fs : List Factor) where
+  renorm-turn : (k : ℕ) (s : Lanes) → k < 8 → Held (back B k) s fs → Held (back B (suc k)) (renormLane k s) fs
+  unfolding renormLane
+  renorm-turn k s h H =
+      let m = mOf s k in
+      let f = getD fs k (unit 52) in
+      let t : Lanes = record { m = set (s .m) k (split m .m); e = set (s .e) k (eOf s k +ℤ split m .e); bad = s .bad } in
+      held-same (back B (suc k)) (back B (suc k)) t t (set fs k f) fs refl refl (set-getD fs k (unit 52)) (λ j a. le-refl (back B (suc k) j))
+      (held-set (back B k) (back B (suc k)) s fs k (split m .m) (eOf s k +ℤ split m .e) f (s .bad) H h
+      (stands-more 0 (back B (suc k) k) (split m .m) (eOf s k +ℤ split m .e) f zero-le (stands-split (back B k k) m (eOf s k) f here (H .at k h)))
+      (λ j a n. back-more B k j n))
+    where
+      here : back B k k ≤ 1022
+      here = subst (λ (t : Bool). cond t 0 B ≤ 1022) (sym (le-ltb k k (le-refl k))) small
+
+  pub renorm-held : (b : ℕ → ℕ) (s : Lanes) → ((k : ℕ) → k < 8 → b k ≤ B) → Held b s fs → Held (λ (k : ℕ). 0) (renorm s) fs
+  unfolding renorm
+  renorm-held b s l H =
+      held-same (back B 8) (λ (k : ℕ). 0) (inOrder renormLane 8 s) (inOrder renormLane 8 s) fs fs refl refl refl (λ k a. subst (λ (t : Bool). cond t 0 B ≤ 0) (sym (lt-ltb k 8 a)) (le-refl 0))
+      (order-keeps renormLane (λ (k : ℕ) (s : Lanes). Held (back B k) s fs) 8 (λ k s. renorm-turn k s) s
+      (held-same b (back B 0) s s fs fs refl refl refl (λ k a. subst (λ (t : Bool). b k ≤ cond t 0 B) (sym (le-ltb k 0 zero-le)) (l k a)) H))
+
+-- ---- values of one block, or those that are left: at most 64
+module _ (s : Lanes) (fs : List Factor) (xs : List Float) (short : length xs ≤ 64) (H : Held (λ (k : ℕ). 0) s fs) where
+  begins : (c : ℕ) → Held (λ (k : ℕ). c * count k 0) s fs
+  begins c = held-same (λ (k : ℕ). 0) (λ (k : ℕ). c * count k 0) s s fs fs refl refl refl (λ k a. zero-le) H
+
+  few : (k : ℕ) → k < 8 → count k (length xs) ≤ 8
+  few k a = omega arith
+
+  split-held : Each Value xs → Held (λ (k : ℕ). 0) (renorm (feed splitStep 0 s xs)) (feed (laneTimes 52) 0 fs (map rate xs))
+  split-held R =
+      renorm-held 968 (lit≤ tt) (feed (laneTimes 52) 0 fs (map rate xs)) (λ (k : ℕ). 1 * count k (0 + length xs)) (feed splitStep 0 s xs) (λ k a. omega (arith, few k a))
+      (feed-related splitStep (laneTimes 52) rate Value (λ (i : ℕ). Held (λ (k : ℕ). 1 * count k i)) 64 split-more 0 s fs R (omega arith) (begins 1))
+
+  unsplit-held : Each Near xs → Held (λ (k : ℕ). 0) (renorm (feed unsplitStep 0 s xs)) (feed (laneTimes 52) 0 fs (map rate xs))
+  unsplit-held R =
+      renorm-held 968 (lit≤ tt) (feed (laneTimes 52) 0 fs (map rate xs)) (λ (k : ℕ). 121 * count k (0 + length xs)) (feed unsplitStep 0 s xs) (λ k a. omega (arith, few k a))
+      (feed-related unsplitStep (laneTimes 52) rate Near (λ (i : ℕ). Held (λ (k : ℕ). 121 * count k i)) 64 unsplit-more 0 s fs R (omega arith) (begins 121))
+
+  -- unsplit or split, a block stands for the same factors
+  block-held : Each Value xs → Held (λ (k : ℕ). 0) (block s xs) (feed (laneTimes 52) 0 fs (map rate xs))
+  unfolding block unsplit
+  block-held R = go (unsplit s xs) refl
+    where
+      go : (t : Bool) → unsplit s xs ≡ t → Held (λ (k : ℕ). 0) (renorm (cond t (feed unsplitStep 0 s xs) (feed splitStep 0 s xs))) (feed (laneTimes 52) 0 fs (map rate xs))
+      go true e =
+          unsplit-held
+          (each-map (λ (x : Float). Value x × (inBounds x ≡ true)) Near (λ x p. record { value = p .0; near = p .1 })
+          (each-both Value (λ (x : Float). inBounds x ≡ true) R (every-each inBounds xs (and-both (every inBounds xs) (not (some isNan (feed unsplitStep 0 s xs .m))) e .0))))
+      go false e = split-held R
+
+-- ---- all of a piece
+-- the plain lanes, 64 rates at a time
+lanes-on : (fs : List Factor) (xs : List Float) → 64 ≤ length xs
+    → feed (laneTimes 52) 0 (feed (laneTimes 52) 0 fs (map rate (take 64 xs))) (map rate (drop 64 xs)) ≡ feed (laneTimes 52) 0 fs (map rate xs)
+lanes-on fs xs h =
+    sym
+    (ap (λ (l : List Float). feed (laneTimes 52) 0 fs (map rate l)) (sym (take-append-drop 64 xs))
+    ∙ ap (feed (laneTimes 52) 0 fs) (map-append rate (take 64 xs) (drop 64 xs))
+    ∙ feed-append (laneTimes 52) 0 fs (map rate (take 64 xs)) (map rate (drop 64 xs))
+    ∙ ap (λ (n : ℕ). feed (laneTimes 52) n (feed (laneTimes 52) 0 fs (map rate (take 64 xs))) (map rate (drop 64 xs))) long
+    ∙ feed-eights (laneTimes 52) (times-again 52) 8 (feed (laneTimes 52) 0 fs (map rate (take 64 xs))) (map rate (drop 64 xs)))
+  where
+    long : 0 + length (map rate (take 64 xs)) ≡ 8 * 8
+    long = omega (arith, length-map (take 64 xs) rate, length-take 64 xs)
+
+blocks-held : (n : ℕ) (s : Lanes) (fs : List Factor) (xs : List Float) → 64 * n ≤ length xs → length xs ≤ 64 * n + 64 → Each Value xs → Held (λ (k : ℕ). 0) s fs
+    → Held (λ (k : ℕ). 0) (blocks n s xs) (feed (laneTimes 52) 0 fs (map rate xs))
+unfolding blocks
+blocks-held zero s fs xs lo hi R H = split-held s fs xs (omega arith) H R
+blocks-held (suc n) s fs xs lo hi R H =
+    let ys = take 64 xs in
+    subst (Held (λ (k : ℕ). 0) (blocks n (block s ys) (drop 64 xs))) (lanes-on fs xs (omega arith))
+    (blocks-held n (block s ys) (feed (laneTimes 52) 0 fs (map rate ys)) (drop 64 xs) (omega (arith, length-drop 64 xs)) (omega (arith, length-drop 64 xs)) (each-drop Value 64 R)
+    (block-held s fs ys (omega (arith, length-take 64 xs)) H (each-take Value 64 R)))
+
+-- ---- the lanes multiplied in order
+lane-in : (s : Lanes) (fs : List Factor) (k : ℕ) (a : StableProductFloatAcc) (p : Factor) → k < 8 → Held (λ (k : ℕ). 0) s fs → Stands 0 (a .m) (a .e) p
+    → Stands 0 (laneIn s k a .m) (laneIn s k a .e) (times 52 p (getD fs k (unit 52)))
+unfolding laneIn
+lane-in s fs k a p h H P =
+    let m = productOf 11 52 (a .m) (mOf s k) in
+    let f = times 52 p (getD fs k (unit 52)) in
+    stands-split 1 m (a .e +ℤ eOf s k) f (lit≤ tt) (stands-times 0 0 (a .m) (mOf s k) (a .e) (eOf s k) p (getD fs k (unit 52)) P (H .at k h) (lit≤ tt))
+
+-- ---- the mark
+split-mark : (i : ℕ) (s : Lanes) (xs : List Float) → feed splitStep i s xs .bad ≡ (s .bad || some isBad xs)
+unfolding splitStep
+split-mark = feed-mark splitStep (λ (s : Lanes). s .bad) isBad (λ i s x. ap (λ (b : Bool). s .bad || b) (split-bad x))
+
+unsplit-mark : (i : ℕ) (s : Lanes) (xs : List Float) → feed unsplitStep i s xs .bad ≡ s .bad
+unfolding feed unsplitStep
+unsplit-mark i s [] = refl
+unsplit-mark i s (x ∷ xs) = unsplit-mark (suc i) (unsplitStep i s x) xs
+
+renorm-mark : (s : Lanes) → renorm s .bad ≡ s .bad
+unfolding renorm renormLane
+renorm-mark s = order-keeps renormLane (λ (k : ℕ) (t : Lanes). t .bad ≡ s .bad) 8 (λ k t h e. e) s refl
+
+-- in the bounds there is no bad value
+block-mark : (s : Lanes) (xs : List Float) → Each Value xs → block s xs .bad ≡ (s .bad || some isBad xs)
+unfolding block unsplit
+block-mark s xs v = go (unsplit s xs) refl
+  where
+    good : every inBounds xs ≡ true → some isBad xs ≡ false
+    good h =
+        some-none isBad
+        (each-map (λ (x : Float). Value x × (inBounds x ≡ true)) (λ (x : Float). isBad x ≡ false) (λ x p. within-good 120 (lit≤ tt) x (p .0) (p .1))
+        (each-both Value (λ (x : Float). inBounds x ≡ true) v (every-each inBounds xs h)))
+
+    go : (t : Bool) → unsplit s xs ≡ t → renorm (cond t (feed unsplitStep 0 s xs) (feed splitStep 0 s xs)) .bad ≡ (s .bad || some isBad xs)
+    go true e =
+        renorm-mark (feed unsplitStep 0 s xs)
+        ∙ unsplit-mark 0 s xs
+        ∙ sym (ap (λ (b : Bool). s .bad || b) (good (and-both (every inBounds xs) (not (some isNan (feed unsplitStep 0 s xs .m))) e .0)) ∙ or-none (s .bad))
+    go false e = renorm-mark (feed splitStep 0 s xs) ∙ split-mark 0 s xs
+
+blocks-mark : (n : ℕ) (s : Lanes) (xs : List Float) → Each Value xs → blocks n s xs .bad ≡ (s .bad || some isBad xs)
+unfolding blocks
+blocks-mark zero s xs v = renorm-mark (feed splitStep 0 s xs) ∙ split-mark 0 s xs
+blocks-mark (suc n) s xs v =
+    let ys = take 64 xs in
+    blocks-mark n (block s ys) (drop 64 xs) (each-drop Value 64 v)
+    ∙ ap (λ (b : Bool). b || some isBad (drop 64 xs)) (block-mark s ys (each-take Value 64 v))
+    ∙ or-assoc (s .bad) (some isBad ys) (some isBad (drop 64 xs))
+    ∙ ap (λ (b : Bool). s .bad || b) (sym (some-append isBad ys (drop 64 xs)) ∙ ap (some isBad) (take-append-drop 64 xs))
+
+lanes-mark : (s : Lanes) → lanesIn s .bad ≡ s .bad
+unfolding lanesIn laneIn
+lanes-mark s = order-keeps (laneIn s) (λ (k : ℕ) (a : StableProductFloatAcc). a .bad ≡ s .bad) 8 (λ k a h e. e) (record { m = identityAcc .m; e = identityAcc .e; bad = s .bad }) refl
+
+-- the mark is set exactly if some rate of the piece is bad
+pub contiguous-mark : (xs : List Float) → Each Value xs → contiguous xs .bad ≡ some isBad xs
+unfolding contiguous
+contiguous-mark xs v = lanes-mark (blocks (length xs / 64) startLanes xs) ∙ blocks-mark (length xs / 64) startLanes xs v
+
+-- Blocks of 64 give the m and e of the plain product of the piece's factors, whatever the rates: a bad one counts with its fraction and field.
+pub contiguous-is : {xs : List Float} → Each Value xs
+    → contiguous xs ≡ record { m = accOf (pieceProduct 52 (map rate xs)) .m; e = pieceProduct 52 (map rate xs) .exp; bad = some isBad xs }
+unfolding contiguous lanesIn pieceProduct lanes
+contiguous-is {xs} v =
+    ap (λ (b : Bool). record { m = r .m; e = r .e; bad = b }) (contiguous-mark xs v)
+    ∙ ap (λ (a : StableProductFloatAcc). record { m = a .m; e = a .e; bad = some isBad xs }) (stands-acc (r .m) (r .e) (pieceProduct 52 (map rate xs)) stood)
+  where
+    s : Lanes
+    s = blocks (length xs / 64) startLanes xs
+
+    fs : List Factor
+    fs = lanes 52 (map rate xs)
+
+    r : StableProductFloatAcc
+    r = contiguous xs
+
+    held : Held (λ (k : ℕ). 0) s fs
+    held = blocks-held (length xs / 64) startLanes (replicate 8 (unit 52)) xs (omega arith) (omega arith) v held-start
+
+    stood : Stands 0 (r .m) (r .e) (pieceProduct 52 (map rate xs))
+    stood =
+        order-related (laneIn s) (λ (k : ℕ) (p : Factor). times 52 p (getD fs k (unit 52))) (λ (a : StableProductFloatAcc) (p : Factor). Stands 0 (a .m) (a .e) p) 8
+        (λ k a p h P. lane-in s fs k a p h held P) (record { m = identityAcc .m; e = identityAcc .e; bad = s .bad }) (unit 52) stands-one
+
+-- with no bad rate, blocks of 64 give the plain product of the piece
+pub contiguous-agrees : {xs : List Float} → Each Rate xs → contiguous xs ≡ accOf (pieceProduct 52 (map rate xs))
+contiguous-agrees {xs} R =
+    contiguous-is (each-map Rate Value (λ x p. p .value) R)
+    ∙ ap (λ (b : Bool). record { m = accOf (pieceProduct 52 (map rate xs)) .m; e = pieceProduct 52 (map rate xs) .exp; bad = b }) (some-none isBad (each-map Rate (λ (x : Float). isBad x ≡ false) (λ x p. p .good) R))

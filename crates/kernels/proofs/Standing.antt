@@ -1,0 +1,127 @@
+-- A lane kept as a float m and an exponent e stands for a factor, whatever way it is brought back: m is the factor's float at an exponent that is `off`,
+-- and e and `off` make up the factor's exponent. Products of such lanes stand for `times`, as long as m stays a normal number. Assumes nothing.
+use Prim.Native.Nat.{ℕ, zero, suc, _+_, _-_, _*_, _≤_}
+use mathlib.Core.Path.{_≡_, refl, sym, ap, _∙_}
+use mathlib.Core.Bool.{Bool, false}
+use native.Mathlib.Nat.{le-refl, le-trans, add-le-add}
+use native.Mathlib.Omega.{arith}
+use lib.IntN.{ℤ, pos, negsuc, natAbs, _+ℤ_, +ℤ-idr, +ℤ-idl}
+use lib.Dec.{T}
+use lib.Ieee.{Float, fin, binary64, fits}
+use Rattle.integers.proofs.Difference.{ints, atoms, is-diff, at-pos}
+use Rattle.binary64.specs.Product.{productOf}
+use Rattle.binary64.specs.Factor.{Factor, Normal, InRange, unit, carry, times, floatOf}
+use Rattle.binary64.specs.Magnitude.{factorAt, moved}
+use Rattle.binary64.specs.Splitting.{isBad, rate, split}
+use Rattle.binary64.proofs.Factor.{factor-same, unit-normal, times-normal, carry-le, add-size}
+use Rattle.binary64.proofs.Bridge.{product-times}
+use Rattle.binary64.proofs.Magnitude.{moved-normal}
+use Rattle.binary64.proofs.Splitting.{split-m, split-factor, rate-normal, rate-float, float-rate}
+use Rattle.accumulator.specs.declared.StableProductFloatAcc.{StableProductFloatAcc}
+use Rattle.kernels.specs.Pieces.{accOf}
+
+pub record Stands (B : ℕ) (m : Float) (e : ℤ) (f : Factor) : Type 0 where
+  pub off : ℤ
+  pub near : natAbs off ≤ B
+  pub m-is : m ≡ floatOf 11 52 (moved f off)
+  pub e-is : f .exp ≡ e +ℤ off
+  pub normal : Normal 52 f
+
+pub stands-more : (B C : ℕ) (m : Float) (e : ℤ) (f : Factor) → B ≤ C → Stands B m e f → Stands C m e f
+stands-more B C m e f h s = record { off = s .off; near = le-trans (s .near) h; m-is = s .m-is; e-is = s .e-is; normal = s .normal }
+
+-- exponents of -1022 to 1022 are those of normal numbers
+pub near-in : (f : Factor) (z : ℤ) → natAbs z ≤ 1022 → InRange 11 (moved f z)
+near-in f (pos n) h = record { place = n + 1022; above = refl; below = omega arith }
+near-in f (negsuc n) h = record { place = 1022 - suc n; above = is-diff 1022 (suc n) ∙ at-pos 1022 (suc n) (1022 - suc n) (omega arith); below = omega arith }
+
+exponents : (e d z y p q : ℤ) (c : ℕ) → p ≡ e +ℤ z → q ≡ d +ℤ y → p +ℤ q +ℤ pos c ≡ e +ℤ d +ℤ (z +ℤ y +ℤ pos c)
+exponents e d z y p q c = simp ints (simp atoms (omega arith))
+
+-- ---- the product
+module _ (B C : ℕ) (m x : Float) (e d : ℤ) (f g : Factor) (F : Stands B m e f) (G : Stands C x d g) (room : B + C + 1 ≤ 1022) where
+  c : ℕ
+  c = carry 52 (f .sig * g .sig)
+
+  z : ℤ
+  z = F .off +ℤ G .off +ℤ pos c
+
+  size : natAbs z ≤ B + C + 1
+  unfolding z c
+  size = le-trans (add-size (F .off +ℤ G .off) (pos c)) (add-le-add (le-trans (add-size (F .off) (G .off)) (add-le-add (F .near) (G .near))) (carry-le 52 f g (F .normal) (G .normal)))
+
+  product-is : times 52 (moved f (F .off)) (moved g (G .off)) ≡ moved (times 52 f g) z
+  unfolding times z c
+  product-is = refl
+
+  pub stands-times : Stands (B + C + 1) (productOf 11 52 m x) (e +ℤ d) (times 52 f g)
+  unfolding times z c
+  stands-times = record {
+    off = z;
+    near = size;
+    m-is =
+        ap (λ (u : Float). productOf 11 52 u x) (F .m-is)
+        ∙ ap (productOf 11 52 (floatOf 11 52 (moved f (F .off)))) (G .m-is)
+        ∙ product-times (moved f (F .off)) (moved g (G .off)) (moved-normal 52 f (F .off) (F .normal)) (moved-normal 52 g (G .off) (G .normal))
+        (near-in f (F .off) (le-trans (F .near) (omega arith))) (near-in g (G .off) (le-trans (G .near) (omega arith)))
+        (near-in (times 52 f g) z (le-trans size room));
+    e-is = exponents e d (F .off) (G .off) (f .exp) (g .exp) c (F .e-is) (G .e-is);
+    normal = times-normal 52 f g (F .normal) (G .normal);
+  }
+
+-- ---- bringing back
+pub split-e : (x : Float) → split x .e ≡ rate x .exp
+unfolding factorAt
+split-e x = ap (λ (f : Factor). f .exp) (split-factor x)
+
+-- a lane whose m is normal, split, stands for the same factor with m in [1, 2)
+pub stands-split : (B : ℕ) (m : Float) (e : ℤ) (f : Factor) → B ≤ 1022 → Stands B m e f → Stands 0 (split m .m) (e +ℤ split m .e) f
+stands-split B m e f h s =
+    let g = moved f (s .off) in
+    let r : rate m ≡ g = ap rate (s .m-is) ∙ float-rate g (moved-normal 52 f (s .off) (s .normal)) (near-in f (s .off) (le-trans (s .near) h)) in
+    record {
+      off = pos 0;
+      near = le-refl 0;
+      m-is = split-m m ∙ ap (λ (k : Factor). floatOf 11 52 (moved k (pos 0))) r;
+      e-is = s .e-is ∙ ap (λ (y : ℤ). e +ℤ y) (sym (split-e m ∙ ap (λ (k : Factor). k .exp) r)) ∙ sym (+ℤ-idr (e +ℤ split m .e));
+      normal = s .normal;
+    }
+
+-- ---- rates
+-- a rate, split
+pub stands-rate : (x : Float) → Stands 0 (split x .m) (split x .e) (rate x)
+stands-rate x = record { off = pos 0; near = le-refl 0; m-is = split-m x; e-is = sym (split-e x) ∙ sym (+ℤ-idr (split x .e)); normal = rate-normal x }
+
+-- a rate as it is, at the exponent 0
+pub stands-whole : (C : ℕ) (x : Float) → T (fits binary64 x) → isBad x ≡ false → natAbs (rate x .exp) ≤ C → Stands C x (pos 0) (rate x)
+stands-whole C x b h k =
+    let f = rate x in
+    record {
+      off = f .exp;
+      near = k;
+      m-is = sym (rate-float x b h) ∙ ap (floatOf 11 52) (factor-same (f .sign) (f .sign) (f .sig) (f .sig) (f .exp) (f .exp) refl refl refl);
+      e-is = sym (+ℤ-idl (f .exp));
+      normal = rate-normal x;
+    }
+
+-- 1.0 and 0
+pub stands-one : Stands 0 (fin false 1 (pos 0)) (pos 0) (unit 52)
+unfolding floatOf
+stands-one = record { off = pos 0; near = le-refl 0; m-is = refl; e-is = refl; normal = unit-normal 52 }
+
+-- ---- the end
+none-off : (z : ℤ) → natAbs z ≤ 0 → z ≡ pos 0
+none-off (pos zero) h = refl
+none-off (pos (suc n)) h = absurd (omega arith)
+none-off (negsuc n) h = absurd (omega arith)
+
+acc-same : (m m' : Float) (e e' : ℤ) (q : Bool) → m ≡ m' → e ≡ e' → _≡_ {A = StableProductFloatAcc} (record { m = m; e = e; bad = q }) (record { m = m'; e = e'; bad = q })
+acc-same m m' e e' q a b = cc
+
+-- brought back, m and e are those of the factor
+pub stands-acc : (m : Float) (e : ℤ) (f : Factor) → Stands 0 m e f → _≡_ {A = StableProductFloatAcc} (record { m = m; e = e; bad = false }) (accOf f)
+stands-acc m e f s =
+    let z = none-off (s .off) (s .near) in
+    acc-same m (floatOf 11 52 (moved f (pos 0))) e (f .exp) false
+    (s .m-is ∙ ap (λ (y : ℤ). floatOf 11 52 (moved f y)) z)
+    (sym (s .e-is ∙ ap (λ (y : ℤ). e +ℤ y) z ∙ +ℤ-idr e))

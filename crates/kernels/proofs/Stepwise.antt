@@ -1,0 +1,111 @@
+-- What the code of a step on the lanes works out. Assumes nothing.
+use Prim.Native.Nat.{ℕ, _+_, _^_, _≤_, _<_}
+use mathlib.Core.Path.{_≡_, refl, sym, ap, _∙_, subst}
+use mathlib.Core.Bool.{Bool, true, false, not, cond, _&&_, _||_}
+use mathlib.Core.List.{List}
+use native.Mathlib.Nat.{le-trans, mod-eq-of-lt}
+use lib.Dec.{lit≤}
+use lib.ListN.{getD, set}
+use lib.IntN.{ℤ, natAbs, _+ℤ_}
+use lib.Ieee.{Float, nan, mul, binary64, isNan}
+use mir.Syntax.{w64}
+use mir.Val.{SFits, toZ, ofZ}
+use Rattle.binary64.specs.Product.{productOf}
+use Rattle.binary64.specs.Splitting.{split}
+use Rattle.binary64.specs.declared.Split.{Split}
+use Rattle.binary64.proofs.Product.{mul-binary64}
+use Rattle.accumulator.specs.declared.StableProductFloatAcc.{StableProductFloatAcc}
+use Rattle.kernels.specs.declared.blocks.Lanes.{Lanes}
+use Rattle.kernels.specs.Lanes.{feed, laneOf, every, some}
+use Rattle.kernels.specs.Blocks.{mOf, eOf, unsplitStep, splitStep, inBounds, renormLane, renorm, unsplit, block, laneIn, SmallLanes}
+use Rattle.accumulator.proofs.Exponents.{sum-fits, sum-held}
+use Rattle.kernels.proofs.Factors.{lane-again}
+use Rattle.kernels.proofs.Sizes.{split-size}
+use Rattle.kernels.proofs.LaneSizes.{all-fits, all-held}
+
+lane-is : (k : ℕ) → k < 8 → laneOf k ≡ k
+lane-is k h = mod-eq-of-lt h
+
+-- value k of a row goes to lane k
+pub unsplit-lane : (s : Lanes) (k : ℕ) (x : Float) → k < 8 → _≡_ {A = Lanes} (record { m = set (s .m) k (mul binary64 (getD (s .m) k nan) x); e = s .e; bad = s .bad }) (unsplitStep k s x)
+unfolding unsplitStep
+unsplit-lane s k x h =
+    ap (λ (y : Float). record { m = set (s .m) k y; e = s .e; bad = s .bad }) (mul-binary64 (mOf s k) x)
+    ∙ ap (λ (j : ℕ). record { m = set (s .m) j (productOf 11 52 (mOf s j) x); e = s .e; bad = s .bad }) (sym (lane-is k h))
+
+pub unsplit-again : (i : ℕ) (s : Lanes) (x : Float) → unsplitStep (i + 8) s x ≡ unsplitStep i s x
+unfolding unsplitStep
+unsplit-again i s x = ap (λ (j : ℕ). record { m = set (s .m) j (productOf 11 52 (mOf s j) x); e = s .e; bad = s .bad }) (lane-again i)
+
+-- ---- exponents, as the machine adds them
+module _ (s : Lanes) (h : SmallLanes (2 ^ 61) s) (x : Float) (p : Split) (e : p ≡ split x) where
+  small : natAbs (p .e) ≤ 2 ^ 61
+  small = subst (λ (q : Split). natAbs (q .e) ≤ 2 ^ 61) (sym e) (le-trans (split-size x) (lit≤ tt))
+
+  pub added-fits : (j : ℕ) → SFits w64 (toZ w64 (ofZ w64 (eOf s j)) +ℤ toZ w64 (ofZ w64 (p .e)))
+  added-fits j = sum-fits (eOf s j) (p .e) (h .at j) small
+
+  added-is : (j : ℕ) → toZ w64 (ofZ w64 (toZ w64 (ofZ w64 (eOf s j)) +ℤ toZ w64 (ofZ w64 (p .e)))) ≡ eOf s j +ℤ split x .e
+  added-is j = sum-held (eOf s j) (p .e) (h .at j) small ∙ ap (λ (q : Split). eOf s j +ℤ q .e) e
+
+  -- value i, split into its lane
+  pub split-lane : (i : ℕ)
+      → _≡_ {A = Lanes} (record { m = set (s .m) (laneOf i) (mul binary64 (getD (s .m) (laneOf i) nan) (p .m)); e = set (s .e) (laneOf i) (toZ w64 (ofZ w64 (toZ w64 (ofZ w64 (eOf s (laneOf i))) +ℤ toZ w64 (ofZ w64 (p .e))))); bad = s .bad || p .bad }) (splitStep i s x)
+  unfolding splitStep
+  split-lane i =
+      let j = laneOf i in
+      ap (λ (z : ℤ). record { m = set (s .m) j (mul binary64 (mOf s j) (p .m)); e = set (s .e) j z; bad = s .bad || p .bad }) (added-is j)
+      ∙ ap (λ (q : Split). record { m = set (s .m) j (mul binary64 (mOf s j) (q .m)); e = set (s .e) j (eOf s j +ℤ split x .e); bad = s .bad || q .bad }) e
+      ∙ ap (λ (y : Float). record { m = set (s .m) j y; e = set (s .e) j (eOf s j +ℤ split x .e); bad = s .bad || split x .bad }) (mul-binary64 (mOf s j) (split x .m))
+
+-- lane j, brought back
+pub renorm-one : (s : Lanes) (h : SmallLanes (2 ^ 61) s) (j : ℕ) (p : Split) (e : p ≡ split (mOf s j))
+    → _≡_ {A = Lanes} (record { m = set (s .m) j (p .m); e = set (s .e) j (toZ w64 (ofZ w64 (toZ w64 (ofZ w64 (eOf s j)) +ℤ toZ w64 (ofZ w64 (p .e))))); bad = s .bad }) (renormLane j s)
+unfolding renormLane
+renorm-one s h j p e =
+    ap (λ (z : ℤ). record { m = set (s .m) j (p .m); e = set (s .e) j z; bad = s .bad }) (added-is s h (mOf s j) p e j)
+    ∙ ap (λ (q : Split). record { m = set (s .m) j (q .m); e = set (s .e) j (eOf s j +ℤ split (mOf s j) .e); bad = s .bad }) e
+
+-- the product so far times lane k
+module _ (s : Lanes) (k : ℕ) (a : StableProductFloatAcc) (h : SmallLanes (2 ^ 60) s) (l : natAbs (a .e) ≤ 2 ^ 60) where
+  module _ (p : Split) (e : p ≡ split (mul binary64 (a .m) (mOf s k))) where
+    lane-small : natAbs (p .e) ≤ 2 ^ 60
+    lane-small = subst (λ (q : Split). natAbs (q .e) ≤ 2 ^ 60) (sym e) (le-trans (split-size (mul binary64 (a .m) (mOf s k))) (lit≤ tt))
+
+    pub in-fits : SFits w64 (toZ w64 (ofZ w64 (toZ w64 (ofZ w64 (a .e)) +ℤ toZ w64 (ofZ w64 (eOf s k)))) +ℤ toZ w64 (ofZ w64 (p .e)))
+    in-fits = all-fits (a .e) (eOf s k) (p .e) l (h .at k) lane-small
+
+    pub in-is : _≡_ {A = StableProductFloatAcc} (record { m = p .m; e = toZ w64 (ofZ w64 (toZ w64 (ofZ w64 (toZ w64 (ofZ w64 (a .e)) +ℤ toZ w64 (ofZ w64 (eOf s k)))) +ℤ toZ w64 (ofZ w64 (p .e)))); bad = a .bad }) (laneIn s k a)
+    unfolding laneIn
+    in-is =
+        ap (λ (z : ℤ). record { m = p .m; e = z; bad = a .bad }) (all-held (a .e) (eOf s k) (p .e) l (h .at k) lane-small)
+        ∙ ap (λ (q : Split). record { m = q .m; e = a .e +ℤ eOf s k +ℤ q .e; bad = a .bad }) e
+        ∙ ap (λ (y : Float). record { m = split y .m; e = a .e +ℤ eOf s k +ℤ split y .e; bad = a .bad }) (mul-binary64 (a .m) (mOf s k))
+
+  pub in-first : SFits w64 (toZ w64 (ofZ w64 (a .e)) +ℤ toZ w64 (ofZ w64 (eOf s k)))
+  in-first = sum-fits (a .e) (eOf s k) (le-trans l (lit≤ tt)) (le-trans (h .at k) (lit≤ tt))
+
+-- ---- a block, by its tests
+module _ (s : Lanes) (xs : List Float) where
+  abbrev tentative : Lanes
+  tentative = feed unsplitStep 0 s xs
+
+  chosen : (b : Bool) → unsplit s xs ≡ b → block s xs ≡ renorm (cond b tentative (feed splitStep 0 s xs))
+  unfolding block
+  chosen b e = ap (λ (t : Bool). renorm (cond t tentative (feed splitStep 0 s xs))) e
+
+  pub block-unsplit : every inBounds xs ≡ true → some isNan (tentative .m) ≡ false → renorm tentative ≡ block s xs
+  unfolding unsplit
+  block-unsplit h k = sym (chosen true (ap (λ (t : Bool). t && not (some isNan (tentative .m))) h ∙ ap not k))
+
+  pub block-outside : every inBounds xs ≡ false → renorm (feed splitStep 0 s xs) ≡ block s xs
+  unfolding unsplit
+  block-outside h = sym (chosen false (ap (λ (t : Bool). t && not (some isNan (tentative .m))) h))
+
+  pub block-nan : some isNan (tentative .m) ≡ true → renorm (feed splitStep 0 s xs) ≡ block s xs
+  unfolding unsplit
+  block-nan k = sym (chosen false (ap (λ (t : Bool). every inBounds xs && not t) k ∙ and-no (every inBounds xs)))
+    where
+      and-no : (p : Bool) → (p && false) ≡ false
+      and-no true = refl
+      and-no false = refl

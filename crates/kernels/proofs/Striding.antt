@@ -1,0 +1,137 @@
+-- The loop of stepped lanes over a slice: what is held after i values. Assumes nothing.
+use Prim.Native.Nat.{ℕ, zero, suc, _+_, _-_, _*_, _^_, _≤_, _<_}
+use mathlib.Core.Path.{_≡_, refl, sym, ap, _∙_, subst}
+use mathlib.Core.List.{List}
+use native.Mathlib.Numerals.{add-one}
+use native.Mathlib.Omega.{arith}
+use lib.ListN.{length, getD, set, replicate}
+use lib.IntN.{ℤ, pos, negsuc, natAbs, _+ℤ_, _*ℤ_}
+use lib.Dec.{T, ltb→lt}
+use lib.Signed.{nonNeg, _≤ℤ_, _<ℤ_}
+use lib.Ieee.{Float, nan}
+use mir.Val.{SFits}
+use mir.Syntax.{w64}
+use Rattle.integers.proofs.Difference.{ints, atoms}
+use Rattle.accumulator.specs.declared.StableProductFloatAcc.{StableProductFloatAcc}
+use Rattle.accumulator.specs.Joining.{identityAcc, combined}
+use Rattle.kernels.specs.Lanes.{feed, laneOf}
+use Rattle.kernels.specs.Strided.{strided, Inside}
+use Rattle.kernels.specs.Stepped.{rateAcc, accAt, laneJoined, steppedLanes, SmallAccs}
+use Rattle.kernels.proofs.Sizes.{accs-start, accs-le, accs-set, accs-all}
+
+-- ---- places
+inside-next : (len : ℕ) (at stride : ℤ) (n : ℕ) → Inside len at stride (suc n) → Inside len (at +ℤ stride) stride n
+inside-next len at stride n h = record {
+  least = λ i l. low i (h .least (suc i) (omega arith));
+  most = λ i l. high i (h .most (suc i) (omega arith));
+}
+  where
+    low : (i : ℕ) → pos 0 ≤ℤ (at +ℤ stride *ℤ pos (suc i)) → pos 0 ≤ℤ (at +ℤ stride +ℤ stride *ℤ pos i)
+    low i = simp ints (simp atoms (omega arith))
+
+    high : (i : ℕ) → (at +ℤ stride *ℤ pos (suc i)) <ℤ pos len → (at +ℤ stride +ℤ stride *ℤ pos i) <ℤ pos len
+    high i = simp ints (simp atoms (omega arith))
+
+inside-none : (len : ℕ) (at stride : ℤ) → Inside len at stride 0
+inside-none len at stride = record { least = λ i l. absurd (omega arith); most = λ i l. absurd (omega arith) }
+
+module _ (len : ℕ) (at stride : ℤ) (n : ℕ) (h : Inside len at stride n) where
+  first-least : 0 < n → pos 0 ≤ℤ at
+  first-least l = go (h .least 0 l)
+    where
+      go : pos 0 ≤ℤ (at +ℤ stride *ℤ pos 0) → pos 0 ≤ℤ at
+      go = simp ints (simp atoms (omega arith))
+
+  first-most : 0 < n → at <ℤ pos len
+  first-most l = go (h .most 0 l)
+    where
+      go : (at +ℤ stride *ℤ pos 0) <ℤ pos len → at <ℤ pos len
+      go = simp ints (simp atoms (omega arith))
+
+  -- the place of the first value, in the slice
+  pub first-natural : 0 < n → T (nonNeg at)
+  first-natural l = go at (first-least l)
+    where
+      go : (z : ℤ) → pos 0 ≤ℤ z → T (nonNeg z)
+      go (pos k) p = tt
+      go (negsuc k) p = absurd (p .le)
+
+  pub first-below : 0 < n → natAbs at < len
+  first-below l = go at (first-natural l) (first-most l)
+    where
+      go : (z : ℤ) → T (nonNeg z) → z <ℤ pos len → natAbs z < len
+      go (pos k) t p = ltb→lt k len (p .lt)
+      go (negsuc k) t p = absurd t
+
+  -- the place of the next value, in i64
+  pub next-fits : 1 < n → len < 2 ^ 63 → SFits w64 (at +ℤ stride)
+  next-fits l s = go (h .least 1 l) (h .most 1 l) s
+    where
+      go : pos 0 ≤ℤ (at +ℤ stride *ℤ pos 1) → (at +ℤ stride *ℤ pos 1) <ℤ pos len → len < 2 ^ 63 → SFits w64 (at +ℤ stride)
+      go = simp ints (simp atoms (omega arith))
+
+pub length-strided : (xs : List Float) (start stride : ℤ) (n : ℕ) → length (strided xs start stride n) ≡ n
+unfolding strided
+length-strided xs start stride zero = refl
+length-strided xs start stride (suc n) = ap suc (length-strided xs (start +ℤ stride) stride n)
+
+-- the lanes of at most 2^40 values are far from the ends of i64
+pub strided-small : (xs : List Float) (start stride : ℤ) (n : ℕ) → n ≤ 2 ^ 40 → SmallAccs (2 ^ 52) (steppedLanes (strided xs start stride n))
+strided-small xs start stride n h = accs-le (1025 * length (strided xs start stride n)) (2 ^ 52) (steppedLanes (strided xs start stride n)) (rw (length-strided xs start stride n) (omega arith)) (accs-all (strided xs start stride n))
+
+-- ---- the loop: i values are in the lanes ls, and the next is at `at`
+pub record Passed (xs : List Float) (start stride : ℤ) (n : ℕ) (ls : List StableProductFloatAcc) (at : ℤ) (i : ℕ) : Type 0 where
+  pub short : i ≤ n
+  pub inside : Inside (length xs) at stride (n - i)
+  pub same : feed laneJoined i ls (strided xs at stride (n - i)) ≡ steppedLanes (strided xs start stride n)
+  pub small : SmallAccs (1025 * i) ls
+
+module _ (xs : List Float) (start stride : ℤ) (n : ℕ) where
+  pub passed-none : (ls : List StableProductFloatAcc) → ls ≡ replicate 8 identityAcc → Inside (length xs) start stride n → Passed xs start stride n ls start 0
+  unfolding steppedLanes
+  passed-none ls e h = record {
+    short = omega arith;
+    inside = subst (Inside (length xs) start stride) (sym all) h;
+    same = ap (λ (k : ℕ). feed laneJoined 0 ls (strided xs start stride k)) all ∙ ap (λ (l : List StableProductFloatAcc). feed laneJoined 0 l (strided xs start stride n)) e;
+    small = subst (SmallAccs 0) (sym e) accs-start;
+  }
+    where
+      all : n - 0 ≡ n
+      all = omega arith
+
+  module _ (ls : List StableProductFloatAcc) (at : ℤ) (i : ℕ) (p : Passed xs start stride n ls at i) where
+    pub passed-all : n ≤ i → ls ≡ steppedLanes (strided xs start stride n)
+    unfolding feed strided
+    passed-all h = sym (ap (λ (k : ℕ). feed laneJoined i ls (strided xs at stride k)) (let z : n - i ≡ 0 = omega arith in z)) ∙ p .same
+
+    module _ (us : List StableProductFloatAcc) (l : i < n) (e : us ≡ set ls (laneOf i) (combined (accAt ls (laneOf i)) (rateAcc (getD xs (natAbs at) nan)))) where
+      one-less : n - i ≡ suc (n - (i + 1))
+      one-less = omega arith
+
+      -- the value at `at` is in, and the rest begins a stride further
+      turned : feed laneJoined (i + 1) us (strided xs (at +ℤ stride) stride (n - (i + 1))) ≡ steppedLanes (strided xs start stride n)
+      unfolding feed strided laneJoined
+      turned =
+          ap (λ (u : List StableProductFloatAcc). feed laneJoined (i + 1) u (strided xs (at +ℤ stride) stride (n - (i + 1)))) e
+          ∙ ap (λ (k : ℕ). feed laneJoined k (laneJoined i ls (getD xs (natAbs at) nan)) (strided xs (at +ℤ stride) stride (n - (i + 1)))) (add-one i)
+          ∙ ap (λ (k : ℕ). feed laneJoined i ls (strided xs at stride k)) (sym one-less)
+          ∙ p .same
+
+      smaller : SmallAccs (1025 * (i + 1)) us
+      smaller = subst (SmallAccs (1025 * (i + 1))) (sym e) (subst (λ (m : ℕ). SmallAccs m (set ls (laneOf i) (combined (accAt ls (laneOf i)) (rateAcc (getD xs (natAbs at) nan))))) (omega arith) (accs-set (1025 * i) ls (laneOf i) (getD xs (natAbs at) nan) (p .small)))
+
+      pub passed-more : i + 1 < n → Passed xs start stride n us (at +ℤ stride) (i + 1)
+      passed-more h = record { short = omega arith; inside = inside-next (length xs) at stride (n - (i + 1)) (subst (Inside (length xs) at stride) one-less (p .inside)); same = turned; small = smaller }
+
+      -- the last value: no further place is formed
+      pub passed-last : n ≤ i + 1 → Passed xs start stride n us at (i + 1)
+      unfolding feed strided
+      passed-last h = record {
+        short = omega arith;
+        inside = subst (Inside (length xs) at stride) (sym none) (inside-none (length xs) at stride);
+        same = ap (λ (k : ℕ). feed laneJoined (i + 1) us (strided xs at stride k)) none ∙ sym (ap (λ (k : ℕ). feed laneJoined (i + 1) us (strided xs (at +ℤ stride) stride k)) none) ∙ turned;
+        small = smaller;
+      }
+        where
+          none : n - (i + 1) ≡ 0
+          none = omega arith

@@ -1,0 +1,69 @@
+-- `kernels::stepped::joined_lanes` meets its contract. The loop's invariant: k lanes are joined. Assumes nothing.
+use Prim.Native.Nat.{ℕ, _-_, _^_, _≤_}
+use mathlib.Core.Path.{_≡_, sym, subst}
+use mathlib.Core.List.{List}
+use native.Mathlib.Nat.{le-trans}
+use native.Mathlib.Omega.{arith}
+use lib.IntN.{natAbs}
+use lib.Dec.{lit≤}
+use borrow.Author.Needs.{needs}
+use Rattle.accumulator.specs.declared.StableProductFloatAcc.{StableProductFloatAcc}
+use Rattle.accumulator.specs.Joining.{identityAcc, combined}
+use Rattle.kernels.specs.Lanes.{inOrder}
+use Rattle.kernels.specs.Stepped.{accAt, lanesJoined}
+use Rattle.kernels.proofs.Feeding.{order-more, order-all}
+use Rattle.kernels.proofs.Sizes.{joined-size}
+use Rattle.kernels.proofs.stepped.joined_lanes.Statement.{statement}
+use Rattle.kernels.proofs.stepped.joined_lanes.Tie as tie
+
+-- lane j joined to what is joined so far
+abbrev step : List StableProductFloatAcc → ℕ → StableProductFloatAcc → StableProductFloatAcc
+step ls j b = combined b (accAt ls j)
+
+abbrev Inv-loop : tie.InvT-loop
+Inv-loop t a₀ k₀ a k = (k ≤ 8) × (a ≡ inOrder (step (t .lanes)) k identityAcc)
+
+abbrev μ-loop : tie.MeasureT-loop
+μ-loop t a₀ k₀ a k = 8 - k
+
+identity-requires : tie.Need-identity-requires Inv-loop μ-loop
+identity-requires c κs = search needs
+
+loop-holds : tie.Need-loop-holds Inv-loop μ-loop
+unfolding inOrder
+loop-holds c = (omega arith, c .identity .ensures)
+
+mul-b : tie.Need-mul-b Inv-loop μ-loop
+mul-b c = search needs
+
+element-copy-out-b : tie.Need-element-copy-out-b Inv-loop μ-loop
+element-copy-out-b c = search needs
+
+stable-float-combine-requires : tie.Need-stable-float-combine-requires Inv-loop μ-loop
+stable-float-combine-requires c κs =
+    let t = c .before .before in
+    let s = t .before .before in
+    let ls = s .args .t1 .lanes in (
+      subst (λ (a : StableProductFloatAcc). natAbs (a .e) ≤ 2 ^ 61) (sym (t .loop .inv .1)) (le-trans (joined-size (2 ^ 52) ls (t .loop .k) (s .pre)) (omega (arith, t .loop .inv .0))),
+      le-trans (s .pre .at (t .loop .k)) (lit≤ tt),
+    )
+
+add-k : tie.Need-add-k Inv-loop μ-loop
+add-k c = omega arith
+
+loop-less : tie.Need-loop-less Inv-loop μ-loop
+loop-less c = omega arith
+
+loop-again : tie.Need-loop-again Inv-loop μ-loop
+loop-again c =
+    let t = c .before .before .before in
+    (omega arith, order-more (step (t .before .before .args .t1 .lanes)) identityAcc (t .loop .a) (c .stable-float-combine .result) (t .loop .k) (t .loop .inv .1) (c .stable-float-combine .ensures))
+
+returns : tie.Need-returns Inv-loop μ-loop
+unfolding lanesJoined
+returns c =
+    let t = c .before in
+    order-all (step (t .before .before .args .t1 .lanes)) 8 identityAcc (t .loop .a) (t .loop .k) (t .loop .inv .0) (c .loop-test .left) (t .loop .inv .1)
+
+pub joined-lanes-spec : {M : Type 1} → statement M
+joined-lanes-spec = tie.close (tie.spec Inv-loop μ-loop identity-requires loop-holds mul-b element-copy-out-b stable-float-combine-requires add-k loop-less loop-again returns)

@@ -1,0 +1,111 @@
+-- `kernels::stepped::stepped_lanes` meets its contract. The loop's invariant is `Passed`. Assumes nothing.
+use Prim.Native.Nat.{_+_, _-_, _*_, _^_, _<_}
+use mathlib.Core.Path.{sym, subst}
+use native.Mathlib.Omega.{arith}
+use lib.ListN.{length}
+use lib.IntN.{ℤ, natAbs, _+ℤ_}
+use mir.Val.{toZ, ofZ}
+use mir.Syntax.{w64}
+use mir.ValLaws.{toZ-ofZ}
+use borrow.Author.Needs.{needs}
+use Rattle.kernels.proofs.Sizes.{accs-le}
+use Rattle.kernels.proofs.Striding.{Passed, passed-none, passed-more, passed-last, passed-all, first-natural, first-below, next-fits}
+use Rattle.kernels.proofs.stepped.stepped_lanes.Statement.{statement}
+use Rattle.kernels.proofs.stepped.stepped_lanes.Tie as tie
+
+abbrev Inv-loop : tie.InvT-loop
+Inv-loop values start stride len t₀ at₀ i₀ t at i = Passed values (toZ w64 start) (toZ w64 stride) len (t .lanes) (toZ w64 at) i
+
+abbrev μ-loop : tie.MeasureT-loop
+μ-loop values start stride len t₀ at₀ i₀ t at i = len - i
+
+identity-lanes-requires : tie.Need-identity-lanes-requires Inv-loop μ-loop
+identity-lanes-requires c κs = search needs
+
+loop-holds : tie.Need-loop-holds Inv-loop μ-loop
+loop-holds c =
+    let s = c .before .before in
+    passed-none (s .args .values .now) (toZ w64 (ofZ w64 (s .args .start))) (toZ w64 (ofZ w64 (s .args .stride))) (s .args .len) (c .identity-lanes .result .lanes) (c .identity-lanes .ensures)
+    (simp (toZ-ofZ w64 (s .args .start) (s .fits .start), toZ-ofZ w64 (s .args .stride) (s .fits .stride)) (s .pre .0))
+
+-- the place of the next value
+here : (c : tie.In-loop Inv-loop μ-loop) → natAbs (toZ w64 (c .before .loop .at)) < length (c .before .before .before .before .args .values .now)
+here c =
+    let s = c .before .before .before .before in
+    let p = c .before .loop .inv in
+    first-below (length (s .args .values .now)) (toZ w64 (c .before .loop .at)) (toZ w64 (ofZ w64 (s .args .stride))) (s .args .len - c .before .loop .i) (p .inside) (omega arith)
+
+cast-index : tie.Need-cast-index Inv-loop μ-loop
+cast-index c =
+    let s = c .before .before .before .before in
+    let p = c .before .loop .inv in (
+      first-natural (length (s .args .values .now)) (toZ w64 (c .before .loop .at)) (toZ w64 (ofZ w64 (s .args .stride))) (s .args .len - c .before .loop .i) (p .inside) (omega arith),
+      record { fits = omega (arith, here c, s .good .0 .0) },
+    )
+
+mul-join-lane : tie.Need-mul-join-lane Inv-loop μ-loop
+mul-join-lane c = omega (arith, here c, c .before .before .before .before .good .0 .1)
+
+shared-slice-read-join-lane : tie.Need-shared-slice-read-join-lane Inv-loop μ-loop
+shared-slice-read-join-lane c = here (c .before)
+
+join-lane-requires : tie.Need-join-lane-requires Inv-loop μ-loop
+join-lane-requires c κs =
+    let t = c .before .before in
+    (omega arith, accs-le (1025 * t .loop .i) (2 ^ 60) (t .loop .t .lanes) (omega (arith, t .before .before .before .pre .1)) (t .loop .inv .small))
+
+add-i : tie.Need-add-i Inv-loop μ-loop
+add-i c = omega arith
+
+add-at : tie.Need-add-at Inv-loop μ-loop
+add-at c =
+    let t = c .before .before .before .before in
+    let s = t .before .before .before in
+    next-fits (length (s .args .values .now)) (toZ w64 (t .loop .at)) (toZ w64 (ofZ w64 (s .args .stride))) (s .args .len - t .loop .i) (t .loop .inv .inside) (omega arith) (omega (arith, s .good .0 .1))
+
+loop-less : tie.Need-loop-less Inv-loop μ-loop
+loop-less c = omega arith
+
+loop-again : tie.Need-loop-again Inv-loop μ-loop
+loop-again c =
+    let t = c .before .before .before .before in
+    let s = t .before .before .before in
+    let start = toZ w64 (ofZ w64 (s .args .start)) in
+    let stride = toZ w64 (ofZ w64 (s .args .stride)) in
+    subst (λ (z : ℤ). Passed (s .args .values .now) start stride (s .args .len) (c .before .join-lane .result .lanes) z (t .loop .i + 1)) (sym (toZ-ofZ w64 (toZ w64 (t .loop .at) +ℤ stride) (add-at c)))
+    (passed-more (s .args .values .now) start stride (s .args .len) (t .loop .t .lanes) (toZ w64 (t .loop .at)) (t .loop .i) (t .loop .inv) (c .before .join-lane .result .lanes) (c .before .before .before .loop-test .taken) (c .before .join-lane .ensures) (c .if1 .taken))
+
+loop-less-2 : tie.Need-loop-less-2 Inv-loop μ-loop
+loop-less-2 c = omega arith
+
+loop-again-2 : tie.Need-loop-again-2 Inv-loop μ-loop
+loop-again-2 c =
+    let t = c .before .before .before .before in
+    let s = t .before .before .before in
+    passed-last (s .args .values .now) (toZ w64 (ofZ w64 (s .args .start))) (toZ w64 (ofZ w64 (s .args .stride))) (s .args .len) (t .loop .t .lanes) (toZ w64 (t .loop .at)) (t .loop .i) (t .loop .inv) (c .before .join-lane .result .lanes) (c .before .before .before .loop-test .taken) (c .before .join-lane .ensures) (c .if1 .left)
+
+returns : tie.Need-returns Inv-loop μ-loop
+returns c =
+    let s = c .before .before .before .before in
+    let e = passed-all (s .args .values .now) (toZ w64 (ofZ w64 (s .args .start))) (toZ w64 (ofZ w64 (s .args .stride))) (s .args .len) (c .before .loop .t .lanes) (toZ w64 (c .before .loop .at)) (c .before .loop .i) (c .before .loop .inv) (c .loop-test .left) in
+    simp (toZ-ofZ w64 (s .args .start) (s .fits .start), toZ-ofZ w64 (s .args .stride) (s .fits .stride)) at e
+
+pub stepped-lanes-spec : {M : Type 1} → statement M
+stepped-lanes-spec =
+    tie.close
+    (tie.spec
+    Inv-loop
+    μ-loop
+    identity-lanes-requires
+    loop-holds
+    cast-index
+    mul-join-lane
+    shared-slice-read-join-lane
+    join-lane-requires
+    add-i
+    add-at
+    loop-less
+    loop-again
+    loop-less-2
+    loop-again-2
+    returns)

@@ -1,0 +1,62 @@
+-- Whole lists of pieces: each piece worked in one of the two ways, the results joined left to right. Definitions only.
+use Prim.Native.Nat.{ℕ, _+_, _^_, _≤_, _<_}
+use lib.ListN.{length}
+use mathlib.Core.Path.{_≡_}
+use mathlib.Core.List.{List, [], _∷_, map, foldl}
+use mathlib.Core.Bool.{Bool, false, cond}
+use lib.IntN.{pos}
+use lib.Dec.{T}
+use lib.Ieee.{Float, binary64, fits}
+use Rattle.binary64.specs.Factor.{Factor, floatOf}
+use Rattle.binary64.specs.Magnitude.{moved}
+use Rattle.binary64.specs.Splitting.{bitsOf, isBad}
+use Rattle.accumulator.specs.declared.StableProductFloatAcc.{StableProductFloatAcc}
+use Rattle.accumulator.specs.Joining.{identityAcc, combined}
+use Rattle.kernels.specs.Lanes.{Each}
+use Rattle.kernels.specs.Stepped.{stepped}
+use Rattle.kernels.specs.Blocks.{contiguous}
+
+-- a rate that is not bad: a value of binary64 (as every f64 is) that a factor stands for
+pub record Rate (x : Float) : Type 0 where
+  pub value : T (fits binary64 x)
+  pub good : isBad x ≡ false
+
+-- one piece: in blocks of 64 (true), or in stepped lanes (false)
+abbrev pub worked : Bool → List Float → StableProductFloatAcc
+worked inBlocks xs = cond inBlocks (contiguous xs) (stepped xs)
+
+-- a piece with the choice of its way
+pub record Piece : Type 0 where
+  pub inBlocks : Bool
+  pub rates : List Float
+
+abbrev pub workedPiece : Piece → StableProductFloatAcc
+workedPiece p = worked (p .inBlocks) (p .rates)
+
+-- the results joined left to right, the first taken as it is
+unfoldable pub joinedPieces : List Piece → StableProductFloatAcc
+joinedPieces [] = identityAcc
+joinedPieces (p ∷ ps) = foldl combined (workedPiece p) (map workedPiece ps)
+
+-- how many rates the pieces have together
+unfoldable pub rateCount : List Piece → ℕ
+rateCount [] = 0
+rateCount (p ∷ ps) = length (p .rates) + rateCount ps
+
+-- the lists that the plain product is for: at least one piece, each of at least one rate, all together at most 2^40, no rate bad
+pub record GoodPiece (p : Piece) : Type 0 where
+  pub some-rate : 0 < length (p .rates)
+  pub good : Each Rate (p .rates)
+
+pub record Admitted (ps : List Piece) : Type 0 where
+  pub some-piece : 0 < length ps
+  pub pieces : Each GoodPiece ps
+  pub few : rateCount ps ≤ 2 ^ 40
+
+-- what the plain product is fed: the rates' bit patterns, and nothing else
+abbrev pub patternsOf : List Piece → List (List ℕ)
+patternsOf ps = map (λ (p : Piece). map bitsOf (p .rates)) ps
+
+-- the end factor as an accumulator: m = S / 2^52 with its sign, and e; not bad
+abbrev pub accOf : Factor → StableProductFloatAcc
+accOf f = record { m = floatOf 11 52 (moved f (pos 0)); e = f .exp; bad = false }
