@@ -2,6 +2,7 @@
 """Prints each case of a file and its answer in plain words: show.py CASES ANSWERS."""
 
 import signal
+import struct
 import sys
 
 REFUSALS = {
@@ -34,6 +35,12 @@ def shown_layout(words):
     return f"sizes {plain(sizes)}, strides {plain(strides)}", rest
 
 
+def shown_acc(words):
+    """An accumulator: m by its bits, e and the mark."""
+    m = struct.unpack(">d", bytes.fromhex(words[0]))[0]
+    return f"{m!r} × 2^{words[1]}" + (", bad" if words[2] == "1" else "")
+
+
 def shown_case(words):
     if words[0] == "compile":
         return "compile: " + shown_layout(words[1:])[0]
@@ -44,6 +51,8 @@ def shown_case(words):
             f"list: {layout}, base {base}, elements {start} to {end} (not included), "
             f"{length} values, a buffer of {rest[4]}"
         )
+    if words[0] == "join":
+        return f"join: {shown_acc(words[1:4])}; and {shown_acc(words[4:7])}"
     return " ".join(words)
 
 
@@ -67,6 +76,8 @@ def shown_answer(words):
         return f"{words[2]} elements, runs of {words[3]} by {words[4]}, {shown_axes(words[5:])}"
     if words[0] == "list":
         return "offsets " + plain(take_list(words[2:])[0])
+    if words[0] == "acc":
+        return shown_acc(words[1:4])
     if words[0] == "refused" and int(words[1]) in REFUSALS:
         return shown_refusal(words[1])
     return " ".join(words)

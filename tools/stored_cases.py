@@ -10,6 +10,13 @@ import sys
 LEAST = -(2**63)
 MOST = 2**63 - 1
 MANY = 2**40
+# Accumulators: the largest exponent, |m| × 2^52 at 1, 2 and 1.5, the bit of the sign, and the marks of which one is bad.
+LIMIT = 2**52
+ONE = 2**52
+TWO = 2**53
+SIGN = 2**63
+THREE_HALVES = 3 * 2**51
+BAD = [(0, 1), (1, 0), (1, 1)]
 OUT = []
 
 
@@ -27,6 +34,21 @@ def compile_(sizes, strides):
 
 def list_(sizes, strides, base, start, end, length, buffer):
     say(f"list {items(sizes)} {items(strides)} {base} {start} {end} {length} {items(buffer)}")
+
+
+def join(left, right):
+    """Each is the bits of m, e and the mark."""
+    say("join " + " ".join(f"{m:016x} {e} {bad}" for m, e, bad in [left, right]))
+
+
+def unit(significand):
+    """The bits of an m from its |m| × 2^52, which a minus turns."""
+    return 1023 * 2**52 + abs(significand) - ONE + (SIGN if significand < 0 else 0)
+
+
+def times(s, t, e=0, f=0, bad=(0, 0)):
+    """Joins two accumulators that are given by their |m| × 2^52, the sign with it."""
+    join((unit(s), e, bad[0]), (unit(t), f, bad[1]))
 
 
 def marks(count):
@@ -344,6 +366,115 @@ def ranges():
         list_([2, 3, 4], [100, 0, -1], 3, start, end, 104, marks(end - start))
 
 
+def products():
+    """Joined products: exact, with and without a carry, and rounded at 2. No two m have the product 2 exactly."""
+    times(ONE, ONE)
+    times(THREE_HALVES, THREE_HALVES)
+    times(ONE, TWO - 1, 7, -9)
+    times(TWO - 1, ONE, -7, 9)
+    times(TWO - 1, TWO - 1, 1000, 2000)
+    times(ONE + 1, ONE + 1)
+    times(5 * 2**50, 5 * 2**50)
+    # Rounded up to 2, from just below it and from a tie.
+    times(ONE + 1, TWO - 2)
+    times((2**27 - 1) * 2**26, (2**27 + 1) * 2**25)
+    # Rounded down to 2, from just above it and from a tie.
+    times(ONE + 1, TWO - 1)
+    times(THREE_HALVES, (2**53 + 1) // 3 * 2)
+    # The last that stays below 2, and the first that is above.
+    times(ONE + 1, TWO - 3)
+    times(ONE + 2, TWO - 2)
+
+
+def ties():
+    """Remainders of exactly half, to the even quotient below and above, and their neighbours."""
+    for odd in [1, 3, 5, 7]:
+        for beside in [0, -1, 1]:
+            times(ONE + odd, THREE_HALVES + beside)
+            times(THREE_HALVES + beside, ONE + odd)
+    for twice in [2, 6, 10, 14]:
+        for beside in [0, -1, 1]:
+            times(THREE_HALVES + twice, THREE_HALVES + beside)
+
+
+def signs():
+    """All four pairs of signs, where a product is exact, carried, a tie and rounded to 2."""
+    for s, t in [(ONE, ONE), (THREE_HALVES, THREE_HALVES), (ONE + 1, THREE_HALVES), (ONE + 1, TWO - 2)]:
+        for left, right in [(s, -t), (-s, t), (-s, -t)]:
+            times(left, right, 3, -5)
+
+
+def bad_marks():
+    """A bad mark keeps the left m and e, whatever the exponents would be together."""
+    for bad in BAD:
+        times(THREE_HALVES, -(ONE + 1), 11, -22, bad)
+        times(-(TWO - 1), TWO - 1, LIMIT, LIMIT, bad)
+        times(ONE, THREE_HALVES, -LIMIT, -LIMIT, bad)
+
+
+def refusal_9():
+    """Each bound of a given m and a given e, and its neighbour, on the left and on the right, bad or not."""
+    good = (unit(THREE_HALVES), 5, 0)
+    one, two, infinite = unit(ONE), unit(ONE) + 2**52, 2047 * 2**52
+    beside = [one - 1, one, two - 1, two, two + 1]
+    small = [0, 1, 2**52 - 1, 2**52]
+    nans = [infinite + extra for extra in [1, 2**51 - 1, 2**51, 2**51 + 1, 2**52 - 1]]
+    for m in [*beside, *small, infinite - 1, infinite, *nans]:
+        for sign in [0, SIGN]:
+            join((m + sign, 0, 0), good)
+            join(good, (m + sign, 0, 0))
+    for size in [LIMIT - 1, LIMIT, LIMIT + 1, MOST]:
+        for e in [size, -size]:
+            join((one, e, 0), (one, 0, 0))
+            join((one, 0, 0), (one, e, 0))
+    wrong_e = [(one, LEAST), (one, LIMIT + 1), (one, -LIMIT - 1)]
+    wrong_m = [(two, 0), (one - 1, 0), (nans[2], 0), (infinite, 0)]
+    for left, right in [(0, 0), *BAD]:
+        for wrong in [*wrong_e, *wrong_m]:
+            join((*wrong, left), (one, 0, right))
+            join((one, 0, left), (*wrong, right))
+    # Both, and before 10.
+    join((two, LEAST, 0), (0, MOST, 0))
+    join((one, LIMIT + 1, 0), (one, LIMIT, 0))
+    join((two, LIMIT, 0), (one, LIMIT, 0))
+
+
+def refusal_10():
+    """Each bound of the joined e and its neighbours, with a carry and without."""
+    for m in [ONE, THREE_HALVES]:
+        for total in [LIMIT - 2, LIMIT - 1, LIMIT, LIMIT + 1, LIMIT + 2]:
+            for first in [LIMIT, LIMIT // 2 + 3]:
+                times(m, m, first, total - first)
+                times(m, m, -first, first - total)
+    times(ONE, ONE, LIMIT, LIMIT)
+    times(ONE, ONE, -LIMIT, -LIMIT)
+    times(ONE, ONE, LIMIT, -LIMIT)
+    # A carry that rounding alone brings.
+    times(ONE + 1, TWO - 2, LIMIT, -1)
+    times(ONE + 1, TWO - 2, LIMIT, 0)
+    times(ONE + 1, TWO - 3, LIMIT, 0)
+    times(ONE + 1, TWO - 2, -LIMIT, -1)
+    times(ONE + 1, TWO - 2, -LIMIT, -2)
+
+
+def malformed_joins():
+    """Words of a join line that are not of the format, each in a line that is otherwise good."""
+    m = "3ff8000000000000"
+    good = [m, "0", "0", m, "-7", "1"]
+    floats = ["", m[1:], m + "0", m.upper(), "0x" + m[2:], "+" + m[1:], "1.5"]
+    floats += [m[:15] + byte for byte in "g/:`"]
+    exponents = ["", "+1", "-0", "01", "1.0", str(MOST + 1), str(LEAST - 1), m]
+    bad_marks = ["", "2", "00", "01", "-0", "true", str(2**64)]
+    lines = ["join"]
+    for place, wrong in enumerate([floats, exponents, bad_marks] * 2):
+        for word in wrong:
+            lines.append("join " + " ".join([*good[:place], word, *good[place + 1 :]]))
+    for count in range(6):
+        lines.append("join " + " ".join(good[:count]))
+    line = "join " + " ".join(good)
+    return [*lines, line + " ", line + " 0", line.replace(" ", "  ", 1), "joins" + line[4:], "J" + line[1:]]
+
+
 def malformed():
     """Lines that are not of the format, each between two that are."""
     good = "compile 1 2 1 1"
@@ -418,10 +549,10 @@ def malformed():
         "\x00",
         "compile 1 2 1 1\x00",
         "compile 1 2 1 1 \u00e9",
-        # A line of 128 KiB, one of a byte more, and one that takes more than two buffers.
+        *malformed_joins(),
+        # A line of 128 KiB, and one of a byte more.
         "x" * 131072,
         "x" * 131073,
-        "compile " + "1" * 270000 + " 2 1 1",
     ]
     say(good)
     for line in bad:
@@ -435,7 +566,7 @@ def longest():
     compile_([2**64 - 1], [LEAST])
     list_([2**64 - 1], [LEAST], LEAST, 2**64 - 1, 2**64 - 1, 2**64 - 1, [LEAST, MOST])
     list_([1], [0], 0, 0, 1, 1, [LEAST] * 4096)
-    list_([4096], [1], MOST - 4095, 0, 4096, 2**63, [LEAST] * 4096)
+    list_([4096], [1], MOST - 4095, 0, 4096, 2**63, [0] * 4096)
 
 
 def main():
@@ -453,6 +584,12 @@ def main():
         fusing,
         sizes_0_and_1,
         ranges,
+        products,
+        ties,
+        signs,
+        bad_marks,
+        refusal_9,
+        refusal_10,
         longest,
         malformed,
     ]:

@@ -1,6 +1,8 @@
 //! Ours: random case lines, the same for the same seed.
 //!
-//! A kind names what is drawn: `layout` gives lines of `compile` and `list`.
+//! A kind names what is drawn: `layout` gives lines of `compile` and `list`, `join` gives lines of `join`.
+
+mod join;
 
 use crate::rules;
 use std::io::{Result, Write};
@@ -11,6 +13,7 @@ pub type Maker = fn(&mut Dice) -> String;
 pub fn maker(kind: &str) -> Option<Maker> {
     match kind {
         "layout" => Some(layout_line),
+        "join" => Some(join::line),
         _ => None,
     }
 }

@@ -2,6 +2,7 @@
 ghost use Prim.Native.Nat.{_+_, _*_, _≤_};
 ghost use mathlib.Core.Path.{_≡_};
 ghost use lib.ListN.{length};
+use crate::acc::ReadAcc;
 use layout::axis::ReduceOuterAxis;
 use layout::traversal::Compiled;
 use layout::traversal::FullTraversal;
@@ -42,6 +43,9 @@ pub fn answer(line: &[u8], out: &mut [u8]) -> usize
     }
     if check::same(&line[..end], b"list") {
         return answer_list(line, end + 1, &mut *out);
+    }
+    if check::same(&line[..end], b"join") {
+        return answer_join(line, end + 1, &mut *out);
     }
     malformed(&mut *out)
 }
@@ -237,4 +241,20 @@ fn put_places(places: &[i64], out: &mut [u8], from: usize) -> usize
         i += 1;
     }
     at
+}
+
+fn answer_join(line: &[u8], at: usize, out: &mut [u8]) -> usize
+    requires { ⌜ 131072 ≤ length (now out) ⌝ }
+    ensures { λ r. ⌜ r ≤ 131072 ⌝ }
+{
+    let ReadAcc::Is(a, to_b) = crate::acc::read_acc(line, at) else {
+        return malformed(&mut *out);
+    };
+    let ReadAcc::Is(b, next) = crate::acc::read_acc(line, to_b) else {
+        return malformed(&mut *out);
+    };
+    if !text::word::at_end(line, next) {
+        return malformed(&mut *out);
+    }
+    crate::acc::put_reduced(accumulator::join(a, b), &mut *out)
 }

@@ -1,4 +1,5 @@
 // Answers each line of standard input, a call of the engine, with a line on standard output.
+mod acc;
 mod answer;
 mod input;
 

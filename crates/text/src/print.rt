@@ -1,5 +1,5 @@
 // Numbers and words put into a buffer, one after the other. Each call answers where the next one writes.
-ghost use Prim.Native.Nat.{_+_, _≤_};
+ghost use Prim.Native.Nat.{_+_, _≤_, _<_};
 ghost use mathlib.Core.Path.{_≡_};
 ghost use lib.ListN.{length};
 ghost use lib.Seq.{paste};
@@ -47,4 +47,39 @@ pub fn put_i64(out: &mut [u8], at: usize, n: i64) -> usize
         return put_digits(&mut *out, at + 2, size);
     }
     put_u64(&mut *out, at, size)
+}
+
+// The byte of a hex digit.
+fn hex_byte(digit: u64) -> u8
+    requires { ⌜ digit < 16 ⌝ }
+{
+    if digit < 10 {
+        return b'0' + digit as u8;
+    }
+    87 + digit as u8
+}
+
+// A space, and the 16 hex digits of a bit pattern.
+pub fn put_bits(out: &mut [u8], at: usize, bits: u64) -> usize
+    requires { ⌜ at + 17 ≤ length (now out) ⌝ }
+    ensures { λ r. ⌜ r ≤ at + 17 ⌝ }
+{
+    let digits = put(&mut *out, at, b" ");
+    put_hex(&mut *out, digits, bits)
+}
+
+// The last digit is put first.
+fn put_hex(out: &mut [u8], at: usize, bits: u64) -> usize
+    requires { ⌜ at + 16 ≤ length (now out) ⌝ }
+    ensures { λ r. ⌜ r ≤ at + 16 ⌝ }
+{
+    let mut rest = bits;
+    let mut i: usize = 16;
+    while 0 < i {
+        i -= 1;
+        let digit = hex_byte(rest % 16);
+        out[at + i] = digit;
+        rest /= 16;
+    }
+    at + 16
 }

@@ -67,6 +67,18 @@ pub fn read_i64(line: &[u8], at: usize) -> ReadI64 {
     ReadI64::Is(n, end + 1)
 }
 
+// The 16 hex digits of a bit pattern.
+pub fn read_bits(line: &[u8], at: usize) -> ReadU64 {
+    if line.len() < at {
+        return ReadU64::Malformed;
+    }
+    let end = find(line, at, b' ');
+    let Number::Is(n) = crate::number::parse_bits(&line[at..end]) else {
+        return ReadU64::Malformed;
+    };
+    ReadU64::Is(n, end + 1)
+}
+
 pub fn malformed() -> Items
     ensures { λ r. ⌜ r .count ≡ 0 ⌝ }
 {

@@ -50,14 +50,35 @@ same-length-2 c = search needs
 returns-2 : tie.Need-returns-2
 returns-2 c = search needs
 
-malformed-requires : tie.Need-malformed-requires
-malformed-requires c κs = search needs
+slice-aggregate-same-5 : tie.Need-slice-aggregate-same-5
+slice-aggregate-same-5 c = counts _ _ (search needs)
+
+slice-aggregate-same-6 : tie.Need-slice-aggregate-same-6
+slice-aggregate-same-6 c = search needs
+
+same-requires-3 : tie.Need-same-requires-3
+same-requires-3 c κs = search needs
+
+add-answer-join : tie.Need-add-answer-join
+add-answer-join c = search needs
+
+answer-join-requires : tie.Need-answer-join-requires
+answer-join-requires c κs = search needs
 
 same-length-3 : tie.Need-same-length-3
 same-length-3 c = search needs
 
 returns-3 : tie.Need-returns-3
 returns-3 c = search needs
+
+malformed-requires : tie.Need-malformed-requires
+malformed-requires c κs = search needs
+
+same-length-4 : tie.Need-same-length-4
+same-length-4 c = search needs
+
+returns-4 : tie.Need-returns-4
+returns-4 c = search needs
 
 pub answer-spec : {M : Type 1} → statement M
 answer-spec =
@@ -78,6 +99,13 @@ answer-spec =
     answer-list-requires
     same-length-2
     returns-2
-    malformed-requires
+    slice-aggregate-same-5
+    slice-aggregate-same-6
+    same-requires-3
+    add-answer-join
+    answer-join-requires
     same-length-3
-    returns-3)
+    returns-3
+    malformed-requires
+    same-length-4
+    returns-4)
