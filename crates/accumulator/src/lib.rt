@@ -68,7 +68,8 @@ fn within_limit(e: i64) -> bool
     -LIMIT <= e && e <= LIMIT
 }
 
-fn stands_up(a: StableProductFloatAcc) -> bool
+// What refusal 9 asks of a given accumulator, bad or not.
+pub fn stands_up(a: StableProductFloatAcc) -> bool
     ensures { λ r. ⌜ r ≡ stands a ⌝ }
 {
     in_unit(a.m) && within_limit(a.e)

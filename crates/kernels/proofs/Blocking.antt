@@ -93,7 +93,7 @@ held-start = record {
 
 -- ---- values
 -- how many of the first i values went to lane k
-abbrev count : ℕ → ℕ → ℕ
+abbrev pub count : ℕ → ℕ → ℕ
 count k i = (i + 7 - k) / 8
 
 -- a value that stays within C of its place, one of at most eight of its lane
@@ -113,6 +113,22 @@ turn-small C i h l =
 turn-other : (C i k : ℕ) → suc C * count k i ≤ suc C * count k (suc i)
 turn-other C i k = mul-le-mul-left (suc C) (let l : count k i ≤ count k (suc i) = omega arith in l)
 
+-- A value y with an exponent d that stand for a factor g, from whatever format and in whatever way they came: lane i mod 8 then stands for its product with g.
+pub value-held : (C : ℕ) → C ≤ 120 → (i : ℕ) (s : Lanes) (fs : List Factor) (y : Float) (d : ℤ) (g : Factor) (q : Bool) → i < 64 → Stands C y d g → Held (λ (k : ℕ). suc C * count k i) s fs
+    → Held (λ (k : ℕ). suc C * count k (suc i)) (record { m = set (s .m) (laneOf i) (productOf 11 52 (mOf s (laneOf i)) y); e = set (s .e) (laneOf i) (eOf s (laneOf i) +ℤ d); bad = q }) (laneTimes 52 i fs g)
+value-held C c i s fs y d g q l G h =
+    let j = laneOf i in
+    let f = getD fs j (unit 52) in
+    let m' = productOf 11 52 (mOf s j) y in
+    held-set (λ (k : ℕ). suc C * count k i) (λ (k : ℕ). suc C * count k (suc i)) s fs j m' (eOf s j +ℤ d) (times 52 f g) q h (lane-lt i)
+    (stands-more (suc C * count j i + C + 1) (suc C * count j (suc i)) m' (eOf s j +ℤ d) (times 52 f g) (turn-room C i c l)
+    (stands-times (suc C * count j i) C (mOf s j) y (eOf s j) d f g (h .at j (lane-lt i)) G (turn-small C i c l)))
+    (λ k a n. turn-other C i k)
+
+split-more : (i : ℕ) (s : Lanes) (fs : List Factor) (x : Float) → i < 64 → Value x → Held (λ (k : ℕ). 1 * count k i) s fs → Held (λ (k : ℕ). 1 * count k (suc i)) (splitStep i s x) (laneTimes 52 i fs (rate x))
+unfolding splitStep
+split-more i s fs x l v h = value-held 0 (lit≤ tt) i s fs (split x .m) (split x .e) (rate x) (s .bad || split x .bad) l (stands-rate x) h
+
 -- unsplit: the value is in the bounds
 record Near (x : Float) : Type 0 where
   value : Value x
@@ -122,27 +138,12 @@ unsplit-more : (i : ℕ) (s : Lanes) (fs : List Factor) (x : Float) → i < 64 �
 unfolding unsplitStep
 unsplit-more i s fs x l n h =
     let j = laneOf i in
-    let m' = productOf 11 52 (mOf s j) x in
-    let f = getD fs j (unit 52) in
     let b : ℕ → ℕ = λ (k : ℕ). 121 * count k (suc i) in
+    let t : Lanes = record { m = set (s .m) j (productOf 11 52 (mOf s j) x); e = s .e; bad = s .bad } in
     let X = stands-whole 120 x (n .value) (within-good 120 (lit≤ tt) x (n .value) (n .near)) (within-exponent 119 (lit≤ tt) x (n .value) (n .near)) in
-    held-same b b (record { m = set (s .m) j m'; e = set (s .e) j (eOf s j); bad = s .bad }) (record { m = set (s .m) j m'; e = s .e; bad = s .bad }) (set fs j (times 52 f (rate x))) (set fs j (times 52 f (rate x)))
-    refl (set-getD (s .e) j (pos 0)) refl (λ k a. le-refl (121 * count k (suc i)))
-    (held-set (λ (k : ℕ). 121 * count k i) b s fs j m' (eOf s j) (times 52 f (rate x)) (s .bad) h (lane-lt i)
-    (stands-more (121 * count j i + 120 + 1) (121 * count j (suc i)) m' (eOf s j) (times 52 f (rate x)) (turn-room 120 i (le-refl 120) l)
-    (subst (λ (e : ℤ). Stands (121 * count j i + 120 + 1) m' e (times 52 f (rate x))) (+ℤ-idr (eOf s j))
-    (stands-times (121 * count j i) 120 (mOf s j) x (eOf s j) (pos 0) f (rate x) (h .at j (lane-lt i)) X (turn-small 120 i (le-refl 120) l))))
-    (λ k a d. turn-other 120 i k))
-
-split-more : (i : ℕ) (s : Lanes) (fs : List Factor) (x : Float) → i < 64 → Value x → Held (λ (k : ℕ). 1 * count k i) s fs → Held (λ (k : ℕ). 1 * count k (suc i)) (splitStep i s x) (laneTimes 52 i fs (rate x))
-unfolding splitStep
-split-more i s fs x l n h =
-    let j = laneOf i in
-    let S = h .at j (lane-lt i) in
-    held-set (λ (k : ℕ). 1 * count k i) (λ (k : ℕ). 1 * count k (suc i)) s fs j (productOf 11 52 (mOf s j) (split x .m)) (eOf s j +ℤ split x .e) (times 52 (getD fs j (unit 52)) (rate x)) (s .bad || split x .bad) h (lane-lt i)
-    (stands-more (1 * count j i + 0 + 1) (1 * count j (suc i)) (productOf 11 52 (mOf s j) (split x .m)) (eOf s j +ℤ split x .e) (times 52 (getD fs j (unit 52)) (rate x)) (turn-room 0 i (lit≤ tt) l)
-    (stands-times (1 * count j i) 0 (mOf s j) (split x .m) (eOf s j) (split x .e) (getD fs j (unit 52)) (rate x) S (stands-rate x) (turn-small 0 i (lit≤ tt) l)))
-    (λ k a n. turn-other 0 i k)
+    held-same b b (record { m = t .m; e = set (s .e) j (eOf s j +ℤ pos 0); bad = s .bad }) t (laneTimes 52 i fs (rate x)) (laneTimes 52 i fs (rate x))
+    refl (ap (set (s .e) j) (+ℤ-idr (eOf s j)) ∙ set-getD (s .e) j (pos 0)) refl (λ k a. le-refl (b k))
+    (value-held 120 (le-refl 120) i s fs x (pos 0) (rate x) (s .bad) l X h)
 
 -- ---- bringing back
 -- lanes below k are in [1, 2), the others within B

@@ -10,7 +10,7 @@ use Rattle.binary64.specs.Product.{product}
 use Rattle.binary64.specs.Fields.{ofParts, valueOf, badBits}
 use Rattle.binary64.specs.Magnitude.{twoOrMore}
 use Rattle.binary64.specs.Splitting.{isBad, split}
-use Rattle.accumulator.specs.Joining.{multiplied, combined}
+use Rattle.accumulator.specs.Joining.{identityAcc, multiplied, combined}
 use Rattle.kernels.specs.Lanes.{feed, inOrder, every, some}
 use Rattle.kernels.specs.Stepped.{rateAcc, laneJoined, steppedLanes, lanesJoined, stepped}
 use Rattle.kernels.specs.Blocks.{unsplitStep, splitStep, within, inBounds, renormLane, renorm, unsplit, block, blocks, laneIn, lanesIn, contiguous}
@@ -75,3 +75,8 @@ bound-out-low = refl
 pub bound-nan : inBounds nan ≡ false
 unfolding within
 bound-nan = refl
+
+-- no value at all: the identity, as the Rust returns at once
+pub none-blocks : contiguous [] ≡ identityAcc
+unfolding contiguous blocks block unsplit renorm renormLane inOrder feed splitStep unsplitStep within every some laneIn lanesIn split toBits valueOf ofParts delivered isBad badBits product rounded size odd isNan
+none-blocks = refl

@@ -27,10 +27,10 @@ abbrev noAcc : StableProductFloatAcc
 noAcc = record { m = nan; e = pos 0; bad = false }
 
 -- ---- eight lanes of accumulators are those of eight factors
-record Same (ls : List StableProductFloatAcc) (fs : List Factor) : Type 0 where
-  acc-long : length ls ≡ 8
-  factor-long : length fs ≡ 8
-  at : (k : ℕ) → k < 8 → (accAt ls k ≡ accOf (getD fs k (unit 52))) × Normal 52 (getD fs k (unit 52))
+pub record Same (ls : List StableProductFloatAcc) (fs : List Factor) : Type 0 where
+  pub acc-long : length ls ≡ 8
+  pub factor-long : length fs ≡ 8
+  pub at : (k : ℕ) → k < 8 → (accAt ls k ≡ accOf (getD fs k (unit 52))) × Normal 52 (getD fs k (unit 52))
 
 same-start : Same (replicate 8 identityAcc) (replicate 8 (unit 52))
 same-start = record {
@@ -40,9 +40,10 @@ same-start = record {
       (getD-replicate 8 k identityAcc noAcc h ∙ identity-is ∙ ap accOf (sym (getD-replicate 8 k (unit 52) (unit 52) h)), subst (Normal 52) (sym (getD-replicate 8 k (unit 52) (unit 52) h)) (unit-normal 52));
 }
 
-same-more : (i : ℕ) (ls : List StableProductFloatAcc) (fs : List Factor) (x : Float) → Rate x → Same ls fs → Same (laneJoined i ls x) (laneTimes 52 i fs (rate x))
-unfolding laneJoined
-same-more i ls fs x r s = record {
+-- An accumulator that is a factor's, from whatever format it came, joined to lane i mod 8.
+pub joined-value : (i : ℕ) (ls : List StableProductFloatAcc) (fs : List Factor) (b : StableProductFloatAcc) (g : Factor) → b ≡ accOf g → Normal 52 g → Same ls fs
+    → Same (set ls (laneOf i) (combined (accAt ls (laneOf i)) b)) (laneTimes 52 i fs g)
+joined-value i ls fs b g e N s = record {
   acc-long = length-set ls j a ∙ s .acc-long;
   factor-long = length-set fs j f ∙ s .factor-long;
   at = λ k h. both k h;
@@ -52,19 +53,19 @@ same-more i ls fs x r s = record {
     j = laneOf i
 
     a : StableProductFloatAcc
-    a = combined (accAt ls j) (rateAcc x)
+    a = combined (accAt ls j) b
 
     f : Factor
-    f = times 52 (getD fs j (unit 52)) (rate x)
+    f = times 52 (getD fs j (unit 52)) g
 
     normal : Normal 52 (getD fs j (unit 52))
     normal = s .at j (lane-lt i) .1
 
     joined : a ≡ accOf f
     joined =
-        ap (λ (b : StableProductFloatAcc). combined b (rateAcc x)) (s .at j (lane-lt i) .0)
-        ∙ ap (combined (accOf (getD fs j (unit 52)))) (rate-is x r)
-        ∙ combined-times (getD fs j (unit 52)) (rate x) normal (rate-normal x)
+        ap (λ (c : StableProductFloatAcc). combined c b) (s .at j (lane-lt i) .0)
+        ∙ ap (combined (accOf (getD fs j (unit 52)))) e
+        ∙ combined-times (getD fs j (unit 52)) g normal N
 
     in-acc : j < length ls
     in-acc = subst (λ (n : ℕ). j < n) (sym (s .acc-long)) (lane-lt i)
@@ -74,9 +75,13 @@ same-more i ls fs x r s = record {
 
     both : (k : ℕ) → k < 8 → (accAt (set ls j a) k ≡ accOf (getD (set fs j f) k (unit 52))) × Normal 52 (getD (set fs j f) k (unit 52))
     both k h =
-        set-cases (λ (g : Factor). (accAt (set ls j a) k ≡ accOf g) × Normal 52 g) fs j k f (unit 52) in-factor
-        (λ e. (set-cases (λ (b : StableProductFloatAcc). b ≡ accOf f) ls j k a noAcc in-acc (λ e'. joined) (λ n. absurd (n e)), times-normal 52 (getD fs j (unit 52)) (rate x) normal (rate-normal x)))
-        (λ n. (set-cases (λ (b : StableProductFloatAcc). b ≡ accOf (getD fs k (unit 52))) ls j k a noAcc in-acc (λ e. absurd (n e)) (λ n'. s .at k h .0), s .at k h .1))
+        set-cases (λ (y : Factor). (accAt (set ls j a) k ≡ accOf y) × Normal 52 y) fs j k f (unit 52) in-factor
+        (λ p. (set-cases (λ (c : StableProductFloatAcc). c ≡ accOf f) ls j k a noAcc in-acc (λ p'. joined) (λ n. absurd (n p)), times-normal 52 (getD fs j (unit 52)) g normal N))
+        (λ n. (set-cases (λ (c : StableProductFloatAcc). c ≡ accOf (getD fs k (unit 52))) ls j k a noAcc in-acc (λ p. absurd (n p)) (λ n'. s .at k h .0), s .at k h .1))
+
+same-more : (i : ℕ) (ls : List StableProductFloatAcc) (fs : List Factor) (x : Float) → Rate x → Same ls fs → Same (laneJoined i ls x) (laneTimes 52 i fs (rate x))
+unfolding laneJoined
+same-more i ls fs x r s = joined-value i ls fs (rateAcc x) (rate x) (rate-is x r) (rate-normal x) s
 
 same-all : {xs : List Float} → Each Rate xs → Same (steppedLanes xs) (lanes 52 (map rate xs))
 unfolding steppedLanes lanes

@@ -8,6 +8,10 @@ ghost use Rattle.kernels.specs.Lanes.{feed, window, every, some};
 ghost use Rattle.kernels.specs.Blocks.{startLanes, eOf, unsplitStep, splitStep, inBounds, renormLane, renorm, block, blocks, laneIn, lanesIn, contiguous, SmallLanes};
 use accumulator::StableProductFloatAcc;
 
+const LANES: usize = StableProductFloatAcc::LANES;
+
+const BLOCK: usize = StableProductFloatAcc::BLOCK;
+
 // The bounds of a value that a block may multiply unsplit: 2^-120 and 2^120. Eight of them times a lane in [1, 2) stay normal.
 const LO: f64 = 7.52316384526264e-37;
 
@@ -15,8 +19,8 @@ const HI: f64 = 1.329227995784916e36;
 
 // The lanes of a piece worked in blocks: each lane's m and e, and whether a bad value entered.
 pub struct Lanes {
-    pub m: [f64; 8],
-    pub e: [i64; 8],
+    pub m: [f64; LANES],
+    pub e: [i64; LANES],
     pub bad: bool,
 }
 
@@ -24,8 +28,8 @@ fn start_lanes() -> Lanes
     ensures { λ r. ⌜ r ≡ startLanes ⌝ }
 {
     Lanes {
-        m: [1.0; 8],
-        e: [0; 8],
+        m: [1.0; LANES],
+        e: [0; LANES],
         bad: false,
     }
 }
@@ -44,7 +48,7 @@ fn block_in_bounds(values: &[f64], at: usize) -> bool
 {
     let mut ok = true;
     let mut i: usize = 0;
-    while i < 64 {
+    while i < BLOCK {
         ok = ok & in_bounds(values[at + i]);
         i += 1;
     }
@@ -58,7 +62,7 @@ fn unsplit_row(s: Lanes, values: &[f64], at: usize) -> Lanes
 {
     let mut t = s;
     let mut lane: usize = 0;
-    while lane < 8 {
+    while lane < LANES {
         t.m[lane] = t.m[lane] * values[at + lane];
         lane += 1;
     }
@@ -72,8 +76,8 @@ fn unsplit_block(s: Lanes, values: &[f64], at: usize) -> Lanes
 {
     let mut t = s;
     let mut row: usize = 0;
-    while row < 8 {
-        t = unsplit_row(t, values, at + row * 8);
+    while row < BLOCK / LANES {
+        t = unsplit_row(t, values, at + row * LANES);
         row += 1;
     }
     t
@@ -85,7 +89,7 @@ fn any_nan(s: Lanes) -> bool
 {
     let mut found = false;
     let mut k: usize = 0;
-    while k < 8 {
+    while k < LANES {
         let m = s.m[k];
         found = found | (m != m);
         k += 1;
@@ -100,7 +104,7 @@ fn split_step(s: Lanes, i: usize, value: f64) -> Lanes
 {
     let mut t = s;
     let p = binary64::split_f64(value);
-    let lane = i % 8;
+    let lane = i % LANES;
     t.m[lane] = t.m[lane] * p.m;
     t.e[lane] = t.e[lane] + p.e;
     t.bad = t.bad | p.bad;
@@ -139,7 +143,7 @@ fn stable_renorm(s: Lanes) -> Lanes
 {
     let mut t = s;
     let mut k: usize = 0;
-    while k < 8 {
+    while k < LANES {
         t = renorm_lane(t, k);
         k += 1;
     }
@@ -156,7 +160,7 @@ fn one_block(s: Lanes, values: &[f64], at: usize) -> Lanes
             return stable_renorm(t);
         }
     }
-    let u = split_values(s, values, at, 64);
+    let u = split_values(s, values, at, BLOCK);
     stable_renorm(u)
 }
 
@@ -165,14 +169,14 @@ fn piece_lanes(values: &[f64]) -> Lanes
     requires { ⌜ length (now values) ≤ 2 ^ 40 ⌝ }
     ensures { λ r. ⌜ r ≡ blocks (length (now (values .entry)) / 64) startLanes (now (values .entry)) ⌝ }
 {
-    let count = values.len() / 64;
+    let count = values.len() / BLOCK;
     let mut s = start_lanes();
     let mut b: usize = 0;
     while b < count {
-        s = one_block(s, values, b * 64);
+        s = one_block(s, values, b * BLOCK);
         b += 1;
     }
-    let t = split_values(s, values, count * 64, values.len() - count * 64);
+    let t = split_values(s, values, count * BLOCK, values.len() - count * BLOCK);
     stable_renorm(t)
 }
 
@@ -200,7 +204,7 @@ fn lanes_in(s: Lanes) -> StableProductFloatAcc
         bad: s.bad,
     };
     let mut k: usize = 0;
-    while k < 8 {
+    while k < LANES {
         a = lane_in(s, k, a);
         k += 1;
     }

@@ -7,15 +7,17 @@ ghost use Rattle.kernels.specs.Strided.{strided, Inside};
 ghost use Rattle.kernels.specs.Stepped.{rateAcc, accAt, steppedLanes, lanesJoined, stepped, SmallAccs};
 use accumulator::StableProductFloatAcc;
 
+const LANES: usize = StableProductFloatAcc::LANES;
+
 pub struct AccLanes {
-    pub lanes: [StableProductFloatAcc; 8],
+    pub lanes: [StableProductFloatAcc; LANES],
 }
 
 fn identity_lanes() -> AccLanes
     ensures { λ r. ⌜ r .lanes ≡ replicate 8 identityAcc ⌝ }
 {
     let a = StableProductFloatAcc::identity();
-    AccLanes { lanes: [a; 8] }
+    AccLanes { lanes: [a; LANES] }
 }
 
 // A value, split, as an accumulator.
@@ -53,7 +55,7 @@ fn stepped_lanes(values: &[f64], start: i64, stride: i64, len: usize) -> AccLane
     let mut i: usize = 0;
     while i < len {
         let index = at as usize;
-        t = join_lane(t, i % 8, values[index]);
+        t = join_lane(t, i % LANES, values[index]);
         i += 1;
         if i < len {
             at += stride;
@@ -69,7 +71,7 @@ fn joined_lanes(t: AccLanes) -> StableProductFloatAcc
 {
     let mut a = StableProductFloatAcc::identity();
     let mut k: usize = 0;
-    while k < 8 {
+    while k < LANES {
         let b = t.lanes[k];
         a = accumulator::stable_float_combine(a, b);
         k += 1;

@@ -1,0 +1,125 @@
+-- `roundedOnce` is `floatOf`: the one rounding of the exact S × 2^(e - 52) to binary64. Assumes nothing.
+use mathlib.Core.Path.{_≡_, refl, sym, ap, _∙_}
+use mathlib.Core.Bool.{Bool, true, false, cond}
+use Prim.Native.Nat.{ℕ, suc, _+_, _-_, _*_, _^_, _≤_, _<_, max}
+use native.Mathlib.Nat.{le-trans, le-of-eq, lt-of-lt-of-le, lt-of-le-of-lt, mul-one, mul-le-mul-right, mul-lt-mul-of-pos-right}
+use native.Mathlib.Omega.{arith}
+use lib.IntN.{ℤ, pos, negsuc, natAbs, _+ℤ_, _-ℤ_}
+use lib.Signed.{ltZ}
+use lib.Dec.{lit<}
+use lib.Pow.{pow-add, pow-pos, pow-mono, pow-lt}
+use lib.Ieee.{Float, inf, size, odd}
+use lib.Ieee.Nearest.{closest}
+use borrow.Author.Tests.{lt-ltb, le-ltb}
+use Rattle.integers.proofs.Difference.{ints, atoms}
+use Rattle.integers.proofs.Machine.{nonneg-pos}
+use Rattle.binary64.specs.Rounding.{lowest, tiesToEven, delivered, rounded}
+use Rattle.binary64.specs.Factor.{Factor, Normal, InRange, floatOf}
+use Rattle.binary64.specs.Magnitude.{factorAt}
+use Rattle.binary64.proofs.Nearest.{ties-is, kept-le-max, size-is}
+use Rattle.binary64.proofs.Bridge.{floatOf-is}
+use Rattle.finishing.specs.Once.{counted, above, normal, roundedOnce}
+
+-- ---- `delivered`, below and from the overflow on
+module _ (p em : ℕ) (s : Bool) (n j : ℕ) where
+  delivered-below : n * 2 ^ j < 2 ^ (lowest p em + suc em) → delivered p em s n j ≡ odd (suc p) s n j (lowest p em)
+  unfolding delivered
+  delivered-below h = ap (λ (t : Bool). cond t (odd (suc p) s n j (lowest p em)) (inf s)) (lt-ltb (n * 2 ^ j) (2 ^ (lowest p em + suc em)) h)
+
+  delivered-over : 2 ^ (lowest p em + suc em) ≤ n * 2 ^ j → delivered p em s n j ≡ inf s
+  unfolding delivered
+  delivered-over h = ap (λ (t : Bool). cond t (odd (suc p) s n j (lowest p em)) (inf s)) (le-ltb (n * 2 ^ j) (2 ^ (lowest p em + suc em)) h)
+
+-- a significand of t + 1 digits, at the place j: at most twice the largest exponent less 1, or above
+module _ (t em : ℕ) (S j : ℕ) where
+  room : S < 2 ^ (t + 1) → j < 2 * em → S * 2 ^ j < 2 ^ (lowest (t + 1) em + suc em)
+  room h k = lt-of-lt-of-le (mul-lt-mul-of-pos-right h (pow-pos j)) (le-trans (le-of-eq (sym (pow-add 2 (t + 1) j))) (pow-mono (omega arith)))
+
+  over : 0 < em → 2 ^ t ≤ S → 2 * em ≤ j → 2 ^ (lowest (t + 1) em + suc em) ≤ S * 2 ^ j
+  over e h k = le-trans (pow-mono (let l : lowest (t + 1) em + suc em ≤ t + j = omega arith in l)) (le-trans (le-of-eq (pow-add 2 t j)) (mul-le-mul-right (2 ^ j) h))
+
+-- what is left of S below the least normal number
+low-room : (t em n : ℕ) → 1 < em → n ≤ 2 ^ (t + 1) → n * 2 ^ 0 < 2 ^ (lowest (t + 1) em + suc em)
+low-room t em n e h = lt-of-le-of-lt (le-trans (le-of-eq (mul-one n)) h) (pow-lt (omega arith))
+
+-- ---- `rounded` below the least normal number: S divided by 2^(j + 1) counts units
+rounded-low : (t em : ℕ) (s : Bool) (S j : ℕ) → 1 < em → 2 ^ t ≤ S → S < 2 ^ (t + 1)
+    → rounded (t + 1) em s S (negsuc j) ≡ odd (suc (t + 1)) s (tiesToEven S (2 ^ suc j)) 0 (lowest (t + 1) em)
+unfolding rounded
+rounded-low t em s S j e lo hi =
+    let z : size S ≡ suc t = size-is S t lo (lt-of-lt-of-le hi (le-of-eq (ap (λ (x : ℕ). 2 ^ x) (omega arith)))) in
+    let k : max (size S - (t + 1)) (suc j) ≡ suc j = omega arith in
+    let d : suc j - suc j ≡ 0 = omega arith in
+    ap (λ (x : ℕ). delivered (t + 1) em s (tiesToEven S (2 ^ x)) (x - suc j)) k
+    ∙ ap (delivered (t + 1) em s (tiesToEven S (2 ^ suc j))) d
+    ∙ delivered-below (t + 1) em s (tiesToEven S (2 ^ suc j)) 0
+    (low-room t em (tiesToEven S (2 ^ suc j)) e (le-trans (le-of-eq (ties-is S (2 ^ suc j) ∙ ap (λ (x : ℕ). closest S (2 ^ x)) (sym k))) (kept-le-max (t + 1) S (suc j))))
+
+-- ---- the place e + 1022 of an exponent
+module _ (e : ℤ) where
+  from-zero : normal e ≡ true → ltZ (e +ℤ pos 1022) (pos 0) ≡ false
+  from-zero = simp ints (simp atoms (omega arith))
+
+  below-least : normal e ≡ false → ltZ (negsuc 1021 -ℤ e) (pos 0) ≡ false
+  below-least = simp ints (simp atoms (omega arith))
+
+  pub above-normal : above e ≡ true → normal e ≡ true
+  above-normal = simp ints (simp atoms (omega arith))
+
+  place-over : (j : ℕ) → e +ℤ pos 1022 ≡ pos j → above e ≡ true → 2046 ≤ j
+  place-over j = simp ints (simp atoms (omega arith))
+
+  place-below : (j : ℕ) → e +ℤ pos 1022 ≡ pos j → above e ≡ false → j < 2046
+  place-below j = simp ints (simp atoms (omega arith))
+
+  place-under : (n : ℕ) → negsuc 1021 -ℤ e ≡ pos n → normal e ≡ false → e +ℤ pos 1022 ≡ negsuc (n - 1)
+  place-under n = simp ints (simp atoms (omega arith))
+
+  under-pos : (n : ℕ) → negsuc 1021 -ℤ e ≡ pos n → normal e ≡ false → 1 ≤ n
+  under-pos n = simp ints (simp atoms (omega arith))
+
+  place-is : normal e ≡ true → e +ℤ pos 1022 ≡ pos (natAbs (e +ℤ pos 1022))
+  place-is h = nonneg-pos (e +ℤ pos 1022) (from-zero h)
+
+  -- e from -1022 to 1023 is the exponent of a normal number
+  pub range : (t : ℕ) (m : Float) → above e ≡ false → normal e ≡ true → InRange 11 (factorAt t m e)
+  unfolding factorAt
+  range t m h k = record { place = natAbs (e +ℤ pos 1022); above = place-is k; below = place-below (natAbs (e +ℤ pos 1022)) (place-is k) h }
+
+-- ---- the three ranges of e
+module _ (f : Factor) (N : Normal 52 f) where
+  abbrev j : ℕ
+  j = natAbs (f .exp +ℤ pos 1022)
+
+  abbrev n : ℕ
+  n = natAbs (negsuc 1021 -ℤ f .exp)
+
+  pub float-above : above (f .exp) ≡ true → floatOf 11 52 f ≡ inf (f .sign)
+  float-above h =
+      let p = place-is (f .exp) (above-normal (f .exp) h) in
+      floatOf-is 11 52 f j N p ∙ delivered-over 53 1023 (f .sign) (f .sig) j (over 52 1023 (f .sig) j (lit< tt) (N .least) (place-over (f .exp) j p h))
+
+  pub float-normal : above (f .exp) ≡ false → normal (f .exp) ≡ true → floatOf 11 52 f ≡ counted (f .sign) (f .sig) j
+  unfolding counted
+  float-normal h k =
+      let p = place-is (f .exp) k in
+      floatOf-is 11 52 f j N p ∙ delivered-below 53 1023 (f .sign) (f .sig) j (room 52 1023 (f .sig) j (N .most) (place-below (f .exp) j p h))
+
+  pub float-low : normal (f .exp) ≡ false → floatOf 11 52 f ≡ counted (f .sign) (tiesToEven (f .sig) (2 ^ n)) 0
+  unfolding counted floatOf
+  float-low k =
+      let p = nonneg-pos (negsuc 1021 -ℤ f .exp) (below-least (f .exp) k) in
+      let q : suc (n - 1) ≡ n = omega (arith, under-pos (f .exp) n p k) in
+      ap (rounded 53 1023 (f .sign) (f .sig)) (place-under (f .exp) n p k)
+      ∙ rounded-low 52 1023 (f .sign) (f .sig) (n - 1) (lit< tt) (N .least) (N .most)
+      ∙ ap (λ (x : ℕ). odd 54 (f .sign) (tiesToEven (f .sig) (2 ^ x)) 0 1074) q
+
+  pub once-is : roundedOnce f ≡ floatOf 11 52 f
+  unfolding roundedOnce
+  once-is = go (above (f .exp)) (normal (f .exp)) refl refl
+    where
+      go : (a b : Bool) → above (f .exp) ≡ a → normal (f .exp) ≡ b
+          → cond a (inf (f .sign)) (cond b (counted (f .sign) (f .sig) j) (counted (f .sign) (tiesToEven (f .sig) (2 ^ n)) 0)) ≡ floatOf 11 52 f
+      go true b h k = sym (float-above h)
+      go false true h k = sym (float-normal h k)
+      go false false h k = sym (float-low k)

@@ -1,0 +1,136 @@
+-- The patterns of the code: infinity, and a power of two by its exponent field. Assumes nothing.
+use mathlib.Core.Path.{_≡_, refl, sym, ap, _∙_, subst}
+use mathlib.Core.Bool.{Bool, true, false, cond, not, _&&_, _||_}
+use Prim.Native.Nat.{ℕ, suc, _+_, _-_, _*_, _/_, _%_, _^_, _≤_, _<_}
+use native.Mathlib.Omega.{arith}
+use lib.IntN.{ℤ, pos, negsuc, natAbs, _+ℤ_}
+use lib.Signed.{ltZ, nonNeg}
+use lib.Dec.{T, leb, eqb}
+use lib.Ieee.{Float, nan, inf, fin, binary64, minus, odd, eq, neg, ofBits, ofFields, nanBits}
+use mir.Syntax.{w64}
+use mir.Val.{SFits, Fits}
+use borrow.Author.Tests.{lt-leb, ne-eqb, leb-true, leb-false}
+use Rattle.integers.proofs.Difference.{ints, atoms, diff, at-pos, at-neg}
+use Rattle.integers.proofs.Machine.{nonneg-pos}
+use Rattle.finishing.specs.Once.{above, normal}
+use Rattle.finishing.specs.Finishing.{isInfinite}
+
+-- ---- infinity
+abbrev pub infinity : Float
+infinity = ofBits binary64 9218868437227405312
+
+infinity-is : infinity ≡ inf false
+unfolding ofBits
+infinity-is = refl
+
+either : (m : Float) → (eq m (inf false) || eq m (neg (inf false))) ≡ isInfinite m
+unfolding eq neg isInfinite
+either nan = refl
+either (inf true) = refl
+either (inf false) = refl
+either (fin s m e) = refl
+
+infinite-test : (m : Float) → (eq m infinity || eq m (neg infinity)) ≡ isInfinite m
+infinite-test m = ap (λ (x : Float). eq m x || eq m (neg x)) infinity-is ∙ either m
+
+pub infinite-taken : (m : Float) → eq m infinity ≡ true → eq m infinity ≡ isInfinite m
+infinite-taken m h = h ∙ ap (λ (t : Bool). t || eq m (neg infinity)) (sym h) ∙ infinite-test m
+
+pub infinite-left : (m : Float) → eq m infinity ≡ false → eq m (neg infinity) ≡ isInfinite m
+infinite-left m h = ap (λ (t : Bool). t || eq m (neg infinity)) (sym h) ∙ infinite-test m
+
+-- ---- a power of two
+minus-is : (a b : ℕ) → minus a b ≡ diff a b
+minus-is a b = go (leb b a) refl
+  where
+    go : (t : Bool) → leb b a ≡ t → cond t (pos (a - b)) (negsuc (b - suc a)) ≡ diff a b
+    go true h = sym (at-pos a b (a - b) (let l : b ≤ a = leb-true b a h in omega arith))
+    go false h = sym (at-neg a b (b - suc a) (let l : a < b = leb-false b a h in omega arith))
+
+-- the exponent of the field x + 1
+exponent : (e : ℤ) (x : ℕ) → e +ℤ pos 1023 ≡ pos (suc x) → minus (x + 52) 1074 ≡ e
+exponent (pos n) x h = minus-is (x + 52) 1074 ∙ at-pos (x + 52) 1074 n (flat n x h)
+  where
+    flat : (n x : ℕ) → pos n +ℤ pos 1023 ≡ pos (suc x) → x + 52 ≡ 1074 + n
+    flat n x = simp ints (simp atoms (omega arith))
+exponent (negsuc n) x h = minus-is (x + 52) 1074 ∙ at-neg (x + 52) 1074 n (flat n x h)
+  where
+    flat : (n x : ℕ) → negsuc n +ℤ pos 1023 ≡ pos (suc x) → 1074 ≡ x + 52 + suc n
+    flat n x = simp ints (simp atoms (omega arith))
+
+-- the fields of (x + 1) × 2^52
+module _ (x : ℕ) (h : x < 2046) where
+  abbrev bits : ℕ
+  bits = suc x * 2 ^ 52
+
+  plus : leb 9223372036854775808 bits ≡ false
+  plus = lt-leb 9223372036854775808 bits (omega arith)
+
+  field : bits % 9223372036854775808 / 4503599627370496 ≡ suc x
+  field = omega arith
+
+  none : bits % 4503599627370496 ≡ 0
+  none = omega arith
+
+  not-all : eqb (suc x) 2047 ≡ false
+  not-all = ne-eqb (suc x) 2047 (λ (z : suc x ≡ 2047). omega arith)
+
+  fields : ofFields binary64 false (suc x) 0 ≡ fin false 1 (minus (x + 52) 1074)
+  unfolding ofFields
+  fields = ap (λ (t : Bool). cond t (inf false) (odd 53 false 4503599627370496 x 1074)) not-all
+
+  power-bits : ofBits binary64 bits ≡ fin false 1 (minus (x + 52) 1074)
+  unfolding ofBits
+  power-bits =
+      ap (λ (s : Bool). ofFields binary64 s (bits % 9223372036854775808 / 4503599627370496) (bits % 4503599627370496)) plus
+      ∙ ap (λ (y : ℕ). ofFields binary64 false y (bits % 4503599627370496)) field
+      ∙ ap (ofFields binary64 false (suc x)) none
+      ∙ fields
+
+  power-number : T (not (nanBits binary64 bits))
+  unfolding nanBits
+  power-number = subst (λ (t : Bool). T (not (t && not (eqb (bits % 4503599627370496) 0)))) (sym (ap (λ (y : ℕ). eqb y 2047) field ∙ not-all)) tt
+
+-- ---- an exponent from -1022 to 1023
+module _ (e : ℤ) (h : above e ≡ false) (k : normal e ≡ true) where
+  range-fits : (e : ℤ) → above e ≡ false → normal e ≡ true → SFits w64 (e +ℤ pos 1023)
+  range-fits e = simp ints (simp atoms (omega arith))
+
+  from-zero : (e : ℤ) → normal e ≡ true → ltZ (e +ℤ pos 1023) (pos 0) ≡ false
+  from-zero e = simp ints (simp atoms (omega arith))
+
+  field-low : (e : ℤ) (n : ℕ) → e +ℤ pos 1023 ≡ pos n → normal e ≡ true → 1 ≤ n
+  field-low e n = simp ints (simp atoms (omega arith))
+
+  field-high : (e : ℤ) (n : ℕ) → e +ℤ pos 1023 ≡ pos n → above e ≡ false → n ≤ 2046
+  field-high e n = simp ints (simp atoms (omega arith))
+
+  abbrev pub n : ℕ
+  n = natAbs (e +ℤ pos 1023)
+
+  n-is : e +ℤ pos 1023 ≡ pos n
+  n-is = nonneg-pos (e +ℤ pos 1023) (from-zero e k)
+
+  n-suc : n ≡ suc (n - 1)
+  n-suc = let l = field-low e n n-is k in omega arith
+
+  n-low : n - 1 < 2046
+  n-low = let l = field-low e n n-is k in let u = field-high e n n-is h in omega arith
+
+  pub field-fits : SFits w64 (e +ℤ pos 1023)
+  field-fits = range-fits e h k
+
+  pub field-nonneg : T (nonNeg (e +ℤ pos 1023))
+  field-nonneg = subst (λ (z : ℤ). T (nonNeg z)) (sym n-is) tt
+
+  pub field-narrow : Fits w64 n
+  field-narrow = record { fits = let l = field-high e n n-is h in omega arith }
+
+  shifted : n * 2 ^ 52 % 2 ^ 64 ≡ suc (n - 1) * 2 ^ 52
+  shifted = let l = n-suc in let u = n-low in omega arith
+
+  pub power-is : ofBits binary64 (n * 2 ^ 52 % 2 ^ 64) ≡ fin false 1 e
+  power-is = ap (ofBits binary64) shifted ∙ power-bits (n - 1) n-low ∙ ap (fin false 1) (exponent e (n - 1) (n-is ∙ ap pos n-suc))
+
+  pub power-not-nan : T (not (nanBits binary64 (n * 2 ^ 52 % 2 ^ 64)))
+  power-not-nan = subst (λ (y : ℕ). T (not (nanBits binary64 y))) (sym shifted) (power-number (n - 1) n-low)

@@ -1,0 +1,37 @@
+-- The finishing cases that document 01 marks with *, as one table. Each row computes to true.
+use Prim.Native.Nat.{_+_, _^_}
+use mathlib.Core.Bool.{Bool, true, false, _&&_, Bool·beq}
+use lib.Dec.{eqb}
+use lib.IntN.{ℤ, pos, negsuc}
+use lib.Ieee.{Float, nan, inf, fin}
+use Rattle.integers.specs.Checked.{eqZ}
+use Rattle.accumulator.specs.declared.Reduced.the-variants.{Acc}
+use Rattle.finishing.specs.Finishing.{Ended, value, refusal, finishedOf}
+
+-- the answer is this number, with its sign; a zero's counts too
+unfoldable pub is : Ended → Float → Bool
+is (value (fin s m e)) (fin t n d) = Bool·beq s t && eqb m n && eqZ e d
+is (value (inf s)) (inf t) = Bool·beq s t
+is (value (fin s m e)) (inf t) = false
+is (value (fin s m e)) nan = false
+is (value (inf s)) (fin t n d) = false
+is (value (inf s)) nan = false
+is (value nan) y = false
+is (refusal n) y = false
+
+-- an accumulator of m and e, not bad, is finished as this number
+unfoldable pub finishes : Float → ℤ → Float → Bool
+unfolding is finishedOf
+finishes m e x = is (finishedOf (Acc (record { m = m; e = e; bad = false }))) x
+
+abbrev one : Bool → Float
+one s = fin s 1 (pos 0)
+
+unfoldable pub finishingTable : Bool
+unfolding finishes
+finishingTable =
+    finishes (one false) (negsuc 1074) (fin false 0 (pos 0))
+    && finishes (fin false (2 ^ 52 + 1) (negsuc 51)) (negsuc 1074) (fin false 1 (negsuc 1073))
+    && finishes (fin false 3 (negsuc 0)) (negsuc 1073) (fin false 1 (negsuc 1072))
+    && finishes (one false) (pos 1024) (inf false)
+    && finishes (one true) (negsuc 1999) (fin true 0 (pos 0))

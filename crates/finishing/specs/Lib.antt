@@ -1,0 +1,4 @@
+-- Finishing, as the paper has it. Definitions only.
+pub mod Once
+pub mod Finishing
+pub mod Cases

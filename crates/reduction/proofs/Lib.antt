@@ -1,0 +1,3 @@
+-- Laws of a range's pieces.
+pub mod Pieces
+pub mod Ranges

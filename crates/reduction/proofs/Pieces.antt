@@ -1,0 +1,106 @@
+-- A range's pieces, one after another, and the sizes of their exponents.
+-- Assumes nothing.
+use Prim.Native.Nat.{ℕ, zero, suc, _+_, _-_, _*_, _/_, _^_, _≤_, _<_}
+use mathlib.Core.Path.{_≡_, refl, sym, _∙_, ap, subst}
+use mathlib.Core.Bool.{Bool, true, false, cond}
+use mathlib.Core.List.{List, [], _∷_, map}
+use native.Mathlib.Omega.{arith}
+use native.Mathlib.Nat.{le-trans, zero-add}
+use lib.ListN.{length, getD, take, drop}
+use lib.Seq.{drop-cons}
+use lib.Dec.{T, ltb}
+use lib.IntN.{ℤ, pos, negsuc, natAbs, _+ℤ_, _*ℤ_}
+use lib.Signed.{_<ℤ_}
+use lib.Signed.{nonNeg}
+use lib.Ieee.{Float, nan}
+use borrow.Author.Tests.{lt-ltb, le-ltb, ltb-true}
+use Rattle.layout.specs.declared.traversal.FullTraversal.{FullTraversal}
+use Rattle.accumulator.specs.declared.StableProductFloatAcc.{StableProductFloatAcc}
+use Rattle.accumulator.specs.Joining.{identityAcc}
+use Rattle.offsets.specs.Lists.{steps}
+use Rattle.offsets.specs.Pieces.{pieceLength}
+use Rattle.kernels.specs.Pieces.{Piece, worked}
+use Rattle.kernels.specs.Strided.{strided, Inside}
+use Rattle.kernels.proofs.Striding.{first-natural}
+use Rattle.integers.proofs.Difference.{ints, atoms}
+use Rattle.kernels.specs.Stepped.{stepped, steppedLanes, lanesJoined, SmallAccs}
+use Rattle.kernels.specs.Blocks.{contiguous, blocks, lanesIn, laneIn, startLanes, SmallLanes}
+use Rattle.kernels.proofs.Bounded.{stepped-size}
+use Rattle.kernels.proofs.LaneSizes.{blocks-small, lanes-start, lanes-in-size}
+use Rattle.reduction.specs.Ranges.{valueAt, pieceAt, piecesFrom, piecesOf}
+
+-- ---- the list of pieces
+module _ (l : FullTraversal) (base : ℤ) (values : List Float) (end : ℕ) where
+  pub pieces-none : (n k : ℕ) → end ≤ k → piecesFrom l base values end n k ≡ []
+  unfolding piecesFrom
+  pieces-none zero k h = refl
+  pieces-none (suc n) k h = ap (λ (b : Bool). cond b (pieceAt l base values end k ∷ piecesFrom l base values end n (k + pieceLength (l .«run_len») end k)) []) (le-ltb k end h)
+
+  -- more room for pieces gives no more of them
+  enough : (some : (k : ℕ) → k < end → 1 ≤ pieceLength (l .«run_len») end k) (n m k : ℕ) → end ≤ k + n → end ≤ k + m → piecesFrom l base values end n k ≡ piecesFrom l base values end m k
+  unfolding piecesFrom
+  enough some zero m k h g = sym (pieces-none m k (omega arith))
+  enough some (suc n) zero k h g = pieces-none (suc n) k (omega arith)
+  enough some (suc n) (suc m) k h g = go (ltb k end) refl (λ j. enough some n m j)
+    where
+      go : (b : Bool) → ltb k end ≡ b → ((j : ℕ) → end ≤ j + n → end ≤ j + m → piecesFrom l base values end n j ≡ piecesFrom l base values end m j)
+          → cond b (pieceAt l base values end k ∷ piecesFrom l base values end n (k + pieceLength (l .«run_len») end k)) [] ≡ cond b (pieceAt l base values end k ∷ piecesFrom l base values end m (k + pieceLength (l .«run_len») end k)) []
+      go false e f = refl
+      go true e f =
+          let p = some k (ltb-true k end e) in
+          ap (λ (ps : List Piece). pieceAt l base values end k ∷ ps) (f (k + pieceLength (l .«run_len») end k) (omega arith) (omega arith))
+
+  pub pieces-more : (some : (k : ℕ) → k < end → 1 ≤ pieceLength (l .«run_len») end k) (k : ℕ) → k < end
+      → piecesOf l base values end k ≡ pieceAt l base values end k ∷ piecesOf l base values end (k + pieceLength (l .«run_len») end k)
+  unfolding piecesFrom
+  pieces-more some k h = go (end - k) refl
+    where
+      go : (n : ℕ) → end - k ≡ n → piecesOf l base values end k ≡ pieceAt l base values end k ∷ piecesOf l base values end (k + pieceLength (l .«run_len») end k)
+      go zero e = absurd (omega arith)
+      go (suc n) e =
+          let p = some k h in
+          ap (λ (m : ℕ). piecesFrom l base values end m k) e
+          ∙ ap (λ (b : Bool). cond b (pieceAt l base values end k ∷ piecesFrom l base values end n (k + pieceLength (l .«run_len») end k)) []) (lt-ltb k end h)
+          ∙ ap (λ (ps : List Piece). pieceAt l base values end k ∷ ps) (enough some n (end - (k + pieceLength (l .«run_len») end k)) (k + pieceLength (l .«run_len») end k) (omega arith) (omega arith))
+
+-- ---- the values of a piece
+pub strided-steps : (values : List Float) (z s : ℤ) (n : ℕ) → strided values z s n ≡ map (valueAt values) (steps z s n)
+unfolding strided steps
+strided-steps values z s zero = refl
+strided-steps values z s (suc n) = ap (λ (xs : List Float). valueAt values z ∷ xs) (strided-steps values (z +ℤ s) s n)
+
+-- at stride 1 they lie side by side
+pub strided-window : (values : List Float) (at n : ℕ) → at + n ≤ length values → take n (drop at values) ≡ strided values (pos at) (pos 1) n
+unfolding strided take
+strided-window values at zero h = refl
+strided-window values at (suc n) h =
+    ap (take (suc n)) (drop-cons values at nan (omega arith))
+    ∙ ap (λ (xs : List Float). getD values at nan ∷ xs) (strided-window values (suc at) n (omega arith) ∙ ap (λ (k : ℕ). strided values (pos k) (pos 1) n) next)
+  where
+    next : suc at ≡ at + 1
+    next = omega arith
+
+module _ (len at : ℕ) (z : ℤ) (n : ℕ) (i : Inside len z (pos 1) n) (some : 1 ≤ n) (e : natAbs z ≡ at) where
+  pub at-first : z ≡ pos at
+  at-first = go z (first-natural len z (pos 1) n i some) e
+    where
+      go : (y : ℤ) → T (nonNeg y) → natAbs y ≡ at → y ≡ pos at
+      go (pos k) t q = ap pos q
+      go (negsuc k) t q = absurd t
+
+  pub at-last : at + n ≤ len
+  at-last = go (subst (λ (y : ℤ). (y +ℤ pos 1 *ℤ pos (n - 1)) <ℤ pos len) at-first (i .most (n - 1) (omega arith))) some
+    where
+      go : (pos at +ℤ pos 1 *ℤ pos (n - 1)) <ℤ pos len → 1 ≤ n → at + n ≤ len
+      go = simp ints (simp atoms (omega arith))
+
+-- ---- exponents: at most 2^20 - 1 for each value of a piece, either way
+contiguous-near : (xs : List Float) → natAbs (contiguous xs .e) ≤ (73728 * (length xs / 64 + 1) + 1024) * 8
+unfolding contiguous lanesIn
+contiguous-near xs =
+    lanes-in-size (73728 * (length xs / 64 + 1)) (blocks (length xs / 64) startLanes xs) 8 _ refl
+    (subst (λ (n : ℕ). SmallLanes n (blocks (length xs / 64) startLanes xs)) (zero-add (73728 * (length xs / 64 + 1))) (blocks-small 0 (length xs / 64) startLanes xs (omega arith) lanes-start))
+
+pub worked-near : (b : Bool) (xs : List Float) → 1 ≤ length xs → natAbs (worked b xs .e) ≤ 1048575 * length xs
+worked-near true xs h = le-trans (contiguous-near xs) (omega arith)
+worked-near false xs h = le-trans (stepped-size xs) (omega arith)
