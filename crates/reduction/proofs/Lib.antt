@@ -1,3 +1,4 @@
 -- Laws of a range's pieces.
 pub mod Pieces
 pub mod Ranges
+pub mod Demand

@@ -1,0 +1,176 @@
+-- Demand 3 of a range, whatever its layout: the mark, the plain product, and that the answer stands.
+-- Assumes nothing.
+use Prim.Native.Nat.{ℕ, zero, suc, _+_, _-_, _*_, _^_, _≤_, _<_}
+use mathlib.Core.Path.{_≡_, refl, sym, _∙_, ap, subst}
+use mathlib.Core.Bool.{Bool, true, false, cond, _&&_, _||_}
+use mathlib.Core.List.{List, [], _∷_, _++_, map}
+use native.Mathlib.Omega.{arith}
+use native.Mathlib.Nat.{le-trans}
+use lib.ListN.{length, getD, length-map}
+use lib.Dec.{T, ltb}
+use lib.IntN.{ℤ, natAbs}
+use lib.Ieee.{Float, nan, binary64, fits}
+use borrow.Author.Tests.{ltb-true, ltb-false, le-leb}
+use Rattle.layout.specs.declared.traversal.FullTraversal.{FullTraversal}
+use Rattle.layout.specs.declared.axis.ReduceOuterAxis.{ReduceOuterAxis}
+use Rattle.binary64.specs.Splitting.{isBad}
+use Rattle.accumulator.specs.Joining.{withinLimit, stands}
+use Rattle.offsets.specs.Cursors.{Bounded}
+use Rattle.offsets.specs.Traversals.{runOf, outerOf, Traversal}
+use Rattle.offsets.specs.Lists.{offsetsFrom}
+use Rattle.offsets.specs.Pieces.{pieceLength}
+use Rattle.offsets.proofs.Walking.{len-pos, len-end}
+use Rattle.offsets.proofs.Writing.{offsets-append, length-offsets}
+use Rattle.kernels.specs.Lanes.{Each, none, more, some}
+use Rattle.kernels.specs.Plain.{plainProduct}
+use Rattle.kernels.specs.Pieces.{Rate, Piece, joinedPieces, rateCount, GoodPiece, Admitted, patternsOf, accOf}
+use Rattle.kernels.proofs.Feeding.{or-assoc, each-map}
+use Rattle.kernels.proofs.Bounded.{ValuePiece, FullPiece, joined-within}
+use Rattle.kernels.proofs.Agreement.{agreement, badPiece, joined-mark}
+use Rattle.reduction.specs.Ranges.{valueAt, ratesFrom, pieceAt, piecesFrom, piecesOf}
+use Rattle.reduction.proofs.Pieces.{pieces-none}
+
+-- ---- lists of rates
+or-false : (a b : Bool) → (a || b) ≡ false → (a ≡ false) × (b ≡ false)
+or-false false b e = (refl, e)
+or-false true b e = absurd (no e)
+  where
+    no : _≡_ {A = Bool} true false → ⊥
+    no p = subst (λ (x : Bool). T x) p tt
+
+some-append : {X : Type 0} (p : X → Bool) (xs ys : List X) → some p (xs ++ ys) ≡ (some p xs || some p ys)
+unfolding some
+some-append p [] ys = refl
+some-append p (x ∷ xs) ys = ap (λ (b : Bool). p x || b) (some-append p xs ys) ∙ sym (or-assoc (p x) (some p xs) (some p ys))
+
+map-append : {X Y : Type 0} (f : X → Y) (xs ys : List X) → map f (xs ++ ys) ≡ map f xs ++ map f ys
+map-append f [] ys = refl
+map-append f (x ∷ xs) ys = ap (λ (l : List _). f x ∷ l) (map-append f xs ys)
+
+each-good : {xs : List Float} → Each (λ (x : Float). T (fits binary64 x)) xs → some isBad xs ≡ false → Each Rate xs
+unfolding some
+each-good none e = none
+each-good (more {x = x} {xs = xs} v vs) e = let p = or-false (isBad x) (some isBad xs) e in more (record { value = v; good = p .0 }) (each-good vs (p .1))
+
+good-pieces : {ps : List Piece} → Each FullPiece ps → some badPiece ps ≡ false → Each GoodPiece ps
+unfolding some
+good-pieces none e = none
+good-pieces (more {x = p} {xs = ps} f fs) e =
+    let q = or-false (badPiece p) (some badPiece ps) e in
+    more (record { some-rate = f .some-rate; good = each-good (f .values) (q .0) }) (good-pieces fs (q .1))
+
+none-counted : 0 < rateCount [] → ⊥
+unfolding rateCount
+none-counted z = omega arith
+
+module _ (values : List Float) (v : Each (λ (x : Float). T (fits binary64 x)) values) where
+  value-fits : (vs : List Float) → Each (λ (x : Float). T (fits binary64 x)) vs → (k : ℕ) → T (fits binary64 (getD vs k nan))
+  unfolding fits getD
+  value-fits vs none k = tt
+  value-fits vs (more f fs) zero = f
+  value-fits vs (more {x = x} {xs = xs} f fs) (suc k) = value-fits xs fs k
+
+  rates-fit : (zs : List ℤ) → Each (λ (x : Float). T (fits binary64 x)) (map (valueAt values) zs)
+  rates-fit [] = none
+  rates-fit (z ∷ zs) = more (value-fits values v (natAbs z)) (rates-fit zs)
+
+-- ---- the pieces of a range
+module _ (l : FullTraversal) (t : Traversal l) (base : ℤ) (b : Bounded (runOf l ∷ outerOf l) base) (values : List Float) (v : Each (λ (x : Float). T (fits binary64 x)) values) (end : ℕ) where
+  length-rates : (k n : ℕ) → length (ratesFrom l base values k n) ≡ n
+  length-rates k n = length-map (offsetsFrom (runOf l ∷ outerOf l) base k n) (valueAt values) ∙ length-offsets (runOf l ∷ outerOf l) base k n
+
+  -- each piece has at least one rate
+  full-pieces : (n k : ℕ) → Each FullPiece (piecesFrom l base values end n k)
+  unfolding piecesFrom
+  full-pieces zero k = none
+  full-pieces (suc n) k = go (ltb k end) refl (full-pieces n (k + pieceLength (l .«run_len») end k))
+    where
+      go : (x : Bool) → ltb k end ≡ x → Each FullPiece (piecesFrom l base values end n (k + pieceLength (l .«run_len») end k))
+          → Each FullPiece (cond x (pieceAt l base values end k ∷ piecesFrom l base values end n (k + pieceLength (l .«run_len») end k)) [])
+      go false e f = none
+      go true e f =
+          more {x = pieceAt l base values end k} (record { some-rate = rw (length-rates k (pieceLength (l .«run_len») end k)) (len-pos l t base b k end (ltb-true k end e)); values = rates-fit values v (offsetsFrom (runOf l ∷ outerOf l) base k (pieceLength (l .«run_len») end k)) }) f
+
+  -- together they have the range's elements
+  counted : (n k : ℕ) → k ≤ end → end ≤ k + n → rateCount (piecesFrom l base values end n k) ≡ end - k
+  unfolding piecesFrom rateCount
+  counted zero k h g = omega arith
+  counted (suc n) k h g = go (ltb k end) refl (counted n (k + pieceLength (l .«run_len») end k))
+    where
+      go : (x : Bool) → ltb k end ≡ x
+          → (k + pieceLength (l .«run_len») end k ≤ end → end ≤ k + pieceLength (l .«run_len») end k + n → rateCount (piecesFrom l base values end n (k + pieceLength (l .«run_len») end k)) ≡ end - (k + pieceLength (l .«run_len») end k))
+          → rateCount (cond x (pieceAt l base values end k ∷ piecesFrom l base values end n (k + pieceLength (l .«run_len») end k)) []) ≡ end - k
+      go false e f = let z = ltb-false k end e in omega arith
+      go true e f =
+          let z = ltb-true k end e in
+          let p = len-pos l t base b k end z in
+          let q = len-end l t base b k end z in
+          let r = f q (omega arith) in
+          let c = length-rates k (pieceLength (l .«run_len») end k) in
+          omega arith
+
+  -- no rate is left at the end
+  over : (k : ℕ) → end ≤ k → some isBad (ratesFrom l base values k (end - k)) ≡ false
+  unfolding some offsetsFrom
+  over k h = ap (λ (n : ℕ). some isBad (ratesFrom l base values k n)) none-left
+    where
+      none-left : end - k ≡ 0
+      none-left = omega arith
+
+  -- a piece's rates, and those after it
+  joined : (k m : ℕ) → k + m ≤ end → ratesFrom l base values k m ++ ratesFrom l base values (k + m) (end - (k + m)) ≡ ratesFrom l base values k (end - k)
+  joined k m h =
+      sym (map-append (valueAt values) (offsetsFrom (runOf l ∷ outerOf l) base k m) (offsetsFrom (runOf l ∷ outerOf l) base (k + m) (end - (k + m))))
+      ∙ ap (map (valueAt values)) (sym (offsets-append (runOf l ∷ outerOf l) base k m (end - (k + m))))
+      ∙ ap (ratesFrom l base values k) all-left
+    where
+      all-left : m + (end - (k + m)) ≡ end - k
+      all-left = omega arith
+
+  -- and those, in order
+  visited : (n k : ℕ) → k ≤ end → end ≤ k + n → some badPiece (piecesFrom l base values end n k) ≡ some isBad (ratesFrom l base values k (end - k))
+  unfolding piecesFrom some
+  visited zero k h g = sym (over k (omega arith))
+  visited (suc n) k h g = go (ltb k end) refl (visited n (k + pieceLength (l .«run_len») end k))
+    where
+      go : (x : Bool) → ltb k end ≡ x
+          → (k + pieceLength (l .«run_len») end k ≤ end → end ≤ k + pieceLength (l .«run_len») end k + n → some badPiece (piecesFrom l base values end n (k + pieceLength (l .«run_len») end k)) ≡ some isBad (ratesFrom l base values (k + pieceLength (l .«run_len») end k) (end - (k + pieceLength (l .«run_len») end k))))
+          → some badPiece (cond x (pieceAt l base values end k ∷ piecesFrom l base values end n (k + pieceLength (l .«run_len») end k)) []) ≡ some isBad (ratesFrom l base values k (end - k))
+      go false e f = sym (over k (ltb-false k end e))
+      go true e f =
+          let z = ltb-true k end e in
+          let p = len-pos l t base b k end z in
+          let q = len-end l t base b k end z in
+          ap (λ (x : Bool). some isBad (ratesFrom l base values k (pieceLength (l .«run_len») end k)) || x) (f q (omega arith))
+          ∙ sym (some-append isBad (ratesFrom l base values k (pieceLength (l .«run_len») end k)) (ratesFrom l base values (k + pieceLength (l .«run_len») end k) (end - (k + pieceLength (l .«run_len») end k))))
+          ∙ ap (some isBad) (joined k (pieceLength (l .«run_len») end k) q)
+
+  -- ---- demand 3, of the range start to end - 1
+  module _ (start : ℕ) (h : start < end) (few : end ≤ 2 ^ 40) where
+    full : Each FullPiece (piecesOf l base values end start)
+    full = full-pieces (end - start) start
+
+    count : rateCount (piecesOf l base values end start) ≡ end - start
+    count = counted (end - start) start (omega arith) (omega arith)
+
+    -- the mark is set exactly if a visited rate is zero, subnormal, infinite or NaN
+    pub range-mark : joinedPieces (piecesOf l base values end start) .bad ≡ some isBad (ratesFrom l base values start (end - start))
+    range-mark = joined-mark (each-map FullPiece ValuePiece (λ p f. f .values) full) ∙ visited (end - start) start (omega arith) (omega arith)
+
+    -- 1 <= |m| < 2 and |e| <= 2^52, bad or not: the answer can be joined and finished
+    pub range-stands : stands (joinedPieces (piecesOf l base values end start)) ≡ true
+    unfolding stands
+    range-stands =
+        let r = joined-within full in
+        ap (λ (x : Bool). x && withinLimit (joinedPieces (piecesOf l base values end start) .e)) (r .0 .in-unit)
+        ∙ le-leb (natAbs (joinedPieces (piecesOf l base values end start) .e)) (2 ^ 52) (le-trans (r .1) (omega (arith, count)))
+
+    -- not bad: m and e are the plain product's over the range's pieces
+    pub range-agrees : some isBad (ratesFrom l base values start (end - start)) ≡ false → joinedPieces (piecesOf l base values end start) ≡ accOf (plainProduct 11 52 (patternsOf (piecesOf l base values end start)))
+    range-agrees e =
+        agreement (piecesOf l base values end start)
+        (record { some-piece = nonempty (piecesOf l base values end start) (omega (arith, count)); pieces = good-pieces full (visited (end - start) start (omega arith) (omega arith) ∙ e); few = omega (arith, count) })
+      where
+        nonempty : (ps : List Piece) → 0 < rateCount ps → 0 < length ps
+        nonempty [] z = absurd (none-counted z)
+        nonempty (p ∷ ps) z = omega arith
