@@ -127,7 +127,8 @@ stable-float-combine-requires c κs =
     let s = k .before .before .before .before .before .before .before .before in
     let p = next-taken n in
     let r = reducing k in
-    (omega (arith, r .small, r .upto, s .pre .3, s .pre .4), omega (arith, near _ _ _ (s .args .start) (s .args .end) _ _ p (c .reduce-piece2 .result) (next-worked c), p .ends, s .pre .3, s .pre .4))
+    let m = near _ _ _ (s .args .start) (s .args .end) _ _ p (c .reduce-piece2 .result) (next-worked c) in
+    (omega (arith, r .small, r .upto, m, p .ends, s .pre .3, s .pre .4), omega (arith, r .small, r .upto, m, p .ends, s .pre .3, s .pre .4))
 
 -- src/full.rt:46:5
 loop-less : tie.Need-loop-less Inv-loop μ-loop
