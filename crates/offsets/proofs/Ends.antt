@@ -1,26 +1,23 @@
 -- The smallest and the largest offset: every element lies between them, and each is an element's.
 -- Assumes nothing.
 use Prim.Native.Nat.{ℕ, zero, suc, _+_, _-_, _*_, _/_, _%_, _^_, _≤_, _<_}
-use mathlib.Core.Path.{_≡_, refl, sym, _∙_, ap, subst}
+use mathlib.Core.Path.{_≡_, refl, sym, _∙_, ap}
 use mathlib.Core.Bool.{Bool, true, false, cond, _&&_}
 use mathlib.Core.Logic.{_↔_}
-use mathlib.Core.List.{List, [], _∷_, _++_, map}
+use mathlib.Core.List.{List, [], _∷_, map}
 use native.Mathlib.Omega.{arith}
 use native.Mathlib.Nat.{mul-le-mul-left, mod-lt, mul-comm}
 use native.Mathlib.Decide.{decLt}
-use borrow.Author.Tests.{lt-ltb, le-ltb}
-use lib.Dec.{T, ltb}
+use borrow.Author.Tests.{le-ltb}
 use lib.ListN.{length}
 use lib.Arith.{digits-div, digits-mod, digits-lt}
-use lib.IntN.{ℤ, pos, negsuc, negℤ, _+ℤ_, _-ℤ_, _*ℤ_, *ℤ-zero}
+use lib.IntN.{ℤ, pos, negsuc, _+ℤ_, _*ℤ_, *ℤ-zero}
 use lib.Signed.{leZ, ltZ, _≤ℤ_, _<ℤ_}
-use mir.Val.{SFits}
-use mir.Syntax.{w64}
 use Rattle.integers.proofs.Difference.{ints, atoms}
 use Rattle.layout.specs.declared.axis.ReduceOuterAxis.{ReduceOuterAxis}
-use Rattle.layout.specs.Axes.{span, axisOf}
+use Rattle.layout.specs.Axes.{span}
 use Rattle.offsets.specs.Elements.{digits, shift, offset, elements, below, above, lowSum, highSum, lowest, highest, within, every, allWithin}
-use Rattle.offsets.specs.Cursors.{Axis, Axes, Bounded}
+use Rattle.offsets.specs.Cursors.{Axes, Bounded}
 
 below-le : (z : ℤ) → below z ≤ℤ z
 unfolding below
@@ -242,6 +239,21 @@ up-zero a b = simp ints (simp atoms (omega arith))
 down-lt : (a b c : ℤ) → ltZ b c ≡ true → a ≤ℤ b → ltZ a c ≡ true
 down-lt a b c = simp ints (simp atoms (omega arith))
 
+of-le : (a b : ℤ) → leZ a b ≡ true → a ≤ℤ b
+of-le a b = simp ints (simp atoms (omega arith))
+
+of-lt : (a b : ℤ) → ltZ a b ≡ true → a <ℤ b
+of-lt a b = simp ints (simp atoms (omega arith))
+
+-- an offset that refusal 7 lets through lies in the values
+pub within-low : (n : ℕ) (z : ℤ) → within n z ≡ true → pos 0 ≤ℤ z
+unfolding within
+within-low n z e = of-le (pos 0) z (and3 (leZ (pos 0) z) (ltZ z (pos (2 ^ 63))) (ltZ z (pos n)) e .0)
+
+pub within-high : (n : ℕ) (z : ℤ) → within n z ≡ true → z <ℤ pos n
+unfolding within
+within-high n z e = of-lt z (pos n) (and3 (leZ (pos 0) z) (ltZ z (pos (2 ^ 63))) (ltZ z (pos n)) e .2)
+
 module _ (xs : List ReduceOuterAxis) (w : Axes xs) (base : ℤ) (length : ℕ) where
   -- refusal 7 is given exactly if some element lies outside
   pub seven-exact : (allWithin xs (elements xs) base length ≡ true) ↔ ((k : ℕ) → k < elements xs → within length (offset xs base k) ≡ true)
@@ -281,9 +293,3 @@ module _ (xs : List ReduceOuterAxis) (w : Axes xs) (base : ℤ) (length : ℕ) w
   ends-bounded e =
       let p = and3 (leZ (pos 0) (lowest xs base)) (ltZ (highest xs base) (pos (2 ^ 63))) (ltZ (highest xs base) (pos length)) e in
       record { low = of-le (pos 0) (lowest xs base) (p .0); high = of-lt (highest xs base) (pos (2 ^ 63)) (p .1) }
-    where
-      of-le : (a b : ℤ) → leZ a b ≡ true → a ≤ℤ b
-      of-le a b = simp ints (simp atoms (omega arith))
-
-      of-lt : (a b : ℤ) → ltZ a b ≡ true → a <ℤ b
-      of-lt a b = simp ints (simp atoms (omega arith))

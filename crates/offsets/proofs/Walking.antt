@@ -1,26 +1,27 @@
 -- The pieces of a range: along a run the offsets are a stride apart, and the next piece begins where this one ends.
 -- Assumes nothing.
-use Prim.Native.Nat.{ℕ, zero, suc, _+_, _-_, _*_, _/_, _%_, _^_, _≤_, _<_, min}
+use Prim.Native.Nat.{ℕ, _+_, _*_, _/_, _%_, _^_, _≤_, _<_}
 use mathlib.Core.Path.{_≡_, refl, sym, _∙_, ap, subst}
 use mathlib.Core.List.{List, [], _∷_}
 use native.Mathlib.Omega.{arith}
 use native.Mathlib.Nat.{div-add-mod', mod-lt}
 use mathlib.Core.Bool.{Bool, cond}
 use borrow.Author.Tests.{lt-ltb}
-use lib.ListN.{length, length-take}
+use lib.ListN.{length-take}
 use lib.Arith.{digits-div, digits-mod}
 use lib.IntN.{ℤ, pos, _+ℤ_, _*ℤ_}
 use Rattle.integers.proofs.Difference.{ints, atoms}
 use Rattle.layout.specs.declared.axis.ReduceOuterAxis.{ReduceOuterAxis}
-use Rattle.layout.specs.Axes.{PLACES, axisOf}
+use Rattle.layout.specs.Axes.{axisOf}
 use Rattle.offsets.specs.declared.cursor.ReduceOuterCursor.{ReduceOuterCursor}
 use Rattle.offsets.specs.Elements.{offset}
 use Rattle.layout.specs.declared.traversal.FullTraversal.{FullTraversal}
 use Rattle.offsets.specs.Cursors.{Axis, Axes, Bounded, Stands, cursorAt, advanced}
 use Rattle.offsets.specs.Traversals.{runOf, outerOf, Traversal}
 use Rattle.offsets.specs.declared.pieces.RangeCursor.{RangeCursor}
+use Rattle.offsets.specs.declared.pieces.RangePiece.{RangePiece}
 use Rattle.offsets.specs.Pieces.{pieceLength, rangeAt, pieceOf, OnRange}
-use Rattle.offsets.proofs.Stepping.{offset-cons, offset-moved, axis-small, axes-at, bounded-after, bounded-offset, Small, small-fits, advance-next}
+use Rattle.offsets.proofs.Stepping.{offset-cons, offset-moved, axis-small, axes-at, bounded-after, bounded-offset, Small, advance-next}
 
 -- ---- along a run
 module _ (a : ReduceOuterAxis) (xs : List ReduceOuterAxis) (base : ℤ) (k : ℕ) (h : 1 ≤ a .extent) where
@@ -94,9 +95,6 @@ module _ (l : FullTraversal) (t : Traversal l) (base : ℤ) (b : Bounded (runOf 
     unfolding runOf axisOf
     piece-offset i q = sym (along (axisOf (l .«run_len») (l .«run_stride»)) (outerOf l) base k some i (omega (arith, len-run)))
 
-    pub piece-small : (i : ℕ) → i < pieceLength (l .«run_len») end k → Small (offset (runOf l ∷ outerOf l) base k +ℤ l .«run_stride» *ℤ pos i)
-    piece-small i q = rw (piece-offset i q) (bounded-offset (runOf l ∷ outerOf l) base (k + i) (t .axes) b)
-
     -- a run that is done ends at a multiple of the run length
     whole : k + pieceLength (l .«run_len») end k < end → k + pieceLength (l .«run_len») end k ≡ (k / l .«run_len» + 1) * l .«run_len» + 0
     whole q = let d = div-add-mod' k (l .«run_len») in omega (arith, mod-lt k some)
@@ -153,3 +151,44 @@ module _ (l : FullTraversal) (t : Traversal l) (c : RangeCursor) (o : OnRange l 
 
   pub on-stands : Stands (outerOf l) (c .runs)
   on-stands = subst (Stands (outerOf l)) (sym runs-are) (run-stands l t (o .base) (o .bounded) (c .at))
+
+-- ---- the piece p at a cursor c, for the loops over a range
+pub record PieceHere (l : FullTraversal) (base : ℤ) (end : ℕ) (c : RangeCursor) (p : RangePiece) : Type 0 where
+  pub len-is : p .len ≡ pieceLength (l .«run_len») end (c .at)
+  pub first-is : p .first ≡ offset (runOf l ∷ outerOf l) base (c .at)
+  pub some-len : 1 ≤ p .len
+  pub in-run : c .at % l .«run_len» + p .len ≤ l .«run_len»
+  pub ends : c .at + p .len ≤ end
+  pub offsets : (i : ℕ) → i < p .len → p .first +ℤ l .«run_stride» *ℤ pos i ≡ offset (runOf l ∷ outerOf l) base (c .at + i)
+  pub next-at : p .next .at ≡ c .at + p .len
+  pub next-stands : p .next .at < end → p .next ≡ rangeAt l base (p .next .at)
+
+module _ (l : FullTraversal) (t : Traversal l) (base : ℤ) (b : Bounded (runOf l ∷ outerOf l) base) (end : ℕ) (c : RangeCursor) (e : c ≡ rangeAt l base (c .at)) (h : c .at < end)
+    (p : RangePiece) (q : p ≡ pieceOf l end c) where
+  piece-is : p ≡ pieceOf l end (rangeAt l base (c .at))
+  piece-is = q ∙ ap (pieceOf l end) e
+
+  here-len : p .len ≡ pieceLength (l .«run_len») end (c .at)
+  here-len = ap (λ (x : RangePiece). x .len) piece-is ∙ piece-len l t base b (c .at) end h
+
+  here-first : p .first ≡ offset (runOf l ∷ outerOf l) base (c .at)
+  here-first = ap (λ (x : RangePiece). x .first) piece-is ∙ piece-first l t base b (c .at) end h
+
+  here-next : p .next .at ≡ c .at + p .len
+  here-next = ap (λ (x : RangePiece). x .next .at) piece-is ∙ piece-at l t base b (c .at) end h ∙ ap (λ (n : ℕ). c .at + n) (sym here-len)
+
+  pub piece-here : PieceHere l base end c p
+  piece-here =
+      record {
+        len-is = here-len;
+        first-is = here-first;
+        some-len = rw here-len (len-pos l t base b (c .at) end h);
+        in-run = rw here-len (len-run l t base b (c .at) end h);
+        ends = rw here-len (len-end l t base b (c .at) end h);
+        offsets = λ i k. rw here-first (piece-offset l t base b (c .at) end h i (rw here-len at k));
+        next-at = here-next;
+        next-stands = λ k.
+            ap (λ (x : RangePiece). x .next) piece-is
+            ∙ piece-next l t base b (c .at) end h (omega (arith, here-next, here-len, k))
+            ∙ ap (λ (n : ℕ). rangeAt l base (c .at + n)) (sym here-len) ∙ ap (rangeAt l base) (sym here-next);
+      }

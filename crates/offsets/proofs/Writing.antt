@@ -1,14 +1,13 @@
 -- The offset list, piece by piece.
 -- Assumes nothing.
-use Prim.Native.Nat.{ℕ, zero, suc, _+_, _-_, _*_, _/_, _%_, _^_, _≤_, _<_, min}
-use mathlib.Core.Path.{_≡_, refl, sym, _∙_, ap, subst}
-use mathlib.Core.Bool.{Bool, true, false}
+use Prim.Native.Nat.{ℕ, zero, suc, _+_, _-_, _*_, _/_, _%_, _≤_, _<_}
+use mathlib.Core.Path.{_≡_, refl, sym, _∙_, ap}
 use mathlib.Core.List.{List, [], _∷_, _++_, append-assoc, append-nil}
 use native.Mathlib.Omega.{arith}
 use native.Mathlib.Numerals.{add-one}
 use native.Mathlib.Nat.{add-zero, zero-add, suc-add, add-suc}
-use lib.ListN.{length, take, drop, getD, set, length-append, length-take, length-drop, length-set, take-append-drop}
-use lib.Seq.{set-set, set-split, take-set-le, drop-set-lt, drop-cons, set-at, take-append-le, drop-append-add, length-take-le, drop-drop, take-at, drop-at}
+use lib.ListN.{length, take, drop, getD, set, length-append, length-drop, length-set, take-append-drop}
+use lib.Seq.{set-set, set-split, take-set-le, drop-set-lt, drop-cons, set-at, drop-append-add, length-take-le, drop-drop, take-at}
 use lib.Arith.{digits-mod}
 use lib.IntN.{ℤ, pos, _+ℤ_, _*ℤ_}
 use Rattle.integers.proofs.Difference.{ints, atoms}
@@ -23,9 +22,9 @@ use Rattle.layout.specs.declared.traversal.FullTraversal.{FullTraversal}
 use Rattle.offsets.specs.declared.pieces.RangeCursor.{RangeCursor}
 use Rattle.offsets.specs.declared.pieces.RangePiece.{RangePiece}
 use Rattle.offsets.specs.Traversals.{runOf, outerOf, Traversal}
-use Rattle.offsets.specs.Pieces.{pieceLength, rangeAt, pieceOf}
+use Rattle.offsets.specs.Pieces.{rangeAt, pieceOf}
 use Rattle.offsets.proofs.Stepping.{small-fits, bounded-offset}
-use Rattle.offsets.proofs.Walking.{split, along, some, len-pos, len-run, len-end, piece-small, piece-first, piece-len, piece-at, piece-next}
+use Rattle.offsets.proofs.Walking.{split, along, some, PieceHere, piece-here}
 
 -- ---- numbers a stride apart
 pub steps-more : (z s : ℤ) (n : ℕ) → steps z s (n + 1) ≡ steps z s n ++ (z +ℤ s *ℤ pos n) ∷ []
@@ -98,6 +97,14 @@ piece a xs base (suc (suc n)) k h l =
   where
     one : (z s : ℤ) → z +ℤ s *ℤ pos 1 ≡ z +ℤ s
     one z s = simp ints (simp atoms (omega arith))
+
+-- the piece at a cursor, likewise
+pub piece-steps : (l : FullTraversal) → Traversal l → (base : ℤ) → Bounded (runOf l ∷ outerOf l) base → (end : ℕ) (c : RangeCursor) (p : RangePiece) → PieceHere l base end c p
+    → steps (p .first) (l .«run_stride») (p .len) ≡ offsetsFrom (runOf l ∷ outerOf l) base (c .at) (p .len)
+unfolding runOf axisOf
+piece-steps l t base b end c p here =
+    ap (λ (z : ℤ). steps z (l .«run_stride») (p .len)) (here .first-is)
+    ∙ piece (axisOf (l .«run_len») (l .«run_stride»)) (outerOf l) base (p .len) (c .at) (some l t base b (c .at)) (here .in-run)
 
 -- ---- lists of offsets, joined
 pub offsets-append : (xs : List ReduceOuterAxis) (base : ℤ) (k m n : ℕ) → offsetsFrom xs base k (m + n) ≡ offsetsFrom xs base k m ++ offsetsFrom xs base (k + m) n
@@ -180,48 +187,35 @@ pub record Taken (l : FullTraversal) (base : ℤ) (start end : ℕ) (out₀ out 
 
 module _ (l : FullTraversal) (t : Traversal l) (base : ℤ) (b : Bounded (runOf l ∷ outerOf l) base) (start end : ℕ) (out₀ out : List ℤ) (c : RangeCursor) (room : end - start ≤ length out₀)
     (q : Listing l base start end out₀ out c) (h : c .at < end) (p : RangePiece) (e : p ≡ pieceOf l end c) where
-  piece-is : p ≡ pieceOf l end (rangeAt l base (c .at))
-  piece-is = e ∙ ap (pieceOf l end) (q .stands h)
+  here : PieceHere l base end c p
+  here = piece-here l t base b end c (q .stands h) h p e
 
-  len-is : p .len ≡ pieceLength (l .«run_len») end (c .at)
-  len-is = ap (λ (x : RangePiece). x .len) piece-is ∙ piece-len l t base b (c .at) end h
-
-  first-of : p .first ≡ offset (runOf l ∷ outerOf l) base (c .at)
-  first-of = ap (λ (x : RangePiece). x .first) piece-is ∙ piece-first l t base b (c .at) end h
-
-  first-fits : SFits w64 (p .first)
-  first-fits = rw first-of (small-fits _ (bounded-offset (runOf l ∷ outerOf l) base (c .at) (t .axes) b))
-
-  next-at : p .next .at ≡ c .at + p .len
-  next-at = ap (λ (x : RangePiece). x .next .at) piece-is ∙ piece-at l t base b (c .at) end h ∙ ap (λ (n : ℕ). c .at + n) (sym len-is)
-
-  some-len : 1 ≤ p .len
-  some-len = rw len-is (len-pos l t base b (c .at) end h)
+  -- the piece's offsets are the elements'
+  listed-is : steps (p .first) (l .«run_stride») (p .len) ≡ offsetsFrom (runOf l ∷ outerOf l) base (c .at) (p .len)
+  listed-is = piece-steps l t base b end c p here
 
   enough : c .at - start + p .len ≤ length out
   enough =
-      omega (arith, ap length (q .lists), length-listed (runOf l ∷ outerOf l) base start (c .at - start) out₀ (omega (arith, q .from)), len-is, len-end l t base b (c .at) end h, q .from)
+      omega (arith, ap length (q .lists), length-listed (runOf l ∷ outerOf l) base start (c .at - start) out₀ (omega (arith, q .from)), here .ends, q .from)
+
+  first-fits : SFits w64 (p .first)
+  first-fits = rw (here .first-is) (small-fits _ (bounded-offset (runOf l ∷ outerOf l) base (c .at) (t .axes) b))
 
   offsets-fit : (i : ℕ) → i < p .len → SFits w64 (p .first +ℤ l .«run_stride» *ℤ pos i)
-  offsets-fit i k = rw first-of (small-fits _ (piece-small l t base b (c .at) end h i (rw len-is at k)))
+  offsets-fit i k = rw (here .offsets i k) (small-fits _ (bounded-offset (runOf l ∷ outerOf l) base (c .at + i) (t .axes) b))
 
   listing-more : (r : List ℤ) → r ≡ take (c .at - start) out ++ steps (p .first) (l .«run_stride») (p .len) ++ drop (c .at - start + p .len) out → Listing l base start end out₀ r (p .next)
-  unfolding runOf axisOf
   listing-more r g =
       record {
-        from = omega (arith, next-at, q .from);
-        upto = omega (arith, next-at, len-is, len-end l t base b (c .at) end h);
-        stands = λ k.
-            ap (λ (x : RangePiece). x .next) piece-is
-            ∙ piece-next l t base b (c .at) end h (omega (arith, next-at, len-is, k))
-            ∙ ap (λ (n : ℕ). rangeAt l base (c .at + n)) (sym len-is) ∙ ap (rangeAt l base) (sym next-at);
+        from = omega (arith, here .next-at, q .from);
+        upto = omega (arith, here .next-at, here .ends);
+        stands = here .next-stands;
         lists =
             g
-            ∙ ap (λ (z : ℤ). take (c .at - start) out ++ steps z (l .«run_stride») (p .len) ++ drop (c .at - start + p .len) out) first-of
-            ∙ ap (λ (x : List ℤ). take (c .at - start) out ++ x ++ drop (c .at - start + p .len) out) (piece (axisOf (l .«run_len») (l .«run_stride»)) (outerOf l) base (p .len) (c .at) (some l t base b (c .at)) (rw len-is (len-run l t base b (c .at) end h)))
+            ∙ ap (λ (x : List ℤ). take (c .at - start) out ++ x ++ drop (c .at - start + p .len) out) listed-is
             ∙ ap (λ (o : List ℤ). take (c .at - start) o ++ offsetsFrom (runOf l ∷ outerOf l) base (c .at) (p .len) ++ drop (c .at - start + p .len) o) (q .lists)
             ∙ ap (λ (j : ℕ). take (c .at - start) (listed (runOf l ∷ outerOf l) base start (c .at - start) out₀) ++ offsetsFrom (runOf l ∷ outerOf l) base j (p .len) ++ drop (c .at - start + p .len) (listed (runOf l ∷ outerOf l) base start (c .at - start) out₀)) back
-            ∙ listed-more (runOf l ∷ outerOf l) base start (c .at - start) (p .len) out₀ (omega (arith, len-is, len-end l t base b (c .at) end h, q .from))
+            ∙ listed-more (runOf l ∷ outerOf l) base start (c .at - start) (p .len) out₀ (omega (arith, here .ends, q .from))
             ∙ ap (λ (m : ℕ). listed (runOf l ∷ outerOf l) base start m out₀) ahead;
       }
     where
@@ -229,7 +223,7 @@ module _ (l : FullTraversal) (t : Traversal l) (base : ℤ) (b : Bounded (runOf 
       back = omega (arith, q .from)
 
       ahead : c .at - start + p .len ≡ p .next .at - start
-      ahead = omega (arith, q .from, next-at)
+      ahead = omega (arith, q .from, here .next-at)
 
   pub listing-taken : Taken l base start end out₀ out c p
-  listing-taken = record { some-len = some-len; enough = enough; first-fits = first-fits; offsets-fit = offsets-fit; next-at = next-at; more = listing-more }
+  listing-taken = record { some-len = here .some-len; enough = enough; first-fits = first-fits; offsets-fit = offsets-fit; next-at = here .next-at; more = listing-more }

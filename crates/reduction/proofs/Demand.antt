@@ -1,6 +1,6 @@
 -- Demand 3 of a range, whatever its layout: the mark, the plain product, and that the answer stands.
 -- Assumes nothing.
-use Prim.Native.Nat.{ℕ, zero, suc, _+_, _-_, _*_, _^_, _≤_, _<_}
+use Prim.Native.Nat.{ℕ, zero, suc, _+_, _-_, _^_, _≤_, _<_}
 use mathlib.Core.Path.{_≡_, refl, sym, _∙_, ap, subst}
 use mathlib.Core.Bool.{Bool, true, false, cond, _&&_, _||_}
 use mathlib.Core.List.{List, [], _∷_, _++_, map}
@@ -12,7 +12,6 @@ use lib.IntN.{ℤ, natAbs}
 use lib.Ieee.{Float, nan, binary64, fits}
 use borrow.Author.Tests.{ltb-true, ltb-false, le-leb}
 use Rattle.layout.specs.declared.traversal.FullTraversal.{FullTraversal}
-use Rattle.layout.specs.declared.axis.ReduceOuterAxis.{ReduceOuterAxis}
 use Rattle.binary64.specs.Splitting.{isBad}
 use Rattle.accumulator.specs.Joining.{withinLimit, stands}
 use Rattle.offsets.specs.Cursors.{Bounded}
@@ -23,12 +22,11 @@ use Rattle.offsets.proofs.Walking.{len-pos, len-end}
 use Rattle.offsets.proofs.Writing.{offsets-append, length-offsets}
 use Rattle.kernels.specs.Lanes.{Each, none, more, some}
 use Rattle.kernels.specs.Plain.{plainProduct}
-use Rattle.kernels.specs.Pieces.{Rate, Piece, joinedPieces, rateCount, GoodPiece, Admitted, patternsOf, accOf}
+use Rattle.kernels.specs.Pieces.{Rate, Piece, joinedPieces, rateCount, GoodPiece, patternsOf, accOf}
 use Rattle.kernels.proofs.Feeding.{or-assoc, each-map}
 use Rattle.kernels.proofs.Bounded.{ValuePiece, FullPiece, joined-within}
 use Rattle.kernels.proofs.Agreement.{agreement, badPiece, joined-mark}
 use Rattle.reduction.specs.Ranges.{valueAt, ratesFrom, pieceAt, piecesFrom, piecesOf}
-use Rattle.reduction.proofs.Pieces.{pieces-none}
 
 -- ---- lists of rates
 or-false : (a b : Bool) → (a || b) ≡ false → (a ≡ false) × (b ≡ false)

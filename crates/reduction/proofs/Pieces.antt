@@ -1,6 +1,6 @@
 -- A range's pieces, one after another, and the sizes of their exponents.
 -- Assumes nothing.
-use Prim.Native.Nat.{ℕ, zero, suc, _+_, _-_, _*_, _/_, _^_, _≤_, _<_}
+use Prim.Native.Nat.{ℕ, zero, suc, _+_, _-_, _*_, _/_, _≤_, _<_}
 use mathlib.Core.Path.{_≡_, refl, sym, _∙_, ap, subst}
 use mathlib.Core.Bool.{Bool, true, false, cond}
 use mathlib.Core.List.{List, [], _∷_, map}
@@ -15,16 +15,13 @@ use lib.Signed.{nonNeg}
 use lib.Ieee.{Float, nan}
 use borrow.Author.Tests.{lt-ltb, le-ltb, ltb-true}
 use Rattle.layout.specs.declared.traversal.FullTraversal.{FullTraversal}
-use Rattle.accumulator.specs.declared.StableProductFloatAcc.{StableProductFloatAcc}
-use Rattle.accumulator.specs.Joining.{identityAcc}
 use Rattle.offsets.specs.Lists.{steps}
 use Rattle.offsets.specs.Pieces.{pieceLength}
 use Rattle.kernels.specs.Pieces.{Piece, worked}
 use Rattle.kernels.specs.Strided.{strided, Inside}
 use Rattle.kernels.proofs.Striding.{first-natural}
 use Rattle.integers.proofs.Difference.{ints, atoms}
-use Rattle.kernels.specs.Stepped.{stepped, steppedLanes, lanesJoined, SmallAccs}
-use Rattle.kernels.specs.Blocks.{contiguous, blocks, lanesIn, laneIn, startLanes, SmallLanes}
+use Rattle.kernels.specs.Blocks.{contiguous, blocks, lanesIn, startLanes, SmallLanes}
 use Rattle.kernels.proofs.Bounded.{stepped-size}
 use Rattle.kernels.proofs.LaneSizes.{blocks-small, lanes-start, lanes-in-size}
 use Rattle.reduction.specs.Ranges.{valueAt, pieceAt, piecesFrom, piecesOf}

@@ -1,17 +1,14 @@
 -- `offsets::list::write_offsets` meets its contract. The loop's invariant: the offsets before the cursor are listed (`Listing`).
 -- Assumes nothing.
-use Prim.Native.Nat.{ℕ, _+_, _-_, _^_, _≤_, _<_}
-use mathlib.Core.Path.{_≡_, refl, sym, _∙_, ap, subst}
-use mathlib.Core.List.{List, _∷_, _++_}
+use Prim.Native.Nat.{ℕ, _-_}
+use mathlib.Core.Path.{_≡_, _∙_, ap}
+use mathlib.Core.List.{_∷_}
 use native.Mathlib.Omega.{arith}
-use lib.ListN.{length, take, drop}
-use lib.IntN.{ℤ}
-use mir.Val.{toZ, ofZ, SFits}
+use lib.ListN.{length}
+use mir.Val.{toZ, SFits}
 use mir.Facts.{toZ-ofZ}
 use mir.Syntax.{w64}
-use Rattle.offsets.specs.Lists.{steps}
 use Rattle.offsets.specs.Traversals.{runOf, outerOf}
-use Rattle.offsets.specs.Pieces.{OnRange}
 use Rattle.offsets.proofs.Writing.{Listing, listing-none, length-listed, listed, Taken, listing-taken}
 use Rattle.offsets.proofs.list.write_offsets.Statement.{statement}
 use Rattle.offsets.proofs.list.write_offsets.Tie as tie

@@ -1,16 +1,14 @@
 -- `reduction::full::reduce_full_range` meets its contract. The loop's invariant: what is left joins to the range's product (`Reducing`).
 -- Assumes nothing.
-use Prim.Native.Nat.{ℕ, _+_, _-_, _*_, _^_, _≤_, _<_}
-use mathlib.Core.Path.{_≡_, refl, sym, _∙_, ap, subst}
-use mathlib.Core.List.{List}
+use Prim.Native.Nat.{_-_, _<_}
+use mathlib.Core.Path.{_≡_, sym, _∙_, ap}
 use native.Mathlib.Omega.{arith}
-use lib.ListN.{length}
-use lib.IntN.{ℤ, pos}
-use mir.Val.{toZ, ofZ, SFits}
+use lib.IntN.{pos}
+use mir.Val.{toZ, SFits}
 use mir.Facts.{toZ-ofZ}
 use mir.Syntax.{w64}
 use Rattle.offsets.specs.declared.pieces.RangeCursor.{RangeCursor}
-use Rattle.offsets.specs.Pieces.{rangeAt, pieceOf}
+use Rattle.offsets.specs.Pieces.{rangeAt}
 use Rattle.integers.specs.Checked.{eqZ}
 use Rattle.kernels.specs.Strided.{strided}
 use Rattle.kernels.specs.Pieces.{worked}

@@ -1,14 +1,12 @@
 -- `reduction::full::reduce_piece` meets its contract.
 -- Assumes nothing.
-use Prim.Native.Nat.{ℕ, _+_, _-_, _*_, _≤_}
-use mathlib.Core.Path.{_≡_, refl, sym, _∙_, ap, subst}
-use mathlib.Core.Bool.{Bool, true}
-use mathlib.Core.List.{List}
+use Prim.Native.Nat.{ℕ, _+_, _-_, _≤_}
+use mathlib.Core.Path.{_≡_, sym, _∙_, ap, subst}
+use mathlib.Core.Bool.{Bool}
 use native.Mathlib.Omega.{arith}
 use lib.ListN.{length, take, drop}
 use lib.IntN.{ℤ, pos, natAbs}
-use lib.Ieee.{Float}
-use mir.Val.{toZ, ofZ, SFits}
+use mir.Val.{toZ, ofZ}
 use mir.Facts.{toZ-ofZ}
 use mir.Syntax.{w64}
 use Rattle.integers.specs.Checked.{eqZ}
@@ -16,7 +14,7 @@ use Rattle.integers.proofs.Machine.{same-bits, ne-eqZ, pos-fits}
 use Rattle.kernels.specs.Strided.{strided, Inside}
 use Rattle.kernels.specs.Blocks.{contiguous}
 use Rattle.kernels.specs.Pieces.{worked}
-use Rattle.kernels.proofs.Striding.{first-natural, first-below}
+use Rattle.kernels.proofs.Striding.{first-natural}
 use Rattle.reduction.proofs.Pieces.{strided-window, at-first, at-last}
 use borrow.Author.Needs.{needs}
 use Rattle.reduction.proofs.full.reduce_piece.Statement.{statement}
