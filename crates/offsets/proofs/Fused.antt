@@ -322,6 +322,7 @@ pub record Accepted (ns : List ℕ) (ss : List ℤ) (l : FullTraversal) : Type 0
   pub same : Same (axesOf ns ss) (runOf l ∷ outerOf l)
   pub axes : Axes (axesOf ns ss)
   pub total : elements (axesOf ns ss) ≡ l .total
+  pub product : totalOf ns ≡ some (l .total)
 
 module _ (ns : List ℕ) (ss : List ℤ) (eq : length ns ≡ length ss) (small : length ns ≤ PLACES) where
   with-fused : (t : ℕ) → totalOf ns ≡ some t → (t ≡ 0 → ⊥) → (xs : List ReduceOuterAxis) → fusedOf ns ss ≡ some xs → Accepted ns ss (layoutOf t xs)
@@ -338,7 +339,7 @@ module _ (ns : List ℕ) (ss : List ℤ) (eq : length ns ≡ length ss) (small :
           let s = fuse-all (orderFrom [] (kept ns ss)) xs (o .0) z in
           let c : elements (orderFrom [] (kept ns ss)) ≡ t = o .1 ∙ ap (λ (m : ℕ). elements [] * m) (kept-elements ns ss eq) ∙ ap (λ (m : ℕ). m * product ns) one-element ∙ sym p in
           let r = layout-traversal t xs (s .axes) (few xs z) (s .elements ∙ c) in
-          record { traversal = r .0; same = same-trans (orderFrom [] (kept ns ss)) xs _ s (r .1); axes = o .0; total = c ∙ sym (layout-total t xs) }
+          record { traversal = r .0; same = same-trans (orderFrom [] (kept ns ss)) xs _ s (r .1); axes = o .0; total = c ∙ sym (layout-total t xs); product = e ∙ ap some (sym (layout-total t xs)) }
         where
           few : (xs : List ReduceOuterAxis) → fuse (orderFrom [] (kept ns ss)) ≡ some xs → length xs ≤ PLACES
           few xs z = let a = length-fuse (orderFrom [] (kept ns ss)) xs z in let b = length-order [] (kept ns ss) in let d = length-kept ns ss in omega arith

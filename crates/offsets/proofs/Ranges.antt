@@ -1,6 +1,6 @@
 -- The refusals of a range, in rank.
 -- Assumes nothing.
-use Prim.Native.Nat.{ℕ, zero, suc, _-_, _≤_, _<_}
+use Prim.Native.Nat.{ℕ, zero, suc, _-_, _^_, _≤_, _<_}
 use mathlib.Core.Path.{_≡_, refl, sym, _∙_, ap, subst}
 use mathlib.Core.Bool.{Bool, true, false, cond, not, _&&_}
 use mathlib.Core.List.{List, [], _∷_, _++_, append-assoc}
@@ -50,6 +50,7 @@ module _ (ns : List ℕ) (ss : List ℤ) where
     pub few : length ns ≤ PLACES
     pub layout : FullTraversal
     pub compiled : traversalOf ns ss ≡ some layout
+    pub most : aboveMost (totalOf ns) ≡ false
     pub is : (compileOf ns ss) .traversal ≡ layout
     pub after : (rs : List Refusal) → firstOf (compileRefusals ns ss ++ rs) ≡ firstOf rs
 
@@ -69,6 +70,7 @@ module _ (ns : List ℕ) (ss : List ℤ) where
         few = ltb-false PLACES (length ns) (b .0);
         layout = l .0;
         compiled = l .1;
+        most = d .0;
         is = ap (λ (n : ℕ). accepted n (traversalOf ns ss)) e ∙ ap (accepted 0) (l .1);
         after = λ rs. rw (a .0, b .0, c .0, d .0);
       }
@@ -170,14 +172,21 @@ module _ (ns : List ℕ) (ss : List ℤ) (base : ℤ) (start end len : ℕ) wher
     pub ranged-accepted : Accepted ns ss ((compileOf ns ss) .traversal)
     ranged-accepted = clear-accepted ns ss (r .clears) (omega (arith, r .forward, r .inside))
 
+    -- the test of refusal 7, over the compiled axes
+    pub ranged-within : allWithin (runOf ((compileOf ns ss) .traversal) ∷ outerOf ((compileOf ns ss) .traversal)) ((compileOf ns ss) .traversal .total) base len ≡ true
+    ranged-within = within-same (axesOf ns ss) _ _ base len (ranged-accepted .same) ∙ r .within
+
     pub ranged-bounded : Bounded (runOf ((compileOf ns ss) .traversal) ∷ outerOf ((compileOf ns ss) .traversal)) base
     ranged-bounded =
         let a = ranged-accepted in
         let xs = runOf ((compileOf ns ss) .traversal) ∷ outerOf ((compileOf ns ss) .traversal) in
         ends-bounded xs (a .traversal .axes) base len
-        (sym (ends-exact xs (a .traversal .axes) base len)
-        ∙ ap (λ (n : ℕ). allWithin xs n base len) (a .traversal .total)
-        ∙ within-same (axesOf ns ss) xs _ base len (a .same) ∙ r .within)
+        (sym (ends-exact xs (a .traversal .axes) base len) ∙ ap (λ (n : ℕ). allWithin xs n base len) (a .traversal .total) ∙ ranged-within)
+
+    -- refusal 4 does not apply
+    pub ranged-few : (compileOf ns ss) .traversal .total ≤ 2 ^ 40
+    unfolding aboveMost
+    ranged-few = ltb-false (2 ^ 40) ((compileOf ns ss) .traversal .total) (sym (ap aboveMost (ranged-accepted .product)) ∙ r .clears .most)
 
     pub list-0 : (room : ℕ) → end - start ≤ room → listCode ns ss base start end len room ≡ 0
     unfolding listCode firstOf

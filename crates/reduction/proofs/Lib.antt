@@ -1,4 +1,5 @@
 -- Laws of a range's pieces.
 pub mod Pieces
 pub mod Ranges
+pub mod Calls
 pub mod Demand

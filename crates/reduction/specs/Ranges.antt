@@ -2,16 +2,20 @@
 use Prim.Native.Nat.{ℕ, zero, suc, _+_, _-_}
 use mathlib.Core.Bool.{cond}
 use mathlib.Core.List.{List, [], _∷_, map}
-use lib.ListN.{getD}
-use lib.Dec.{ltb}
+use lib.ListN.{length, getD}
+use lib.Dec.{ltb, eqb}
 use lib.IntN.{ℤ, pos, natAbs}
 use lib.Ieee.{Float, nan}
 use Rattle.integers.specs.Checked.{eqZ}
 use Rattle.layout.specs.declared.traversal.FullTraversal.{FullTraversal}
 use Rattle.offsets.specs.Traversals.{runOf, outerOf}
-use Rattle.offsets.specs.Lists.{offsetsFrom}
+use Rattle.layout.specs.Order.{axesOf}
+use Rattle.layout.specs.Compile.{compileOf}
+use Rattle.offsets.specs.Lists.{offsetsFrom, rangeCode}
 use Rattle.offsets.specs.Pieces.{pieceLength}
-use Rattle.kernels.specs.Pieces.{Piece}
+use Rattle.accumulator.specs.declared.StableProductFloatAcc.{StableProductFloatAcc}
+use Rattle.accumulator.specs.Joining.{Told, accumulator, refusal}
+use Rattle.kernels.specs.Pieces.{Piece, joinedPieces}
 
 -- the value at an offset
 abbrev pub valueAt : List Float → ℤ → Float
@@ -34,3 +38,18 @@ piecesFrom l base values end (suc n) k =
 -- the pieces of a range: it has no more of them than elements
 abbrev pub piecesOf : FullTraversal → ℤ → List Float → ℕ → ℕ → List Piece
 piecesOf l base values end start = piecesFrom l base values end (end - start) start
+
+-- the rates that a range visits: element k lies where the axes of rule 2 put it
+abbrev pub visitedRates : List ℕ → List ℤ → ℤ → ℕ → ℕ → List Float → List Float
+visitedRates sizes strides base start end values = map (valueAt values) (offsetsFrom (axesOf sizes strides) base start (end - start))
+
+-- an accepted range's product: the pieces left to right, the first as it is
+abbrev pub rangeProduct : List ℕ → List ℤ → ℤ → ℕ → ℕ → List Float → StableProductFloatAcc
+rangeProduct sizes strides base start end values = joinedPieces (piecesOf ((compileOf sizes strides) .traversal) base values end start)
+
+-- the full reduction: the number of the refusal, 1 to 7, or the range's product
+unfoldable pub reduceOf : List ℕ → List ℤ → ℤ → ℕ → ℕ → List Float → Told
+reduceOf sizes strides base start end values =
+    let code = rangeCode sizes strides base start end (length values) in
+    let r = rangeProduct sizes strides base start end values in
+    cond (eqb code 0) (accumulator (r .m) (r .e) (r .bad)) (refusal code)

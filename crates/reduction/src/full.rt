@@ -1,4 +1,4 @@
-// reduce_full_range, over a layout that is compiled.
+// The full reduction: reduce_full_range over a compiled layout, and the call that compiles by itself.
 ghost use mathlib.Core.Path.{_≡_};
 ghost use mathlib.Core.Bool.{true};
 ghost use mathlib.Core.List.{_∷_};
@@ -11,7 +11,9 @@ ghost use Rattle.offsets.specs.Cursors.{Bounded};
 ghost use Rattle.offsets.specs.Traversals.{runOf, outerOf, Traversal};
 ghost use Rattle.kernels.specs.Strided.{strided, Inside};
 ghost use Rattle.kernels.specs.Pieces.{worked, joinedPieces};
-ghost use Rattle.reduction.specs.Ranges.{piecesOf};
+ghost use Rattle.accumulator.specs.Joining.{told};
+ghost use Rattle.reduction.specs.Ranges.{piecesOf, reduceOf};
+use accumulator::Reduced;
 use accumulator::StableProductFloatAcc;
 use layout::traversal::FullTraversal;
 
@@ -50,4 +52,24 @@ pub fn reduce_full_range(
         c = q.next;
     }
     acc
+}
+
+// The product of elements start to end - 1 of a layout over the lent values, or one of refusals 1 to 7.
+pub fn reduce(
+    sizes: &[u64],
+    strides: &[i64],
+    base: i64,
+    start: u64,
+    end: u64,
+    values: &[f64],
+) -> Reduced
+    ensures { λ r. ⌜ told r ≡ reduceOf (now (sizes .entry)) (now (strides .entry)) base start end (now (values .entry)) ⌝ }
+{
+    let length = values.len() as u64;
+    let range = offsets::list::checked_range(sizes, strides, base, start, end, length);
+    if range.code != 0 {
+        return Reduced::Refused(range.code);
+    }
+    let acc = reduce_full_range(range.traversal, base, start, end, values);
+    Reduced::Acc(acc)
 }
