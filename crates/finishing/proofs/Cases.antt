@@ -6,8 +6,8 @@ use Rattle.binary64.specs.Magnitude.{inUnit, isMinus, scaled, factorAt}
 use Rattle.accumulator.specs.Joining.{stands}
 use Rattle.finishing.specs.Once.{counted, roundedOnce}
 use Rattle.finishing.specs.Finishing.{valueOfAcc, finishedOf}
-use Rattle.finishing.specs.Cases.{is, finishes, finishingTable}
+use Rattle.finishing.specs.Cases.{sameFloat, is, finishes, finishingTable}
 
 pub finishing-table : finishingTable ≡ true
-unfolding eqZ inUnit isMinus scaled factorAt stands counted roundedOnce valueOfAcc finishedOf is finishes finishingTable
+unfolding eqZ inUnit isMinus scaled factorAt stands counted roundedOnce valueOfAcc finishedOf sameFloat is finishes finishingTable
 finishing-table = refl

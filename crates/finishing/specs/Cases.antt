@@ -8,15 +8,20 @@ use Rattle.integers.specs.Checked.{eqZ}
 use Rattle.accumulator.specs.declared.Reduced.the-variants.{Acc}
 use Rattle.finishing.specs.Finishing.{Ended, value, refusal, finishedOf}
 
--- the answer is this number, with its sign; a zero's counts too
+-- the same number, with its sign; a zero's counts too. Nothing is the same as a NaN.
+unfoldable pub sameFloat : Float → Float → Bool
+sameFloat (fin s m e) (fin t n d) = Bool·beq s t && eqb m n && eqZ e d
+sameFloat (inf s) (inf t) = Bool·beq s t
+sameFloat (fin s m e) (inf t) = false
+sameFloat (fin s m e) nan = false
+sameFloat (inf s) (fin t n d) = false
+sameFloat (inf s) nan = false
+sameFloat nan y = false
+
+-- the answer is this number
 unfoldable pub is : Ended → Float → Bool
-is (value (fin s m e)) (fin t n d) = Bool·beq s t && eqb m n && eqZ e d
-is (value (inf s)) (inf t) = Bool·beq s t
-is (value (fin s m e)) (inf t) = false
-is (value (fin s m e)) nan = false
-is (value (inf s)) (fin t n d) = false
-is (value (inf s)) nan = false
-is (value nan) y = false
+unfolding sameFloat
+is (value x) y = sameFloat x y
 is (refusal n) y = false
 
 -- an accumulator of m and e, not bad, is finished as this number

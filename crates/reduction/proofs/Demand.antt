@@ -3,7 +3,7 @@
 use Prim.Native.Nat.{ℕ, zero, suc, _+_, _-_, _^_, _≤_, _<_}
 use mathlib.Core.Path.{_≡_, refl, sym, _∙_, ap, subst}
 use mathlib.Core.Bool.{Bool, true, false, cond, _&&_, _||_}
-use mathlib.Core.List.{List, [], _∷_, _++_, map}
+use mathlib.Core.List.{List, [], _∷_, _++_, map, map-append}
 use native.Mathlib.Omega.{arith}
 use native.Mathlib.Nat.{le-trans}
 use lib.ListN.{length, getD, length-map}
@@ -26,12 +26,12 @@ use Rattle.kernels.specs.Pieces.{Rate, Piece, joinedPieces, rateCount, GoodPiec
 use Rattle.kernels.proofs.Feeding.{or-assoc, each-map}
 use Rattle.kernels.proofs.Bounded.{ValuePiece, FullPiece, joined-within}
 use Rattle.kernels.proofs.Agreement.{agreement, badPiece, joined-mark}
-use Rattle.reduction.specs.Ranges.{valueAt, ratesFrom, pieceAt, piecesFrom, piecesOf}
+use Rattle.reduction.specs.Ranges.{valueAt, ratesFrom, pieceAt, piecesFrom, piecesOf, ratesOf}
 
 -- ---- lists of rates
-or-false : (a b : Bool) → (a || b) ≡ false → (a ≡ false) × (b ≡ false)
-or-false false b e = (refl, e)
-or-false true b e = absurd (no e)
+neither : (a b : Bool) → (a || b) ≡ false → (a ≡ false) × (b ≡ false)
+neither false b e = (refl, e)
+neither true b e = absurd (no e)
   where
     no : _≡_ {A = Bool} true false → ⊥
     no p = subst (λ (x : Bool). T x) p tt
@@ -41,21 +41,23 @@ unfolding some
 some-append p [] ys = refl
 some-append p (x ∷ xs) ys = ap (λ (b : Bool). p x || b) (some-append p xs ys) ∙ sym (or-assoc (p x) (some p xs) (some p ys))
 
-map-append : {X Y : Type 0} (f : X → Y) (xs ys : List X) → map f (xs ++ ys) ≡ map f xs ++ map f ys
-map-append f [] ys = refl
-map-append f (x ∷ xs) ys = ap (λ (l : List _). f x ∷ l) (map-append f xs ys)
-
 each-good : {xs : List Float} → Each (λ (x : Float). T (fits binary64 x)) xs → some isBad xs ≡ false → Each Rate xs
 unfolding some
 each-good none e = none
-each-good (more {x = x} {xs = xs} v vs) e = let p = or-false (isBad x) (some isBad xs) e in more (record { value = v; good = p .0 }) (each-good vs (p .1))
+each-good (more {x = x} {xs = xs} v vs) e = let p = neither (isBad x) (some isBad xs) e in more (record { value = v; good = p .0 }) (each-good vs (p .1))
 
 good-pieces : {ps : List Piece} → Each FullPiece ps → some badPiece ps ≡ false → Each GoodPiece ps
 unfolding some
 good-pieces none e = none
 good-pieces (more {x = p} {xs = ps} f fs) e =
-    let q = or-false (badPiece p) (some badPiece ps) e in
+    let q = neither (badPiece p) (some badPiece ps) e in
     more (record { some-rate = f .some-rate; good = each-good (f .values) (q .0) }) (good-pieces fs (q .1))
+
+-- some piece is bad exactly if some rate of all together is
+bad-rates : (ps : List Piece) → some badPiece ps ≡ some isBad (ratesOf ps)
+unfolding ratesOf some
+bad-rates [] = refl
+bad-rates (p ∷ ps) = ap (λ (x : Bool). some isBad (p .rates) || x) (bad-rates ps) ∙ sym (some-append isBad (p .rates) (ratesOf ps))
 
 none-counted : 0 < rateCount [] → ⊥
 unfolding rateCount
@@ -63,7 +65,7 @@ none-counted z = omega arith
 
 module _ (values : List Float) (v : Each (λ (x : Float). T (fits binary64 x)) values) where
   value-fits : (vs : List Float) → Each (λ (x : Float). T (fits binary64 x)) vs → (k : ℕ) → T (fits binary64 (getD vs k nan))
-  unfolding fits getD
+  unfolding fits
   value-fits vs none k = tt
   value-fits vs (more f fs) zero = f
   value-fits vs (more {x = x} {xs = xs} f fs) (suc k) = value-fits xs fs k
@@ -107,14 +109,6 @@ module _ (l : FullTraversal) (t : Traversal l) (base : ℤ) (b : Bounded (runOf 
           let c = length-rates k (pieceLength (l .«run_len») end k) in
           omega arith
 
-  -- no rate is left at the end
-  over : (k : ℕ) → end ≤ k → some isBad (ratesFrom l base values k (end - k)) ≡ false
-  unfolding some offsetsFrom
-  over k h = ap (λ (n : ℕ). some isBad (ratesFrom l base values k n)) none-left
-    where
-      none-left : end - k ≡ 0
-      none-left = omega arith
-
   -- a piece's rates, and those after it
   joined : (k m : ℕ) → k + m ≤ end → ratesFrom l base values k m ++ ratesFrom l base values (k + m) (end - (k + m)) ≡ ratesFrom l base values k (end - k)
   joined k m h =
@@ -125,23 +119,30 @@ module _ (l : FullTraversal) (t : Traversal l) (base : ℤ) (b : Bounded (runOf 
       all-left : m + (end - (k + m)) ≡ end - k
       all-left = omega arith
 
+  -- no rate is left at the end
+  over : (k : ℕ) → end ≤ k → [] ≡ ratesFrom l base values k (end - k)
+  unfolding offsetsFrom
+  over k h = ap (ratesFrom l base values k) none-left
+    where
+      none-left : 0 ≡ end - k
+      none-left = omega arith
+
   -- and those, in order
-  visited : (n k : ℕ) → k ≤ end → end ≤ k + n → some badPiece (piecesFrom l base values end n k) ≡ some isBad (ratesFrom l base values k (end - k))
-  unfolding piecesFrom some
-  visited zero k h g = sym (over k (omega arith))
+  visited : (n k : ℕ) → k ≤ end → end ≤ k + n → ratesOf (piecesFrom l base values end n k) ≡ ratesFrom l base values k (end - k)
+  unfolding piecesFrom ratesOf
+  visited zero k h g = over k (omega arith)
   visited (suc n) k h g = go (ltb k end) refl (visited n (k + pieceLength (l .«run_len») end k))
     where
       go : (x : Bool) → ltb k end ≡ x
-          → (k + pieceLength (l .«run_len») end k ≤ end → end ≤ k + pieceLength (l .«run_len») end k + n → some badPiece (piecesFrom l base values end n (k + pieceLength (l .«run_len») end k)) ≡ some isBad (ratesFrom l base values (k + pieceLength (l .«run_len») end k) (end - (k + pieceLength (l .«run_len») end k))))
-          → some badPiece (cond x (pieceAt l base values end k ∷ piecesFrom l base values end n (k + pieceLength (l .«run_len») end k)) []) ≡ some isBad (ratesFrom l base values k (end - k))
-      go false e f = sym (over k (ltb-false k end e))
+          → (k + pieceLength (l .«run_len») end k ≤ end → end ≤ k + pieceLength (l .«run_len») end k + n → ratesOf (piecesFrom l base values end n (k + pieceLength (l .«run_len») end k)) ≡ ratesFrom l base values (k + pieceLength (l .«run_len») end k) (end - (k + pieceLength (l .«run_len») end k)))
+          → ratesOf (cond x (pieceAt l base values end k ∷ piecesFrom l base values end n (k + pieceLength (l .«run_len») end k)) []) ≡ ratesFrom l base values k (end - k)
+      go false e f = over k (ltb-false k end e)
       go true e f =
           let z = ltb-true k end e in
           let p = len-pos l t base b k end z in
           let q = len-end l t base b k end z in
-          ap (λ (x : Bool). some isBad (ratesFrom l base values k (pieceLength (l .«run_len») end k)) || x) (f q (omega arith))
-          ∙ sym (some-append isBad (ratesFrom l base values k (pieceLength (l .«run_len») end k)) (ratesFrom l base values (k + pieceLength (l .«run_len») end k) (end - (k + pieceLength (l .«run_len») end k))))
-          ∙ ap (some isBad) (joined k (pieceLength (l .«run_len») end k) q)
+          ap (λ (xs : List Float). ratesFrom l base values k (pieceLength (l .«run_len») end k) ++ xs) (f q (omega arith))
+          ∙ joined k (pieceLength (l .«run_len») end k) q
 
   -- ---- demand 3, of the range start to end - 1
   module _ (start : ℕ) (h : start < end) (few : end ≤ 2 ^ 40) where
@@ -151,9 +152,16 @@ module _ (l : FullTraversal) (t : Traversal l) (base : ℤ) (b : Bounded (runOf 
     count : rateCount (piecesOf l base values end start) ≡ end - start
     count = counted (end - start) start (omega arith) (omega arith)
 
+    -- the pieces' rates, one after another, are the range's
+    pub range-rates : ratesOf (piecesOf l base values end start) ≡ ratesFrom l base values start (end - start)
+    range-rates = visited (end - start) start (omega arith) (omega arith)
+
+    bad-visited : some badPiece (piecesOf l base values end start) ≡ some isBad (ratesFrom l base values start (end - start))
+    bad-visited = bad-rates (piecesOf l base values end start) ∙ ap (some isBad) range-rates
+
     -- the mark is set exactly if a visited rate is zero, subnormal, infinite or NaN
     pub range-mark : joinedPieces (piecesOf l base values end start) .bad ≡ some isBad (ratesFrom l base values start (end - start))
-    range-mark = joined-mark (each-map FullPiece ValuePiece (λ p f. f .values) full) ∙ visited (end - start) start (omega arith) (omega arith)
+    range-mark = joined-mark (each-map FullPiece ValuePiece (λ p f. f .values) full) ∙ bad-visited
 
     -- 1 <= |m| < 2 and |e| <= 2^52, bad or not: the answer can be joined and finished
     pub range-stands : stands (joinedPieces (piecesOf l base values end start)) ≡ true
@@ -167,7 +175,7 @@ module _ (l : FullTraversal) (t : Traversal l) (base : ℤ) (b : Bounded (runOf 
     pub range-agrees : some isBad (ratesFrom l base values start (end - start)) ≡ false → joinedPieces (piecesOf l base values end start) ≡ accOf (plainProduct 11 52 (patternsOf (piecesOf l base values end start)))
     range-agrees e =
         agreement (piecesOf l base values end start)
-        (record { some-piece = nonempty (piecesOf l base values end start) (omega (arith, count)); pieces = good-pieces full (visited (end - start) start (omega arith) (omega arith) ∙ e); few = omega (arith, count) })
+        (record { some-piece = nonempty (piecesOf l base values end start) (omega (arith, count)); pieces = good-pieces full (bad-visited ∙ e); few = omega (arith, count) })
       where
         nonempty : (ps : List Piece) → 0 < rateCount ps → 0 < length ps
         nonempty [] z = absurd (none-counted z)

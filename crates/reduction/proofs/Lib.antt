@@ -3,3 +3,5 @@ pub mod Pieces
 pub mod Ranges
 pub mod Calls
 pub mod Demand
+pub mod Whole
+pub mod Cases

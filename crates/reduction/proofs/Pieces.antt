@@ -68,7 +68,7 @@ strided-steps values z s (suc n) = ap (λ (xs : List Float). valueAt values z �
 
 -- at stride 1 they lie side by side
 pub strided-window : (values : List Float) (at n : ℕ) → at + n ≤ length values → take n (drop at values) ≡ strided values (pos at) (pos 1) n
-unfolding strided take
+unfolding strided
 strided-window values at zero h = refl
 strided-window values at (suc n) h =
     ap (take (suc n)) (drop-cons values at nan (omega arith))

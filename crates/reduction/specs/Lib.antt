@@ -1,2 +1,3 @@
--- The pieces of a range, and their product. Definitions only.
+-- The pieces of a range, their product, and the paper's marked cases. Definitions only.
 pub mod Ranges
+pub mod Cases

@@ -1,7 +1,7 @@
 -- A range's pieces with their rates (document 01, "Accumulator"). Definitions only.
 use Prim.Native.Nat.{ℕ, zero, suc, _+_, _-_}
 use mathlib.Core.Bool.{cond}
-use mathlib.Core.List.{List, [], _∷_, map}
+use mathlib.Core.List.{List, [], _∷_, _++_, map}
 use lib.ListN.{length, getD}
 use lib.Dec.{ltb, eqb}
 use lib.IntN.{ℤ, pos, natAbs}
@@ -38,6 +38,11 @@ piecesFrom l base values end (suc n) k =
 -- the pieces of a range: it has no more of them than elements
 abbrev pub piecesOf : FullTraversal → ℤ → List Float → ℕ → ℕ → List Piece
 piecesOf l base values end start = piecesFrom l base values end (end - start) start
+
+-- the pieces' rates, one after another
+unfoldable pub ratesOf : List Piece → List Float
+ratesOf [] = []
+ratesOf (p ∷ ps) = p .rates ++ ratesOf ps
 
 -- the rates that a range visits: element k lies where the axes of rule 2 put it
 abbrev pub visitedRates : List ℕ → List ℤ → ℤ → ℕ → ℕ → List Float → List Float

@@ -1,0 +1,96 @@
+-- Demand 3, whole: of every accepted range of every layout, over the reduction's answer and what finishing makes of it.
+-- Assumes that each value is one of binary64, as every f64 is.
+use Prim.Native.Nat.{ℕ, zero, suc, _-_}
+use mathlib.Core.Path.{_≡_, refl, sym, _∙_, ap, subst}
+use mathlib.Core.Bool.{Bool, true, false}
+use mathlib.Core.List.{List, map}
+use native.Mathlib.Nat.{le-trans}
+use lib.ListN.{length}
+use lib.Dec.{T}
+use lib.IntN.{ℤ}
+use lib.Ieee.{Float, nan, binary64, fits}
+use Rattle.layout.specs.declared.traversal.FullTraversal.{FullTraversal}
+use Rattle.layout.specs.Order.{axesOf}
+use Rattle.layout.specs.Compile.{compileOf}
+use Rattle.binary64.specs.Magnitude.{inUnit}
+use Rattle.binary64.specs.Splitting.{isBad}
+use Rattle.accumulator.specs.declared.StableProductFloatAcc.{StableProductFloatAcc}
+use Rattle.accumulator.specs.declared.Reduced.{Reduced}
+use Rattle.accumulator.specs.declared.Reduced.the-variants.{Acc, Refused}
+use Rattle.accumulator.specs.Joining.{Told, told, accumulator, refusal, factorOfAcc, stands}
+use Rattle.accumulator.proofs.Answers.{stands-unit}
+use Rattle.finishing.specs.Once.{roundedOnce}
+use Rattle.finishing.specs.Finishing.{value, finishedOf}
+use Rattle.finishing.proofs.Answers.{finished-bad, finished-once}
+use Rattle.offsets.specs.Lists.{offsetsFrom, rangeCode}
+use Rattle.offsets.proofs.Ranges.{ranged, ranged-accepted, ranged-bounded, ranged-few, offsets-same}
+use Rattle.kernels.specs.Lanes.{Each, some}
+use Rattle.kernels.specs.Plain.{plainProduct}
+use Rattle.kernels.specs.Pieces.{Piece, patternsOf, accOf}
+use Rattle.reduction.specs.Ranges.{valueAt, piecesOf, ratesOf, visitedRates, rangeProduct, reduceOf}
+use Rattle.reduction.proofs.Calls.{reduce-accepted}
+use Rattle.reduction.proofs.Demand.{range-rates, range-mark, range-stands, range-agrees}
+
+-- ---- an answer is known by what it tells
+abbrev told-m : Told → Float
+told-m (accumulator m e bad) = m
+told-m (refusal n) = nan
+
+abbrev told-e : ℤ → Told → ℤ
+told-e d (accumulator m e bad) = e
+told-e d (refusal n) = d
+
+abbrev told-bad : Told → Bool
+told-bad (accumulator m e bad) = bad
+told-bad (refusal n) = false
+
+abbrev is-accumulator : Told → Bool
+is-accumulator (accumulator m e bad) = true
+is-accumulator (refusal n) = false
+
+told-acc : (r : Reduced) (a : StableProductFloatAcc) → told r ≡ told (Acc a) → r ≡ Acc a
+told-acc (Refused n) a e = absurd (subst T (sym (ap is-accumulator e)) tt)
+told-acc (Acc b) a e = ap Acc (same (ap told-m e) (ap (told-e (a .e)) e) (ap told-bad e))
+  where
+    same : b .m ≡ a .m → b .e ≡ a .e → b .bad ≡ a .bad → b ≡ a
+    same p q r = rw (p, q, r) refl
+
+-- ---- what demand 3 says of an answer `a` to the range
+pub record Demand3 (ns : List ℕ) (ss : List ℤ) (base : ℤ) (start end : ℕ) (values : List Float) (a : StableProductFloatAcc) : Type 0 where
+  -- the call is accepted, and this is its answer
+  pub answer : reduceOf ns ss base start end values ≡ told (Acc a)
+  -- the pieces hold the visited rates, in order
+  pub rates : ratesOf (piecesOf ((compileOf ns ss) .traversal) base values end start) ≡ visitedRates ns ss base start end values
+  -- the mark is set exactly if a visited rate is zero, subnormal, infinite or NaN
+  pub mark : a .bad ≡ some isBad (visitedRates ns ss base start end values)
+  -- not bad: m and e are the plain product's over the pieces
+  pub plain : a .bad ≡ false → a ≡ accOf (plainProduct 11 52 (patternsOf (piecesOf ((compileOf ns ss) .traversal) base values end start)))
+  -- 1 <= |m| < 2, bad or not
+  pub unit : inUnit (a .m) ≡ true
+  -- finishing the answer gives m × 2^e rounded once, or the NaN of a bad mark; never a refusal
+  pub once : (r : Reduced) → told r ≡ reduceOf ns ss base start end values → a .bad ≡ false → finishedOf r ≡ value (roundedOnce (factorOfAcc a))
+  pub marked : (r : Reduced) → told r ≡ reduceOf ns ss base start end values → a .bad ≡ true → finishedOf r ≡ value nan
+
+module _ (ns : List ℕ) (ss : List ℤ) (base : ℤ) (start end : ℕ) (values : List Float) (v : Each (λ (x : Float). T (fits binary64 x)) values)
+    (e : rangeCode ns ss base start end (length values) ≡ 0) where
+  pub demand-3 : Demand3 ns ss base start end values (rangeProduct ns ss base start end values)
+  demand-3 =
+      let l = (compileOf ns ss) .traversal in
+      let g = ranged ns ss base start end (length values) e in
+      let a = ranged-accepted ns ss base start end (length values) g in
+      let b = ranged-bounded ns ss base start end (length values) g in
+      let few = le-trans (g .inside) (ranged-few ns ss base start end (length values) g) in
+      let r = rangeProduct ns ss base start end values in
+      let same = ap (map (valueAt values)) (offsets-same (axesOf ns ss) _ base (a .same) (end - start) start) in
+      let mark = range-mark l (a .traversal) base b values v end start (g .forward) few ∙ ap (some isBad) same in
+      let up = range-stands l (a .traversal) base b values v end start (g .forward) few in
+      let answer = reduce-accepted ns ss base start end values e in
+      record {
+        answer = answer;
+        rates = range-rates l (a .traversal) base b values v end start (g .forward) few ∙ same;
+        mark = mark;
+        plain = λ k. range-agrees l (a .traversal) base b values v end start (g .forward) few (ap (some isBad) same ∙ sym mark ∙ k);
+        unit = stands-unit r up;
+        once = λ q t k. ap finishedOf (told-acc q r (t ∙ answer)) ∙ finished-once r up k;
+        marked = λ q t k. ap finishedOf (told-acc q r (t ∙ answer)) ∙ finished-bad r up k;
+      }
