@@ -1,0 +1,2 @@
+-- What the static library hands out. Definitions only.
+pub mod Answers
