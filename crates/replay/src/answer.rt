@@ -2,28 +2,18 @@
 ghost use Prim.Native.Nat.{_+_, _*_, _≤_};
 ghost use mathlib.Core.Path.{_≡_};
 ghost use lib.ListN.{length};
-use crate::acc::ReadAcc;
+use crate::product::ReadReduced;
+use crate::range::Range;
+use crate::range::ReadRange;
 use layout::axis::ReduceOuterAxis;
 use layout::traversal::Compiled;
 use layout::traversal::FullTraversal;
-use text::word::Items;
-use text::word::ReadI64;
 use text::word::ReadU64;
 
 // How many sizes, strides and places of a buffer a line may have.
 const AXES: usize = 32;
 
 const PLACES: usize = 4096;
-
-// What a list call has behind its axes, and where the next word begins.
-struct Range {
-    ok: bool,
-    base: i64,
-    start: u64,
-    end: u64,
-    length: u64,
-    next: usize,
-}
 
 pub fn malformed(out: &mut [u8]) -> usize
     requires { ⌜ 131072 ≤ length (now out) ⌝ }
@@ -38,19 +28,37 @@ pub fn answer(line: &[u8], out: &mut [u8]) -> usize
     ensures { λ r. ⌜ r ≤ 131072 ⌝ }
 {
     let end = text::word::find(line, 0, b' ');
-    if check::same(&line[..end], b"compile") {
-        return answer_compile(line, end + 1, &mut *out);
-    }
-    if check::same(&line[..end], b"list") {
-        return answer_list(line, end + 1, &mut *out);
-    }
     if check::same(&line[..end], b"join") {
-        return answer_join(line, end + 1, &mut *out);
+        return answer_reduced(crate::product::joined(line, end + 1), &mut *out);
     }
-    malformed(&mut *out)
+    if check::same(&line[..end], b"finish") {
+        return answer_finished(crate::product::given(line, end + 1), &mut *out);
+    }
+    answer_axes(&line[..end], line, end + 1, &mut *out)
 }
 
-fn answer_compile(line: &[u8], at: usize, out: &mut [u8]) -> usize
+fn answer_reduced(r: ReadReduced, out: &mut [u8]) -> usize
+    requires { ⌜ 131072 ≤ length (now out) ⌝ }
+    ensures { λ r. ⌜ r ≤ 131072 ⌝ }
+{
+    let ReadReduced::Is(answer) = r else {
+        return malformed(&mut *out);
+    };
+    crate::acc::put_reduced(answer, &mut *out)
+}
+
+fn answer_finished(r: ReadReduced, out: &mut [u8]) -> usize
+    requires { ⌜ 131072 ≤ length (now out) ⌝ }
+    ensures { λ r. ⌜ r ≤ 131072 ⌝ }
+{
+    let ReadReduced::Is(answer) = r else {
+        return malformed(&mut *out);
+    };
+    crate::acc::put_finished(finishing::finish(answer), &mut *out)
+}
+
+// Every other call has its sizes and strides first, so they are read before it is known which one it is.
+fn answer_axes(call: &[u8], line: &[u8], at: usize, out: &mut [u8]) -> usize
     requires { ⌜ 131072 ≤ length (now out) ⌝ }
     ensures { λ r. ⌜ r ≤ 131072 ⌝ }
 {
@@ -64,13 +72,45 @@ fn answer_compile(line: &[u8], at: usize, out: &mut [u8]) -> usize
     if !b.ok {
         return malformed(&mut *out);
     }
-    if !text::word::at_end(line, b.next) {
-        return malformed(&mut *out);
-    }
     let n = a.count;
     let m = b.count;
-    let c = FullTraversal::compile(&sizes[..n], &strides[..m]);
-    put_compiled(c, &mut *out)
+    answer_layout(call, &sizes[..n], &strides[..m], line, b.next, &mut *out)
+}
+
+fn answer_layout(
+    call: &[u8],
+    sizes: &[u64],
+    strides: &[i64],
+    line: &[u8],
+    at: usize,
+    out: &mut [u8],
+) -> usize
+    requires { ⌜ 131072 ≤ length (now out) ⌝ }
+    ensures { λ r. ⌜ r ≤ 131072 ⌝ }
+{
+    if check::same(call, b"compile") {
+        return answer_compile(sizes, strides, line, at, &mut *out);
+    }
+    if check::same(call, b"list") {
+        return answer_list(sizes, strides, line, at, &mut *out);
+    }
+    if check::same(call, b"reduce") {
+        return answer_reduced(crate::product::reduced(sizes, strides, line, at), &mut *out);
+    }
+    if check::same(call, b"product") {
+        return answer_finished(crate::product::reduced(sizes, strides, line, at), &mut *out);
+    }
+    malformed(&mut *out)
+}
+
+fn answer_compile(sizes: &[u64], strides: &[i64], line: &[u8], at: usize, out: &mut [u8]) -> usize
+    requires { ⌜ 131072 ≤ length (now out) ⌝ }
+    ensures { λ r. ⌜ r ≤ 131072 ⌝ }
+{
+    if !text::word::at_end(line, at) {
+        return malformed(&mut *out);
+    }
+    put_compiled(FullTraversal::compile(sizes, strides), &mut *out)
 }
 
 fn put_compiled(c: Compiled, out: &mut [u8]) -> usize
@@ -124,69 +164,33 @@ fn put_axis(a: ReduceOuterAxis, out: &mut [u8], from: usize) -> usize
     text::print::put_i64(&mut *out, at, a.source_reset)
 }
 
-fn no_range() -> Range {
-    Range {
-        ok: false,
-        base: 0,
-        start: 0,
-        end: 0,
-        length: 0,
-        next: 0,
-    }
-}
-
-fn read_range(line: &[u8], at: usize) -> Range {
-    let ReadI64::Is(base, to_start) = text::word::read_i64(line, at) else {
-        return no_range();
-    };
-    let ReadU64::Is(start, to_end) = text::word::read_u64(line, to_start) else {
-        return no_range();
-    };
-    let ReadU64::Is(end, to_length) = text::word::read_u64(line, to_end) else {
-        return no_range();
-    };
-    let ReadU64::Is(length, next) = text::word::read_u64(line, to_length) else {
-        return no_range();
-    };
-    Range {
-        ok: true,
-        base,
-        start,
-        end,
-        length,
-        next,
-    }
-}
-
-fn answer_list(line: &[u8], at: usize, out: &mut [u8]) -> usize
+fn answer_list(sizes: &[u64], strides: &[i64], line: &[u8], at: usize, out: &mut [u8]) -> usize
     requires { ⌜ 131072 ≤ length (now out) ⌝ }
     ensures { λ r. ⌜ r ≤ 131072 ⌝ }
 {
-    let mut sizes = [0u64; AXES];
-    let mut strides = [0i64; AXES];
-    let a = text::word::read_u64s(line, at, &mut sizes);
-    if !a.ok {
+    let ReadRange::Is(r, to_length) = crate::range::read_range(line, at) else {
         return malformed(&mut *out);
-    }
-    let b = text::word::read_i64s(line, a.next, &mut strides);
-    if !b.ok {
+    };
+    let ReadU64::Is(len, to_places) = text::word::read_u64(line, to_length) else {
         return malformed(&mut *out);
-    }
-    let n = a.count;
-    let m = b.count;
-    answer_range(&sizes[..n], &strides[..m], line, b.next, &mut *out)
+    };
+    answer_places(sizes, strides, r, len, line, to_places, &mut *out)
 }
 
-fn answer_range(sizes: &[u64], strides: &[i64], line: &[u8], at: usize, out: &mut [u8]) -> usize
+fn answer_places(
+    sizes: &[u64],
+    strides: &[i64],
+    r: Range,
+    len: u64,
+    line: &[u8],
+    at: usize,
+    out: &mut [u8],
+) -> usize
     requires { ⌜ 131072 ≤ length (now out) ⌝ }
     ensures { λ r. ⌜ r ≤ 131072 ⌝ }
 {
     let mut places = [0i64; PLACES];
-    let r = read_range(line, at);
-    if !r.ok {
-        return malformed(&mut *out);
-    }
-    let b = text::word::read_i64s(line, r.next, &mut places);
+    let b = text::word::read_i64s(line, at, &mut places);
     if !b.ok {
         return malformed(&mut *out);
     }
@@ -194,13 +198,14 @@ fn answer_range(sizes: &[u64], strides: &[i64], line: &[u8], at: usize, out: &mu
         return malformed(&mut *out);
     }
     let n = b.count;
-    answer_offsets(sizes, strides, r, &mut places[..n], &mut *out)
+    answer_offsets(sizes, strides, r, len, &mut places[..n], &mut *out)
 }
 
 fn answer_offsets(
     sizes: &[u64],
     strides: &[i64],
     r: Range,
+    len: u64,
     places: &mut [i64],
     out: &mut [u8],
 ) -> usize
@@ -213,7 +218,7 @@ fn answer_offsets(
         r.base,
         r.start,
         r.end,
-        r.length,
+        len,
         &mut *places,
     );
     put_list(code, &*places, &mut *out)
@@ -241,20 +246,4 @@ fn put_places(places: &[i64], out: &mut [u8], from: usize) -> usize
         i += 1;
     }
     at
-}
-
-fn answer_join(line: &[u8], at: usize, out: &mut [u8]) -> usize
-    requires { ⌜ 131072 ≤ length (now out) ⌝ }
-    ensures { λ r. ⌜ r ≤ 131072 ⌝ }
-{
-    let ReadAcc::Is(a, to_b) = crate::acc::read_acc(line, at) else {
-        return malformed(&mut *out);
-    };
-    let ReadAcc::Is(b, next) = crate::acc::read_acc(line, to_b) else {
-        return malformed(&mut *out);
-    };
-    if !text::word::at_end(line, next) {
-        return malformed(&mut *out);
-    }
-    crate::acc::put_reduced(accumulator::join(a, b), &mut *out)
 }

@@ -1,7 +1,10 @@
 // Answers each line of standard input, a call of the engine, with a line on standard output.
 mod acc;
 mod answer;
+mod float;
 mod input;
+mod product;
+mod range;
 
 fn main() {
     let mut space = [0u8; 131073];

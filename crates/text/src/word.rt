@@ -90,7 +90,7 @@ pub fn malformed() -> Items
 }
 
 // A count that is at most `most`.
-fn read_count(line: &[u8], at: usize, most: usize) -> Items
+pub fn read_count(line: &[u8], at: usize, most: usize) -> Items
     ensures { λ r. ⌜ r .count ≤ most ⌝ }
 {
     let ReadU64::Is(n, next) = read_u64(line, at) else {

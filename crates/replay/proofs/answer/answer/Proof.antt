@@ -17,11 +17,14 @@ slice-aggregate-same-2 c = search needs
 same-requires : tie.Need-same-requires
 same-requires c κs = search needs
 
-add-answer-compile : tie.Need-add-answer-compile
-add-answer-compile c = search needs
+add-joined : tie.Need-add-joined
+add-joined c = search needs
 
-answer-compile-requires : tie.Need-answer-compile-requires
-answer-compile-requires c κs = search needs
+joined-requires : tie.Need-joined-requires
+joined-requires c κs = search needs
+
+answer-reduced-requires : tie.Need-answer-reduced-requires
+answer-reduced-requires c κs = search needs
 
 same-length : tie.Need-same-length
 same-length c = search needs
@@ -38,11 +41,14 @@ slice-aggregate-same-4 c = search needs
 same-requires-2 : tie.Need-same-requires-2
 same-requires-2 c κs = search needs
 
-add-answer-list : tie.Need-add-answer-list
-add-answer-list c = search needs
+add-given : tie.Need-add-given
+add-given c = search needs
 
-answer-list-requires : tie.Need-answer-list-requires
-answer-list-requires c κs = search needs
+given-requires : tie.Need-given-requires
+given-requires c κs = search needs
+
+answer-finished-requires : tie.Need-answer-finished-requires
+answer-finished-requires c κs = search needs
 
 same-length-2 : tie.Need-same-length-2
 same-length-2 c = search needs
@@ -50,35 +56,20 @@ same-length-2 c = search needs
 returns-2 : tie.Need-returns-2
 returns-2 c = search needs
 
-slice-aggregate-same-5 : tie.Need-slice-aggregate-same-5
-slice-aggregate-same-5 c = counts _ _ (search needs)
+slice-aggregate-answer-axes : tie.Need-slice-aggregate-answer-axes
+slice-aggregate-answer-axes c = counts _ _ (search needs)
 
-slice-aggregate-same-6 : tie.Need-slice-aggregate-same-6
-slice-aggregate-same-6 c = search needs
+add-answer-axes : tie.Need-add-answer-axes
+add-answer-axes c = search needs
 
-same-requires-3 : tie.Need-same-requires-3
-same-requires-3 c κs = search needs
-
-add-answer-join : tie.Need-add-answer-join
-add-answer-join c = search needs
-
-answer-join-requires : tie.Need-answer-join-requires
-answer-join-requires c κs = search needs
+answer-axes-requires : tie.Need-answer-axes-requires
+answer-axes-requires c κs = search needs
 
 same-length-3 : tie.Need-same-length-3
 same-length-3 c = search needs
 
 returns-3 : tie.Need-returns-3
 returns-3 c = search needs
-
-malformed-requires : tie.Need-malformed-requires
-malformed-requires c κs = search needs
-
-same-length-4 : tie.Need-same-length-4
-same-length-4 c = search needs
-
-returns-4 : tie.Need-returns-4
-returns-4 c = search needs
 
 pub answer-spec : {M : Type 1} → statement M
 answer-spec =
@@ -88,24 +79,21 @@ answer-spec =
     slice-aggregate-same
     slice-aggregate-same-2
     same-requires
-    add-answer-compile
-    answer-compile-requires
+    add-joined
+    joined-requires
+    answer-reduced-requires
     same-length
     returns
     slice-aggregate-same-3
     slice-aggregate-same-4
     same-requires-2
-    add-answer-list
-    answer-list-requires
+    add-given
+    given-requires
+    answer-finished-requires
     same-length-2
     returns-2
-    slice-aggregate-same-5
-    slice-aggregate-same-6
-    same-requires-3
-    add-answer-join
-    answer-join-requires
+    slice-aggregate-answer-axes
+    add-answer-axes
+    answer-axes-requires
     same-length-3
-    returns-3
-    malformed-requires
-    same-length-4
-    returns-4)
+    returns-3)

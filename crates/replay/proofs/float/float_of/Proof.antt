@@ -1,4 +1,4 @@
--- `replay::acc::float_of` meets its contract. A pattern is a NaN's exactly if it is above infinity's, its sign taken off.
+-- `replay::float::float_of` meets its contract. A pattern is a NaN's exactly if it is above infinity's, its sign taken off.
 -- Assumes nothing.
 use mathlib.Core.Path.{sym, _∙_, subst}
 use mathlib.Core.Bool.{Bool, not}
@@ -7,8 +7,8 @@ use lib.Ieee.{binary64}
 use lib.Ieee.Bits.{nanBits-above}
 use borrow.Author.Needs.{needs}
 use borrow.Author.Tests.{le-ltb}
-use Rattle.replay.proofs.acc.float_of.Statement.{statement}
-use Rattle.replay.proofs.acc.float_of.Tie as tie
+use Rattle.replay.proofs.float.float_of.Statement.{statement}
+use Rattle.replay.proofs.float.float_of.Tie as tie
 
 returns : tie.Need-returns
 returns c = search needs

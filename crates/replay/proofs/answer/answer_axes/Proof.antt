@@ -1,9 +1,9 @@
--- `replay::answer::answer_compile` meets its contract. The counts that were read lie within the arrays.
+-- `replay::answer::answer_axes` meets its contract. The counts that were read lie within the arrays.
 -- Assumes nothing.
 use borrow.Author.Needs.{needs}
 use Rattle.replay.proofs.Parts.{counts}
-use Rattle.replay.proofs.answer.answer_compile.Statement.{statement}
-use Rattle.replay.proofs.answer.answer_compile.Tie as tie
+use Rattle.replay.proofs.answer.answer_axes.Statement.{statement}
+use Rattle.replay.proofs.answer.answer_axes.Tie as tie
 
 slice-aggregate-read-u64s : tie.Need-slice-aggregate-read-u64s
 slice-aggregate-read-u64s c = search needs
@@ -35,11 +35,20 @@ same-length-2 c = search needs
 returns-2 : tie.Need-returns-2
 returns-2 c = search needs
 
-at-end-requires : tie.Need-at-end-requires
-at-end-requires c κs = search needs
+array-share-prefix-sizes : tie.Need-array-share-prefix-sizes
+array-share-prefix-sizes c = search needs
 
-malformed-requires-3 : tie.Need-malformed-requires-3
-malformed-requires-3 c κs = search needs
+slice-aggregate-answer-layout : tie.Need-slice-aggregate-answer-layout
+slice-aggregate-answer-layout c = counts _ _ (search needs)
+
+array-share-prefix-strides : tie.Need-array-share-prefix-strides
+array-share-prefix-strides c = search needs
+
+slice-aggregate-answer-layout-2 : tie.Need-slice-aggregate-answer-layout-2
+slice-aggregate-answer-layout-2 c = counts _ _ (search needs)
+
+answer-layout-requires : tie.Need-answer-layout-requires
+answer-layout-requires c κs = search needs
 
 same-length-3 : tie.Need-same-length-3
 same-length-3 c = search needs
@@ -47,32 +56,8 @@ same-length-3 c = search needs
 returns-3 : tie.Need-returns-3
 returns-3 c = search needs
 
-array-share-prefix-sizes : tie.Need-array-share-prefix-sizes
-array-share-prefix-sizes c = search needs
-
-slice-aggregate-compile : tie.Need-slice-aggregate-compile
-slice-aggregate-compile c = counts _ _ (search needs)
-
-array-share-prefix-strides : tie.Need-array-share-prefix-strides
-array-share-prefix-strides c = search needs
-
-slice-aggregate-compile-2 : tie.Need-slice-aggregate-compile-2
-slice-aggregate-compile-2 c = counts _ _ (search needs)
-
-compile-requires : tie.Need-compile-requires
-compile-requires c κs = search needs
-
-put-compiled-requires : tie.Need-put-compiled-requires
-put-compiled-requires c κs = search needs
-
-same-length-4 : tie.Need-same-length-4
-same-length-4 c = search needs
-
-returns-4 : tie.Need-returns-4
-returns-4 c = search needs
-
-pub answer-compile-spec : {M : Type 1} → statement M
-answer-compile-spec =
+pub answer-axes-spec : {M : Type 1} → statement M
+answer-axes-spec =
     tie.close
     (tie.spec
     slice-aggregate-read-u64s
@@ -85,15 +70,10 @@ answer-compile-spec =
     malformed-requires-2
     same-length-2
     returns-2
-    at-end-requires
-    malformed-requires-3
-    same-length-3
-    returns-3
     array-share-prefix-sizes
-    slice-aggregate-compile
+    slice-aggregate-answer-layout
     array-share-prefix-strides
-    slice-aggregate-compile-2
-    compile-requires
-    put-compiled-requires
-    same-length-4
-    returns-4)
+    slice-aggregate-answer-layout-2
+    answer-layout-requires
+    same-length-3
+    returns-3)
