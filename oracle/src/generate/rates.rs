@@ -1,0 +1,147 @@
+//! Ours: random rates, as bits. A line of rates is of one kind, or of all of them by turns.
+
+use super::accumulator::{near_an_end, plain, short, with_zeros, ONE, SIGN};
+use super::Dice;
+
+/// The exponents of the bounds within which a block of 64 is multiplied unsplit, and of the normal numbers.
+const BLOCK: i64 = 120;
+const LEAST: i64 = -1022;
+const MOST: i64 = 1023;
+
+const KINDS: [fn(&mut Dice) -> u64; 13] = [
+    keep,
+    keep,
+    near_one,
+    common,
+    inside_a_block,
+    large,
+    little,
+    any_normal,
+    short_product,
+    half_product,
+    at_a_bound,
+    seldom_at_a_bound,
+    tiny_or_huge,
+];
+
+/// So many rates, none of them bad. In some lines a few are negative, in others half of them.
+pub fn drawn(dice: &mut Dice, count: u64) -> Vec<u64> {
+    let kind = KINDS.get(dice.below(KINDS.len() as u64 + 2) as usize).copied();
+    let minus = dice.of(&[0, 0, 2, 50]);
+    let mut rates = Vec::new();
+    for _ in 0..count {
+        let draw = kind.unwrap_or_else(|| dice.of(&KINDS));
+        let size = draw(dice);
+        let sign = if minus > 0 && dice.once_in(minus) { SIGN } else { 0 };
+        rates.push(size + sign);
+    }
+    rates
+}
+
+/// A zero, a subnormal, an infinity or the NaN, which has one pattern here: the Rust keeps a NaN's own fraction and
+/// sign, and the engine has none of these.
+pub fn bad(dice: &mut Dice) -> u64 {
+    let size = match dice.below(7) {
+        0 | 1 => 0,
+        2 => dice.of(&[1, 2, ONE / 2, ONE - 1]),
+        3 => 1 + dice.below(ONE - 1),
+        4 => 2047 << 52,
+        _ => return 0x7ff8_0000_0000_0000,
+    };
+    size + dice.of(&[0, SIGN])
+}
+
+/// The same rate with another exponent, as near to the wanted one as a normal number can have, and what is still
+/// wanted then.
+pub fn moved(rate: u64, wanted: i64) -> (u64, i64) {
+    let field = (rate >> 52 & 2047) as i64;
+    let new = (field + wanted).clamp(1, 2046);
+    (rate & !(2047 << 52) | (new as u64) << 52, wanted - (new - field))
+}
+
+fn rate(significand: u64, e: i64) -> u64 {
+    (((e + 1023) as u64) << 52) + (significand - ONE)
+}
+
+/// From `least` to `most`.
+fn between(dice: &mut Dice, least: i64, most: i64) -> i64 {
+    least + dice.below((most - least + 1) as u64) as i64
+}
+
+/// A keep rate from 0.9 to 1.
+fn keep(dice: &mut Dice) -> u64 {
+    let (low, high) = (0.9f64.to_bits(), 1f64.to_bits());
+    low + dice.below(high - low + 1)
+}
+
+/// At most 2^30 doubles beside 1.
+fn near_one(dice: &mut Dice) -> u64 {
+    let bits = dice.below(31);
+    let step = dice.below(1 << bits);
+    let one = 1f64.to_bits();
+    if dice.once_in(2) {
+        one + step
+    } else {
+        one - step
+    }
+}
+
+fn common(dice: &mut Dice) -> u64 {
+    rate(plain(dice), between(dice, -4, 4))
+}
+
+fn inside_a_block(dice: &mut Dice) -> u64 {
+    rate(plain(dice), between(dice, -BLOCK, BLOCK - 1))
+}
+
+/// About the upper bound of a block. Eight of 2^128 in one lane would pass every double.
+fn large(dice: &mut Dice) -> u64 {
+    rate(plain(dice), between(dice, BLOCK - 4, BLOCK + 16))
+}
+
+/// About the lower bound of a block.
+fn little(dice: &mut Dice) -> u64 {
+    rate(plain(dice), between(dice, -BLOCK - 16, -BLOCK + 4))
+}
+
+fn any_normal(dice: &mut Dice) -> u64 {
+    rate(plain(dice), between(dice, LEAST, MOST))
+}
+
+/// A significand of a few bits: their products are exact for a while, and the first that is not is often a tie.
+fn short_product(dice: &mut Dice) -> u64 {
+    rate(short(dice), between(dice, -40, 40))
+}
+
+/// A power of two, or a significand of 26 or 27 bits: two of these in one lane are often a tie.
+fn half_product(dice: &mut Dice) -> u64 {
+    if dice.once_in(4) {
+        let zeros = 25 + dice.below(3);
+        rate(with_zeros(dice, zeros), between(dice, -9, 9))
+    } else {
+        rate(ONE, between(dice, -9, 9))
+    }
+}
+
+/// A bound of a block, or the double above or below it.
+fn at_a_bound(dice: &mut Dice) -> u64 {
+    let bound = dice.of(&[rate(ONE, BLOCK), rate(ONE, -BLOCK)]);
+    bound + dice.of(&[0, 0, 1]) - dice.of(&[0, 0, 1])
+}
+
+/// So seldom that most blocks of 64 have none or one.
+fn seldom_at_a_bound(dice: &mut Dice) -> u64 {
+    match dice.below(120) {
+        0 => at_a_bound(dice),
+        1 => any_normal(dice),
+        _ => common(dice),
+    }
+}
+
+/// At the least or the greatest normal numbers.
+fn tiny_or_huge(dice: &mut Dice) -> u64 {
+    let near = dice.below(3) as i64;
+    let e = dice.of(&[LEAST + near, MOST - near]);
+    let significand = if dice.once_in(2) { near_an_end(dice) } else { plain(dice) };
+    rate(significand, e)
+}
