@@ -1,49 +1,17 @@
 #!/usr/bin/env python3
 """Prints the stored cases of the program `replay`, a line for each call.
 
-The format has no comments, so this file says what each group is for.
+The format has no comments, so this file says what each group is for: here layouts, joins and malformed lines,
+in stored_products.py reductions, products and finishes.
 The answers are the oracle's: crates/replay/stdout.
 """
 
 import sys
 
-LEAST = -(2**63)
-MOST = 2**63 - 1
-MANY = 2**40
-# Accumulators: the largest exponent, |m| × 2^52 at 1, 2 and 1.5, the bit of the sign, and the marks of which one is bad.
-LIMIT = 2**52
-ONE = 2**52
-TWO = 2**53
-SIGN = 2**63
-THREE_HALVES = 3 * 2**51
-BAD = [(0, 1), (1, 0), (1, 1)]
-OUT = []
-
-
-def say(line):
-    OUT.append(line)
-
-
-def items(numbers):
-    return " ".join(str(n) for n in [len(numbers), *numbers])
-
-
-def compile_(sizes, strides):
-    say(f"compile {items(sizes)} {items(strides)}")
-
-
-def list_(sizes, strides, base, start, end, length, buffer):
-    say(f"list {items(sizes)} {items(strides)} {base} {start} {end} {length} {items(buffer)}")
-
-
-def join(left, right):
-    """Each is the bits of m, e and the mark."""
-    say("join " + " ".join(f"{m:016x} {e} {bad}" for m, e, bad in [left, right]))
-
-
-def unit(significand):
-    """The bits of an m from its |m| × 2^52, which a minus turns."""
-    return 1023 * 2**52 + abs(significand) - ONE + (SIGN if significand < 0 else 0)
+import stored_products
+from case_lines import BAD, INFINITE, LEAST, LIMIT, MANY, MOST, ONE, OUT, SIGN, THREE_HALVES, TWO
+from case_lines import WRONG_FLOATS, WRONG_MARKS, WRONG_SIGNED
+from case_lines import compile_, join, list_, patterns_of_m, say, spoiled, unit
 
 
 def times(s, t, e=0, f=0, bad=(0, 0)):
@@ -415,11 +383,8 @@ def bad_marks():
 def refusal_9():
     """Each bound of a given m and a given e, and its neighbour, on the left and on the right, bad or not."""
     good = (unit(THREE_HALVES), 5, 0)
-    one, two, infinite = unit(ONE), unit(ONE) + 2**52, 2047 * 2**52
-    beside = [one - 1, one, two - 1, two, two + 1]
-    small = [0, 1, 2**52 - 1, 2**52]
-    nans = [infinite + extra for extra in [1, 2**51 - 1, 2**51, 2**51 + 1, 2**52 - 1]]
-    for m in [*beside, *small, infinite - 1, infinite, *nans]:
+    one, two = unit(ONE), unit(ONE) + 2**52
+    for m in patterns_of_m():
         for sign in [0, SIGN]:
             join((m + sign, 0, 0), good)
             join(good, (m + sign, 0, 0))
@@ -428,7 +393,7 @@ def refusal_9():
             join((one, e, 0), (one, 0, 0))
             join((one, 0, 0), (one, e, 0))
     wrong_e = [(one, LEAST), (one, LIMIT + 1), (one, -LIMIT - 1)]
-    wrong_m = [(two, 0), (one - 1, 0), (nans[2], 0), (infinite, 0)]
+    wrong_m = [(two, 0), (one - 1, 0), (INFINITE + 2**51, 0), (INFINITE, 0)]
     for left, right in [(0, 0), *BAD]:
         for wrong in [*wrong_e, *wrong_m]:
             join((*wrong, left), (one, 0, right))
@@ -460,19 +425,7 @@ def refusal_10():
 def malformed_joins():
     """Words of a join line that are not of the format, each in a line that is otherwise good."""
     m = "3ff8000000000000"
-    good = [m, "0", "0", m, "-7", "1"]
-    floats = ["", m[1:], m + "0", m.upper(), "0x" + m[2:], "+" + m[1:], "1.5"]
-    floats += [m[:15] + byte for byte in "g/:`"]
-    exponents = ["", "+1", "-0", "01", "1.0", str(MOST + 1), str(LEAST - 1), m]
-    bad_marks = ["", "2", "00", "01", "-0", "true", str(2**64)]
-    lines = ["join"]
-    for place, wrong in enumerate([floats, exponents, bad_marks] * 2):
-        for word in wrong:
-            lines.append("join " + " ".join([*good[:place], word, *good[place + 1 :]]))
-    for count in range(6):
-        lines.append("join " + " ".join(good[:count]))
-    line = "join " + " ".join(good)
-    return [*lines, line + " ", line + " 0", line.replace(" ", "  ", 1), "joins" + line[4:], "J" + line[1:]]
+    return spoiled("join", [m, "0", "0", m, "-7", "1"], [WRONG_FLOATS, WRONG_SIGNED, WRONG_MARKS] * 2)
 
 
 def malformed():
@@ -550,6 +503,7 @@ def malformed():
         "compile 1 2 1 1\x00",
         "compile 1 2 1 1 \u00e9",
         *malformed_joins(),
+        *stored_products.malformed_lines(),
         # A line of 128 KiB, and one of a byte more.
         "x" * 131072,
         "x" * 131073,
@@ -590,6 +544,7 @@ def main():
         bad_marks,
         refusal_9,
         refusal_10,
+        *stored_products.GROUPS,
         longest,
         malformed,
     ]:

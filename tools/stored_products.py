@@ -1,0 +1,424 @@
+"""The stored cases of `reduce`, `product` and `finish`, a function for each group."""
+
+from case_lines import INFINITE, LEAST, LIMIT, LISTED, MANY, MOST, ONE, SIGN, THREE_HALVES, TWO
+from case_lines import WRONG_FLOATS, WRONG_MARKS, WRONG_SIGNED, WRONG_UNSIGNED
+from case_lines import finish, floats, patterns_of_m, rate, reduce, say, spoiled, unit
+
+NAN = INFINITE + 2**51
+# A zero, a subnormal, an infinity and the NaN, with both signs where there are two.
+BAD_RATES = [0, SIGN, 1, ONE - 1, SIGN + 2**51 + 3, INFINITE, SIGN + INFINITE, NAN]
+STRIDES = [1, 2, -1]
+# The bounds within which a block of 64 is multiplied unsplit, each with the doubles above and below it.
+HIGH, LOW = rate(ONE, 120), rate(ONE, -120)
+BOUNDS = [HIGH, HIGH + 1, HIGH - 1, LOW, LOW - 1, LOW + 1]
+
+
+def mixed(number):
+    """64 bits that look random (splitmix64)."""
+    number = (number + 1) * 0x9E3779B97F4A7C15 % 2**64
+    number = (number ^ number >> 30) * 0xBF58476D1CE4E5B9 % 2**64
+    number = (number ^ number >> 27) * 0x94D049BB133111EB % 2**64
+    return number ^ number >> 31
+
+
+def rates(seed, count, least=-3, most=2):
+    """Rates of both signs that differ, with exponents from `least` to `most`.
+
+    Their significands have all 53 bits, so that products in another order differ in their last bits.
+    """
+    drawn = [mixed(seed * 10000 + place) for place in range(count)]
+    sizes = [rate(ONE + (d >> 12 | 1), least + (d % 2**11) % (most - least + 1)) for d in drawn]
+    return [size + (SIGN if d & 2**11 else 0) for size, d in zip(sizes, drawn)]
+
+
+def with_rate(values, place, value):
+    return [*values[:place], value, *values[place + 1 :]]
+
+
+def laid(values, stride):
+    """A base and a table in which a run of this stride visits the values in order, with others between them."""
+    if stride == -1:
+        return len(values) - 1, values[::-1]
+    table = rates(99, stride * (len(values) - 1) + 1)
+    table[::stride] = values
+    return 0, table
+
+
+def run(values, stride=1, word="reduce"):
+    """All values of one run."""
+    base, table = laid(values, stride)
+    reduce([len(values)], [stride], base, 0, len(values), table, word)
+
+
+def runs(values, word="reduce"):
+    for stride in STRIDES:
+        run(values, stride, word)
+
+
+def named_products():
+    """The products that the rules name, at each stride, and as numbers."""
+    for values in [
+        [unit(THREE_HALVES)] * 2,
+        [rate(ONE, 1)] * 64,
+        [0, rate(THREE_HALVES, 1)],
+    ]:
+        runs(values)
+        run(values, 1, "product")
+        run(values, 2, "product")
+
+
+def lengths():
+    """Pieces with and without whole blocks of 64, with full lanes and others. With 16 lanes the longer ones differ."""
+    for length in [1, 2, 7, 8, 9, 15, 16, 17, 63, 64, 65, 127, 128, 129, 1000]:
+        runs(rates(length, length))
+
+
+def bounds_of_a_block():
+    """A rate at a bound of a block, or beside it, in the first place of a block, inside, in the last, in the tail."""
+    for index, bound in enumerate(BOUNDS):
+        for place in [0, 29, 63, 67]:
+            sign = SIGN if (index + place) % 2 else 0
+            run(with_rate(rates(place, 64 + place // 64 * 9), place, bound + sign))
+    # In the second block only: the first is multiplied unsplit all the same.
+    for bound in [HIGH + 1, LOW - 1]:
+        run(with_rate(rates(7, 130), 64 + 21, bound))
+    # Everywhere: eight in a lane stay inside the doubles.
+    for bound in BOUNDS:
+        run([bound] * 64)
+        run([bound + (SIGN if place % 3 else 0) for place in range(73)])
+
+
+def blocks_out_of_range():
+    """Blocks whose lanes would leave the doubles, or lose bits below them, if they were multiplied unsplit."""
+    for e in [121, 128, 135, 300, 1022, -121, -128, -135, -300, -1022]:
+        runs(rates(abs(e), 66, e, e))
+    for values in [[INFINITE - 1] * 70, [ONE] * 70, [INFINITE - 1, ONE] * 35, rates(5, 200, -1022, 1023)]:
+        runs(values)
+
+
+def bad_rates():
+    """Each bad rate in the first place, in a block only, in the last place of one, in the tail only, in the last."""
+    for index, bad in enumerate(BAD_RATES):
+        for place in [0, 37, 63, 66, 72]:
+            values = with_rate(rates(20 + index, 73), place, bad)
+            run(values, 1)
+            run(values, 2)
+        # Alone, at every stride, and as the last of two and of nine: the ninth comes to the lane of the first.
+        runs([bad])
+        runs([*rates(index, 1), bad])
+        runs([*rates(index, 8), bad])
+        run(with_rate(rates(index, 12), 5, bad), 2, "product")
+
+
+def several_bad_rates():
+    """Two bad rates in one lane, in two lanes, in a block and its tail, and nothing else."""
+    for first, second in [(3, 11), (3, 4), (30, 70), (71, 72)]:
+        values = rates(first, 73)
+        for bads in [(0, INFINITE), (NAN, 1), (SIGN, SIGN)]:
+            runs(with_rate(with_rate(values, first, bads[0]), second, bads[1]))
+    for bad in BAD_RATES:
+        runs([bad] * 65)
+
+
+def nan_in_a_block():
+    """A NaN, of which every comparison with a bound is false, among rates inside the bounds; lanes that become one."""
+    ones = [unit(ONE)] * 64
+    for place in [0, 1, 7, 8, 56, 63]:
+        run(with_rate(ones, place, NAN))
+        run(with_rate(rates(place, 64), place, NAN))
+    run([NAN] * 64)
+    run([*ones, *with_rate(rates(1, 64), 9, NAN)])
+    run([*with_rate(rates(2, 64), 9, NAN), *ones])
+    run(with_rate(with_rate(ones, 5, INFINITE), 13, 0))
+    run(with_rate(with_rate(ones, 5, 0), 13, SIGN + INFINITE))
+    # Every pattern of a NaN is read as the one NaN.
+    for pattern in [INFINITE + 1, NAN - 1, NAN + 1, SIGN + NAN, 2**64 - 1]:
+        runs([pattern, *rates(3, 1)])
+        run([*rates(4, 70), pattern])
+        run([pattern], 1, "product")
+
+
+def bad_pieces():
+    """A bad rate in the first row, between, in the last: the left m and e are kept. Beside the range it is not seen."""
+    for stride in STRIDES:
+        for bad in [0, NAN]:
+            for place in [2, 9, 11, 16, 29]:
+                base, table = laid(with_rate(rates(31, 35), place, bad), stride)
+                pitch = 12 * stride
+                reduce([10, 3], [stride, pitch], base, 0, 30, table)
+                reduce([10, 3], [stride, pitch], base, 3, 27, table)
+    # The elements before and after the range, and the values before, after and between them.
+    values = rates(32, 20)
+    values[4] = values[15] = NAN
+    for stride in STRIDES:
+        base, table = laid(values, stride)
+        reduce([20], [stride], base, 5, 15, table)
+        reduce([20], [stride], base, 4, 15, table)
+        reduce([20], [stride], base, 5, 16, table)
+        reduce([10], [stride], base + 5 * stride, 0, 10, table)
+    reduce([10], [2], 0, 0, 10, [value for pair in zip(rates(33, 10), [0] * 10) for value in pair])
+
+
+def ranges_inside_runs():
+    """Ranges that begin and end inside runs: lanes are counted from a piece's first value, not from its column."""
+    for stride in STRIDES:
+        base, table = laid(rates(41, 92), stride)
+        for start, end in [(0, 84), (3, 84), (3, 20), (5, 24), (20, 22), (21, 42), (20, 43), (13, 71), (83, 84)]:
+            reduce([21, 4], [stride, 23 * stride], base, start, end, table)
+    table = rates(42, 264)
+    for start, end in [(0, 260), (1, 260), (66, 195), (2, 131), (60, 190), (129, 131), (5, 69), (5, 70), (64, 128)]:
+        reduce([130, 2], [1, 134], 0, start, end, table)
+        reduce([130, 2], [-1, -134], 263, start, end, table)
+    table = rates(43, 100)
+    for start, end in [(0, 100), (1, 100), (7, 80), (36, 100), (35, 99), (99, 100)]:
+        reduce([100], [1], 0, start, end, table)
+        reduce([100], [-1], 99, start, end, table)
+
+
+def equal_strides():
+    """Axes of one |stride| in both orders, which give other pieces, and stride 0 after all others."""
+    table = rates(44, 120)
+    for sizes, strides in [
+        ([9, 11], [1, 1]),
+        ([9, 11], [2, -2]),
+        ([9, 11], [-1, 1]),
+        ([3, 10, 4], [5, 5, -5]),
+        ([3, 10, 4], [-7, 2, 7]),
+        ([2, 9, 3], [0, 3, 0]),
+        ([9, 2, 3], [-3, 0, 3]),
+    ]:
+        total = sizes[0] * sizes[1] * (sizes[2] if len(sizes) > 2 else 1)
+        for turned in [slice(None), slice(None, None, -1)]:
+            reduce(sizes[turned], strides[turned], 30, 0, total, table)
+            reduce(sizes[turned], strides[turned], 30, 4, total - 3, table)
+
+
+def backwards():
+    """Runs backwards in rows forwards, runs forwards in rows backwards, and both, which may fuse."""
+    table = rates(51, 80)
+    for sizes, strides, base in [
+        ([13, 5], [-1, 15], 12),
+        ([13, 5], [1, -15], 61),
+        ([13, 5], [-1, -15], 75),
+        ([13, 5], [-1, -13], 70),
+        ([13, 5], [-2, 13], 27),
+        ([5, 13], [13, -1], 12),
+        ([5, 13], [-13, 1], 55),
+    ]:
+        for start, end in [(0, 65), (4, 60), (12, 14)]:
+            reduce(sizes, strides, base, start, end, table)
+
+
+def stride_0():
+    """A value that is visited again and again, rows that are, and a few elements at the end of 2^40."""
+    value = rates(61, 1)
+    for count in [1, 2, 8, 9, 64, 65, 1000]:
+        reduce([count], [0], 0, 0, count, value)
+        reduce([count, 3], [0, 1], 2, 0, 3 * count, rates(62, 5))
+    for sizes, strides in [([70, 3], [1, 0]), ([3, 70], [0, 1]), ([20, 3, 2], [2, 0, 40]), ([9, 4, 5], [-1, 0, 0])]:
+        reduce(sizes, strides, 8, 0, sizes[0] * sizes[1], rates(63, 90))
+        reduce(sizes, strides, 8, 5, sizes[0] * sizes[1] - 7, rates(63, 90))
+    for bad in BAD_RATES:
+        reduce([20], [0], 1, 0, 20, [*value, bad])
+    reduce([MANY], [0], 0, MANY - 70, MANY, value)
+    reduce([2, MANY // 2], [1, 0], 0, MANY - 71, MANY, rates(64, 2))
+    reduce([2**20, 2**20], [0, 0], 0, 2**39 + 1, 2**39 + 9, value)
+    for word in ["reduce", "product"]:
+        reduce([70, 2000], [1, 0], 0, 0, 140000, rates(65, 70), word)
+
+
+def ties_in_lanes():
+    """Products of exactly half, and beside it: of two values in one lane, of two lanes, and of two pieces."""
+    one = unit(ONE)
+    for odd in [1, 3]:
+        for beside in [0, -1, 1]:
+            for sign in [1, -1]:
+                pair = unit(ONE + odd), unit(sign * (THREE_HALVES + beside))
+                runs([pair[0], *[one] * 7, pair[1]])
+                runs([*pair])
+                reduce([1, 2, 2], [5, 1, 3], 0, 0, 4, [pair[0], one, one, pair[1], one])
+                run([*[one] * 3, pair[0], *[one] * 39, pair[1], *[one] * 30])
+    # Rounded up to 2 in a lane, and a lane of ones and of numbers next to 2.
+    for values in [(ONE + 1, TWO - 2), (TWO - 1, TWO - 1), (ONE + 1, ONE + 1)]:
+        runs([value for s in values for value in [unit(s)] * 8])
+        runs([value for s in values for value in [unit(-s)] * 35])
+
+
+def numbers():
+    """Products as numbers that pass the greatest double and the least, both ways, with every sign of the outcome."""
+    greatest, least = INFINITE - 1, ONE
+    above_one = unit(ONE + 1)
+    cases = [
+        [greatest, unit(ONE)],
+        [greatest, above_one],
+        [greatest, unit(TWO - 1) - 2**52],
+        [rate(ONE, 1023), rate(ONE, 1)],
+        [rate(ONE, 1022), rate(TWO - 1, 1)],
+        [rate(ONE, 1000)] * 2 + [rate(ONE, -1000)] * 2,
+        [rate(ONE, -1000)] * 2 + [rate(ONE, 1000)] * 2,
+        [greatest, greatest, least, least],
+        [least, unit(ONE)],
+        [least, unit(TWO - 1) - 2**52],
+        [least, rate(ONE, -1)],
+        [least, rate(TWO - 1, -1)],
+        [least, rate(TWO - 2, -1)],
+        [least, rate(ONE, -52)],
+        [least, rate(THREE_HALVES, -52)],
+        [least, rate(ONE, -53)],
+        [least, rate(ONE + 1, -53)],
+        [least, rate(TWO - 1, -54)],
+        [least, rate(ONE, -54)],
+        [least, least],
+    ]
+    for values in cases:
+        for stride in [1, 2]:
+            run(values, stride, "product")
+            run(with_rate(values, 0, values[0] + SIGN), stride, "product")
+    # With all bits of a significand: below the least normal number some of them are rounded off.
+    for e in [-20, 20]:
+        for count in range(48, 58):
+            run(rates(71, count, e, e), 1, "product")
+    for e in [-2, 2]:
+        run(rates(72, 1000, e, e), 1, "product")
+        run(rates(72, 1000, e, e))
+
+
+def refused_reductions():
+    """Refusals 1 to 7 in rank, each with all that follow it and without, as products too."""
+    two = rates(81, 2)
+    for word in ["reduce", "product"]:
+        reduce([2], [1], 0, 0, 2, two, word)
+        reduce([2**63, 2] * 5, [1], -1, 5, 4, [], word)
+        reduce([2], [], 0, 0, 2, two, word)
+        reduce([], [1], 0, 0, 1, two, word)
+        reduce([2**63, 2, *[1] * 7], [LEAST] * 9, -1, 5, 4, [], word)
+        reduce([1] * 9, [0] * 9, 0, 0, 1, two, word)
+        reduce([1] * 8, [0] * 8, 0, 0, 1, two, word)
+        reduce([MANY + 1, 2**30], [0, 0], -1, 5, 4, [], word)
+        reduce([2**32, 2**32 - 1], [0, 0], -1, 5, 4, [], word)
+        reduce([2**32, 2**32 - 1], [0, 1], -1, 5, 4, [], word)
+        reduce([2, 2], [2**62, 0], 0, 0, 1, two, word)
+        reduce([2], [LEAST], 0, 0, 1, two, word)
+        reduce([MANY + 1], [0], -1, 5, 4, [], word)
+        reduce([MANY + 1], [0], 0, 0, 1, two, word)
+        reduce([2], [1], -1, 5, 4, [], word)
+        reduce([2], [1], 0, 1, 1, two, word)
+        reduce([0], [1], 0, 0, 0, two, word)
+        reduce([2], [1], -1, 1, 3, [], word)
+        reduce([2], [1], 0, 0, 3, rates(82, 3), word)
+        reduce([0, 2], [1, 1], 0, 0, 1, two, word)
+        reduce([2], [1], 0, 0, 2**64 - 1, two, word)
+        reduce([2], [1], 0, 0, 2, two[:1], word)
+        reduce([2], [1], 0, 0, 1, two[:1], word)
+        reduce([2], [1], 1, 0, 2, two, word)
+        reduce([2], [1], -1, 1, 2, two, word)
+        reduce([2], [-1], 0, 0, 1, two, word)
+        reduce([], [], 0, 0, 1, [], word)
+        reduce([], [], 1, 0, 1, two, word)
+        reduce([], [], 2, 0, 1, two, word)
+        reduce([1], [MOST], MOST, 0, 1, two, word)
+        reduce([2, 2], [MOST, MOST], 1, 0, 1, two, word)
+
+
+def the_listed_layouts():
+    """The list calls with few values, as reductions: the order of the axes, fusing, ranges, sizes 0 and 1, refusals."""
+    for sizes, strides, base, start, end, length in LISTED:
+        if length <= 256 and end - start <= 4096:
+            reduce(sizes, strides, base, start, end, rates(91, length))
+
+
+def most_values():
+    """As many values as a line may have."""
+    reduce([4096, 2], [1, 0], 0, 3, 8190, rates(101, 4096))
+
+
+def named_finishes():
+    """The numbers that the rules name."""
+    for significand, e in [(ONE, -1075), (ONE + 1, -1075), (THREE_HALVES, -1074), (ONE, 1024), (-ONE, -2000)]:
+        finish(unit(significand), e)
+
+
+def ends_of_the_exponent():
+    """Exponents at which a number becomes subnormal, zero, infinite or refused, and their neighbours."""
+    low = [-2000, -1076, -1075, -1074, -1073, -1072, -1024, -1023, -1022, -1021]
+    high = [-1, 0, 1, 1022, 1023, 1024, 1025, 2000, 2046, 2047]
+    far = [LIMIT - 1, LIMIT, LIMIT + 1, MOST]
+    for e in [*low, *high, *far, *(-e for e in far), LEAST]:
+        for s in [ONE, ONE + 1, THREE_HALVES - 1, THREE_HALVES, THREE_HALVES + 1, TWO - 2, TWO - 1]:
+            finish(unit(s), e)
+            finish(unit(-s), e)
+
+
+def subnormal_ties():
+    """For every count of bits that are rounded off: half, to even below and above, one less, one more, and all ones."""
+    for bits in range(1, 55):
+        half = 2 ** (bits - 1)
+        for quotient in [0, 1, 2, 3]:
+            for s in [(ONE >> bits << bits) + quotient * 2 * half + half + beside for beside in [-1, 0, 1]]:
+                if ONE <= s < TWO:
+                    finish(unit(-s if bits % 2 else s), -1022 - bits)
+        finish(unit(TWO - 1), -1022 - bits)
+
+
+def finish_marks():
+    """A bad accumulator is NaN whatever its m and e, and is refused as others are where they are out of range."""
+    for s in [ONE, -ONE, THREE_HALVES, TWO - 1, 1 - TWO]:
+        for e in [0, -1074, -1075, -5000, 1023, 1024, LIMIT, -LIMIT, LIMIT + 1, -LIMIT - 1, LEAST, MOST]:
+            finish(unit(s), e, 1)
+    for m in patterns_of_m():
+        for sign in [0, SIGN]:
+            for bad in [0, 1]:
+                finish(m + sign, 0, bad)
+    finish(0, LEAST)
+    finish(NAN, LIMIT + 1, 1)
+
+
+def refusals_handed_in():
+    """A refusal comes out as it went in, whatever its number."""
+    for number in [*range(13), 99, 2**31, 2**32 - 1]:
+        say(f"finish refused {number}")
+
+
+def malformed_lines():
+    """Words of lines of `reduce`, `product` and `finish` that are not of the format."""
+    m = "3ff8000000000000"
+    count = [*WRONG_UNSIGNED, "33", str(2**64 - 1)]
+    axes = [count, WRONG_UNSIGNED, count, WRONG_SIGNED]
+    range_ = [WRONG_SIGNED, WRONG_UNSIGNED, WRONG_UNSIGNED]
+    values = [[*WRONG_UNSIGNED, "3", "4097"], WRONG_FLOATS, WRONG_FLOATS]
+    good = ["1", "2", "1", "1", "0", "0", "2", "2", m, m]
+    lines = []
+    for word in ["reduce", "product"]:
+        lines += spoiled(word, good, [*axes, *range_, *values])
+        lines.append(f"{word} 33{' 1' * 33} 33{' 1' * 33} 0 0 1 1 {m}")
+    lines.append("reduce 1 1 1 1 0 0 1 " + floats([unit(ONE)] * 4097))
+    kinds = ["", "Acc", "ac", "accs", "number", "refused", m]
+    lines += spoiled("finish", ["acc", m, "0", "0"], [kinds, WRONG_FLOATS, WRONG_SIGNED, WRONG_MARKS])
+    refusals = [*WRONG_UNSIGNED, str(2**32), m]
+    return lines + spoiled("finish", ["refused", "7"], [["", "Refused", "refuse", "acc", "7"], refusals])
+
+
+GROUPS = [
+    named_products,
+    lengths,
+    bounds_of_a_block,
+    blocks_out_of_range,
+    bad_rates,
+    several_bad_rates,
+    nan_in_a_block,
+    bad_pieces,
+    ranges_inside_runs,
+    equal_strides,
+    backwards,
+    stride_0,
+    ties_in_lanes,
+    numbers,
+    refused_reductions,
+    the_listed_layouts,
+    most_values,
+    named_finishes,
+    ends_of_the_exponent,
+    subnormal_ties,
+    finish_marks,
+    refusals_handed_in,
+]
