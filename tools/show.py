@@ -17,6 +17,8 @@ REFUSALS = {
     9: "the accumulator is not one that the engine gives",
     10: "the exponent would pass 2^52",
 }
+# How many of a case's values are shown.
+FEW = 4
 
 
 def take_list(words):
@@ -35,29 +37,52 @@ def shown_layout(words):
     return f"sizes {plain(sizes)}, strides {plain(strides)}", rest
 
 
+def shown_range(words):
+    """A layout, a base and a range, and the words after them."""
+    layout, rest = shown_layout(words)
+    base, start, end = rest[:3]
+    return f"{layout}, base {base}, elements {start} to {end} (not included)", rest[3:]
+
+
+def shown_float(bits):
+    return repr(struct.unpack(">d", bytes.fromhex(bits))[0])
+
+
+def shown_values(words):
+    values, _ = take_list(words)
+    text = " ".join([f"{len(values)} values", *map(shown_float, values[:FEW])])
+    return text + (f" .. and {len(values) - FEW} more" if len(values) > FEW else "")
+
+
 def shown_acc(words):
     """An accumulator: m by its bits, e and the mark."""
-    m = struct.unpack(">d", bytes.fromhex(words[0]))[0]
-    return f"{m!r} × 2^{words[1]}" + (", bad" if words[2] == "1" else "")
+    return f"{shown_float(words[0])} × 2^{words[1]}" + (", bad" if words[2] == "1" else "")
 
 
 def shown_case(words):
     if words[0] == "compile":
         return "compile: " + shown_layout(words[1:])[0]
     if words[0] == "list":
-        layout, rest = shown_layout(words[1:])
-        base, start, end, length = rest[:4]
-        return (
-            f"list: {layout}, base {base}, elements {start} to {end} (not included), "
-            f"{length} values, a buffer of {rest[4]}"
-        )
+        layout, rest = shown_range(words[1:])
+        return f"list: {layout}, {rest[0]} values, a buffer of {rest[1]}"
+    if words[0] in ("reduce", "product"):
+        layout, rest = shown_range(words[1:])
+        return f"{words[0]}: {layout}, {shown_values(rest)}"
     if words[0] == "join":
         return f"join: {shown_acc(words[1:4])}; and {shown_acc(words[4:7])}"
+    if words[0] == "finish":
+        return "finish: " + (shown_acc(words[2:5]) if words[1] == "acc" else shown_refusal(words[2]))
     return " ".join(words)
 
 
 def shown_refusal(code):
-    return f"refused {code}: {REFUSALS[int(code)]}"
+    """Finishing hands out any number that it was given, so not every one has a meaning."""
+    return f"refused {code}" + (f": {REFUSALS[int(code)]}" if int(code) in REFUSALS else "")
+
+
+def shown_number(bits):
+    text = shown_float(bits)
+    return "NaN: a bad rate came in" if text == "nan" else text
 
 
 def shown_axes(words):
@@ -78,7 +103,9 @@ def shown_answer(words):
         return "offsets " + plain(take_list(words[2:])[0])
     if words[0] == "acc":
         return shown_acc(words[1:4])
-    if words[0] == "refused" and int(words[1]) in REFUSALS:
+    if words[0] == "number":
+        return shown_number(words[1])
+    if words[0] == "refused":
         return shown_refusal(words[1])
     return " ".join(words)
 
