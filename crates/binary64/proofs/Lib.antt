@@ -6,6 +6,7 @@ pub mod Powers
 pub mod Product
 pub mod Factor
 pub mod Bridge
+pub mod Overflow
 pub mod Magnitude
 pub mod Units
 pub mod Fields

@@ -23,11 +23,12 @@ use Rattle.binary64.specs.Magnitude.{inUnit, isMinus, factorAt}
 use Rattle.binary64.proofs.Product.{mul-binary64}
 use Rattle.binary64.proofs.Bridge.{floatOf-value}
 use Rattle.binary64.proofs.Magnitude.{at-normal, float-at}
+use Rattle.binary64.proofs.Overflow.{float-above}
 use Rattle.accumulator.specs.Joining.{withinLimit}
 use Rattle.accumulator.proofs.Exponents.{limits}
 use Rattle.finishing.specs.Once.{counted, above, normal, roundedOnce}
 use Rattle.finishing.specs.Finishing.{isInfinite}
-use Rattle.finishing.proofs.Once.{range, float-above, float-low, once-is}
+use Rattle.finishing.proofs.Once.{range, float-low, once-is}
 use Rattle.finishing.proofs.Scaling.{times-power}
 
 -- ---- the constants of the code

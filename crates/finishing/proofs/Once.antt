@@ -2,7 +2,7 @@
 use mathlib.Core.Path.{_≡_, refl, sym, ap, _∙_}
 use mathlib.Core.Bool.{Bool, true, false, cond}
 use Prim.Native.Nat.{ℕ, suc, _+_, _-_, _*_, _^_, _≤_, _<_, max}
-use native.Mathlib.Nat.{le-trans, le-of-eq, lt-of-lt-of-le, lt-of-le-of-lt, mul-one, mul-le-mul-right, mul-lt-mul-of-pos-right}
+use native.Mathlib.Nat.{le-trans, le-of-eq, lt-of-lt-of-le, lt-of-le-of-lt, mul-one, mul-lt-mul-of-pos-right}
 use native.Mathlib.Omega.{arith}
 use lib.IntN.{ℤ, pos, negsuc, natAbs, _+ℤ_, _-ℤ_}
 use lib.Signed.{ltZ}
@@ -10,7 +10,7 @@ use lib.Dec.{lit<}
 use lib.Pow.{pow-add, pow-pos, pow-mono, pow-lt}
 use lib.Ieee.{Float, inf, size, odd}
 use lib.Ieee.Nearest.{closest}
-use borrow.Author.Tests.{lt-ltb, le-ltb}
+use borrow.Author.Tests.{lt-ltb}
 use Rattle.integers.proofs.Difference.{ints, atoms}
 use Rattle.integers.proofs.Machine.{nonneg-pos}
 use Rattle.binary64.specs.Rounding.{lowest, tiesToEven, delivered, rounded}
@@ -18,25 +18,17 @@ use Rattle.binary64.specs.Factor.{Factor, Normal, InRange, floatOf}
 use Rattle.binary64.specs.Magnitude.{factorAt}
 use Rattle.binary64.proofs.Nearest.{ties-is, kept-le-max, size-is}
 use Rattle.binary64.proofs.Bridge.{floatOf-is}
+use Rattle.binary64.proofs.Overflow.{float-above}
 use Rattle.finishing.specs.Once.{counted, above, normal, roundedOnce}
 
--- ---- `delivered`, below and from the overflow on
-module _ (p em : ℕ) (s : Bool) (n j : ℕ) where
-  delivered-below : n * 2 ^ j < 2 ^ (lowest p em + suc em) → delivered p em s n j ≡ odd (suc p) s n j (lowest p em)
-  unfolding delivered
-  delivered-below h = ap (λ (t : Bool). cond t (odd (suc p) s n j (lowest p em)) (inf s)) (lt-ltb (n * 2 ^ j) (2 ^ (lowest p em + suc em)) h)
+-- ---- `delivered`, below the overflow
+delivered-below : (p em : ℕ) (s : Bool) (n j : ℕ) → n * 2 ^ j < 2 ^ (lowest p em + suc em) → delivered p em s n j ≡ odd (suc p) s n j (lowest p em)
+unfolding delivered
+delivered-below p em s n j h = ap (λ (t : Bool). cond t (odd (suc p) s n j (lowest p em)) (inf s)) (lt-ltb (n * 2 ^ j) (2 ^ (lowest p em + suc em)) h)
 
-  delivered-over : 2 ^ (lowest p em + suc em) ≤ n * 2 ^ j → delivered p em s n j ≡ inf s
-  unfolding delivered
-  delivered-over h = ap (λ (t : Bool). cond t (odd (suc p) s n j (lowest p em)) (inf s)) (le-ltb (n * 2 ^ j) (2 ^ (lowest p em + suc em)) h)
-
--- a significand of t + 1 digits, at the place j: at most twice the largest exponent less 1, or above
-module _ (t em : ℕ) (S j : ℕ) where
-  room : S < 2 ^ (t + 1) → j < 2 * em → S * 2 ^ j < 2 ^ (lowest (t + 1) em + suc em)
-  room h k = lt-of-lt-of-le (mul-lt-mul-of-pos-right h (pow-pos j)) (le-trans (le-of-eq (sym (pow-add 2 (t + 1) j))) (pow-mono (omega arith)))
-
-  over : 0 < em → 2 ^ t ≤ S → 2 * em ≤ j → 2 ^ (lowest (t + 1) em + suc em) ≤ S * 2 ^ j
-  over e h k = le-trans (pow-mono (let l : lowest (t + 1) em + suc em ≤ t + j = omega arith in l)) (le-trans (le-of-eq (pow-add 2 t j)) (mul-le-mul-right (2 ^ j) h))
+-- a significand of t + 1 digits, at a place of at most twice the largest exponent less 1
+room : (t em S j : ℕ) → S < 2 ^ (t + 1) → j < 2 * em → S * 2 ^ j < 2 ^ (lowest (t + 1) em + suc em)
+room t em S j h k = lt-of-lt-of-le (mul-lt-mul-of-pos-right h (pow-pos j)) (le-trans (le-of-eq (sym (pow-add 2 (t + 1) j))) (pow-mono (omega arith)))
 
 -- what is left of S below the least normal number
 low-room : (t em n : ℕ) → 1 < em → n ≤ 2 ^ (t + 1) → n * 2 ^ 0 < 2 ^ (lowest (t + 1) em + suc em)
@@ -63,12 +55,6 @@ module _ (e : ℤ) where
   below-least : normal e ≡ false → ltZ (negsuc 1021 -ℤ e) (pos 0) ≡ false
   below-least = simp ints (simp atoms (omega arith))
 
-  pub above-normal : above e ≡ true → normal e ≡ true
-  above-normal = simp ints (simp atoms (omega arith))
-
-  place-over : (j : ℕ) → e +ℤ pos 1022 ≡ pos j → above e ≡ true → 2046 ≤ j
-  place-over j = simp ints (simp atoms (omega arith))
-
   place-below : (j : ℕ) → e +ℤ pos 1022 ≡ pos j → above e ≡ false → j < 2046
   place-below j = simp ints (simp atoms (omega arith))
 
@@ -94,11 +80,6 @@ module _ (f : Factor) (N : Normal 52 f) where
   abbrev n : ℕ
   n = natAbs (negsuc 1021 -ℤ f .exp)
 
-  pub float-above : above (f .exp) ≡ true → floatOf 11 52 f ≡ inf (f .sign)
-  float-above h =
-      let p = place-is (f .exp) (above-normal (f .exp) h) in
-      floatOf-is 11 52 f j N p ∙ delivered-over 53 1023 (f .sign) (f .sig) j (over 52 1023 (f .sig) j (lit< tt) (N .least) (place-over (f .exp) j p h))
-
   pub float-normal : above (f .exp) ≡ false → normal (f .exp) ≡ true → floatOf 11 52 f ≡ counted (f .sign) (f .sig) j
   unfolding counted
   float-normal h k =
@@ -120,6 +101,6 @@ module _ (f : Factor) (N : Normal 52 f) where
     where
       go : (a b : Bool) → above (f .exp) ≡ a → normal (f .exp) ≡ b
           → cond a (inf (f .sign)) (cond b (counted (f .sign) (f .sig) j) (counted (f .sign) (tiesToEven (f .sig) (2 ^ n)) 0)) ≡ floatOf 11 52 f
-      go true b h k = sym (float-above h)
+      go true b h k = sym (float-above f N h)
       go false true h k = sym (float-normal h k)
       go false false h k = sym (float-low k)

@@ -4,7 +4,7 @@ use Prim.Native.Nat.{ℕ, zero, suc, _+_, _-_, _*_, _/_, _≤_, _<_, zero-le}
 use mathlib.Core.Path.{_≡_, refl, sym, ap, _∙_, subst}
 use mathlib.Core.Bool.{Bool, true, false, not, cond, _||_}
 use mathlib.Core.List.{List, [], _∷_, map, map-append}
-use native.Mathlib.Nat.{le-refl, mul-le-mul, mul-le-mul-left}
+use native.Mathlib.Nat.{le-refl, le-of-lt, mul-le-mul, mul-le-mul-left}
 use native.Mathlib.Omega.{arith}
 use lib.ListN.{length, getD, set, take, drop, replicate, length-set, length-replicate, getD-replicate, length-take, length-drop, take-append-drop, length-map}
 use lib.Seq.{set-getD}
@@ -26,21 +26,16 @@ use Rattle.kernels.specs.Blocks.{startLanes, mOf, eOf, unsplitStep, spli
 use Rattle.kernels.specs.Pieces.{Rate, accOf}
 use Rattle.kernels.proofs.Feeding.{feed-related, feed-append, feed-eights, feed-mark, order-keeps, order-related, and-both, every-each, each-map, each-both, each-take, each-drop, some-append, some-none, or-none, or-assoc}
 use Rattle.kernels.proofs.Factors.{lane-lt, set-cases, times-again}
-use Rattle.kernels.proofs.Standing.{Stands, stands-more, stands-times, stands-split, stands-rate, stands-whole, stands-one, stands-acc}
+use Rattle.kernels.specs.Standing.{Stands, Held}
+use Rattle.kernels.proofs.Standing.{stands-more, stands-times, stands-split, stands-rate, stands-whole, stands-one, stands-acc}
 use Rattle.kernels.proofs.Bounds.{within-good, within-exponent}
 
 -- values of binary64, as all f64 are
-abbrev Value : Float → Type 0
+abbrev pub Value : Float → Type 0
 Value x = T (fits binary64 x)
 
--- ---- eight lanes stand for eight factors, lane k within b k of [1, 2)
-pub record Held (b : ℕ → ℕ) (s : Lanes) (fs : List Factor) : Type 0 where
-  pub m-long : length (s .m) ≡ 8
-  pub e-long : length (s .e) ≡ 8
-  pub f-long : length fs ≡ 8
-  pub at : (k : ℕ) → k < 8 → Stands (b k) (mOf s k) (eOf s k) (getD fs k (unit 52))
-
-held-same : (b b' : ℕ → ℕ) (s s' : Lanes) (fs fs' : List Factor) → s .m ≡ s' .m → s .e ≡ s' .e → fs ≡ fs' → ((k : ℕ) → k < 8 → b k ≤ b' k) → Held b s fs → Held b' s' fs'
+-- ---- eight lanes
+pub held-same : (b b' : ℕ → ℕ) (s s' : Lanes) (fs fs' : List Factor) → s .m ≡ s' .m → s .e ≡ s' .e → fs ≡ fs' → ((k : ℕ) → k < 8 → b k ≤ b' k) → Held b s fs → Held b' s' fs'
 held-same b b' s s' fs fs' p q r l h = record {
   m-long = ap length (sym p) ∙ h .m-long;
   e-long = ap length (sym q) ∙ h .e-long;
@@ -72,7 +67,7 @@ module _ (b b' : ℕ → ℕ) (s : Lanes) (fs : List Factor) (j : ℕ) (m' : Flo
       (λ n. set-cases (λ (y : ℤ). Stands (b' k) (mOf s k) y (getD (set fs j g) k (unit 52))) (s .e) j k e' (pos 0) in-e (λ p. absurd (n p))
       (λ n'. set-cases (λ (f : Factor). Stands (b' k) (mOf s k) (eOf s k) f) fs j k g (unit 52) in-f (λ p. absurd (n p)) (λ n''. stands-more (b k) (b' k) (mOf s k) (eOf s k) (getD fs k (unit 52)) (l k i n) (h .at k i))))
 
-  held-set : Held b' (record { m = set (s .m) j m'; e = set (s .e) j e'; bad = q }) (set fs j g)
+  pub held-set : Held b' (record { m = set (s .m) j m'; e = set (s .e) j e'; bad = q }) (set fs j g)
   held-set = record {
     m-long = length-set (s .m) j m' ∙ h .m-long;
     e-long = length-set (s .e) j e' ∙ h .e-long;
@@ -80,7 +75,7 @@ module _ (b b' : ℕ → ℕ) (s : Lanes) (fs : List Factor) (j : ℕ) (m' : Flo
     at = held-at;
   }
 
-held-start : Held (λ (k : ℕ). 0) startLanes (replicate 8 (unit 52))
+pub held-start : Held (λ (k : ℕ). 0) startLanes (replicate 8 (unit 52))
 held-start = record {
   m-long = length-replicate 8 (fin false 1 (pos 0));
   e-long = length-replicate 8 (pos 0);
@@ -129,12 +124,18 @@ split-more : (i : ℕ) (s : Lanes) (fs : List Factor) (x : Float) → i < 64 →
 unfolding splitStep
 split-more i s fs x l v h = value-held 0 (lit≤ tt) i s fs (split x .m) (split x .e) (rate x) (s .bad || split x .bad) l (stands-rate x) h
 
--- unsplit: the value is in the bounds
-record Near (x : Float) : Type 0 where
-  value : Value x
-  near : inBounds x ≡ true
+-- the same, with room for values that are not split
+pub split-among : (i : ℕ) (s : Lanes) (fs : List Factor) (x : Float) → i < 64 → Held (λ (k : ℕ). 121 * count k i) s fs → Held (λ (k : ℕ). 121 * count k (suc i)) (splitStep i s x) (laneTimes 52 i fs (rate x))
+unfolding splitStep
+split-among i s fs x l h =
+    value-held 120 (le-refl 120) i s fs (split x .m) (split x .e) (rate x) (s .bad || split x .bad) l (stands-more 0 120 (split x .m) (split x .e) (rate x) zero-le (stands-rate x)) h
 
-unsplit-more : (i : ℕ) (s : Lanes) (fs : List Factor) (x : Float) → i < 64 → Near x → Held (λ (k : ℕ). 121 * count k i) s fs → Held (λ (k : ℕ). 121 * count k (suc i)) (unsplitStep i s x) (laneTimes 52 i fs (rate x))
+-- unsplit: the value is in the bounds
+pub record Near (x : Float) : Type 0 where
+  pub value : Value x
+  pub near : inBounds x ≡ true
+
+pub unsplit-more : (i : ℕ) (s : Lanes) (fs : List Factor) (x : Float) → i < 64 → Near x → Held (λ (k : ℕ). 121 * count k i) s fs → Held (λ (k : ℕ). 121 * count k (suc i)) (unsplitStep i s x) (laneTimes 52 i fs (rate x))
 unfolding unsplitStep
 unsplit-more i s fs x l n h =
     let j = laneOf i in
@@ -146,38 +147,62 @@ unsplit-more i s fs x l n h =
     (value-held 120 (le-refl 120) i s fs x (pos 0) (rate x) (s .bad) l X h)
 
 -- ---- bringing back
--- lanes below k are in [1, 2), the others within B
-abbrev back : ℕ → ℕ → ℕ → ℕ
-back B k j = cond (ltb j k) 0 B
+-- lanes below j are brought back, the others are as they were
+record Back (s : Lanes) (fs : List Factor) (j : ℕ) (t : Lanes) : Type 0 where
+  m-long : length (t .m) ≡ 8
+  e-long : length (t .e) ≡ 8
+  done : (k : ℕ) → k < 8 → k < j → Stands 0 (mOf t k) (eOf t k) (getD fs k (unit 52))
+  left : (k : ℕ) → k < 8 → j ≤ k → (mOf t k ≡ mOf s k) × (eOf t k ≡ eOf s k)
 
-back-more : (B k j : ℕ) → (j ≡ k → ⊥) → back B k j ≤ back B (suc k) j
-back-more B k j n = go (ltb j k) refl
-  where
-    go : (t : Bool) → ltb j k ≡ t → cond t 0 B ≤ back B (suc k) j
-    go true e = zero-le
-    go false e = subst (λ (t : Bool). B ≤ cond t 0 B) (sym (le-ltb j (suc k) (lt-of-le-ne (ltb-false j k e) (λ (p : k ≡ j). n (sym p))))) (le-refl B)
-
-module _ (B : ℕ) (small : B ≤ 1022) (fs : List Factor) where
-  renorm-turn : (k : ℕ) (s : Lanes) → k < 8 → Held (back B k) s fs → Held (back B (suc k)) (renormLane k s) fs
+-- each lane, brought back by itself, stands for its factor: so do all of them
+module _ (s : Lanes) (fs : List Factor) (each : (k : ℕ) → k < 8 → Stands 0 (split (mOf s k) .m) (eOf s k +ℤ split (mOf s k) .e) (getD fs k (unit 52))) where
+  back-turn : (j : ℕ) (t : Lanes) → j < 8 → Back s fs j t → Back s fs (suc j) (renormLane j t)
   unfolding renormLane
-  renorm-turn k s h H =
-      let m = mOf s k in
-      let f = getD fs k (unit 52) in
-      let t : Lanes = record { m = set (s .m) k (split m .m); e = set (s .e) k (eOf s k +ℤ split m .e); bad = s .bad } in
-      held-same (back B (suc k)) (back B (suc k)) t t (set fs k f) fs refl refl (set-getD fs k (unit 52)) (λ j a. le-refl (back B (suc k) j))
-      (held-set (back B k) (back B (suc k)) s fs k (split m .m) (eOf s k +ℤ split m .e) f (s .bad) H h
-      (stands-more 0 (back B (suc k) k) (split m .m) (eOf s k +ℤ split m .e) f zero-le (stands-split (back B k k) m (eOf s k) f here (H .at k h)))
-      (λ j a n. back-more B k j n))
+  back-turn j t J b =
+      record {
+        m-long = length-set (t .m) j m' ∙ b .m-long;
+        e-long = length-set (t .e) j e' ∙ b .e-long;
+        done = λ k i h.
+            set-cases (λ (x : Float). Stands 0 x (getD (set (t .e) j e') k (pos 0)) (getD fs k (unit 52))) (t .m) j k m' nan in-m
+            (λ p. set-cases (λ (y : ℤ). Stands 0 m' y (getD fs k (unit 52))) (t .e) j k e' (pos 0) in-e (λ q. subst (λ (x : ℕ). Stands 0 m' e' (getD fs x (unit 52))) (sym p) here) (λ n. absurd (n p)))
+            (λ n. set-cases (λ (y : ℤ). Stands 0 (mOf t k) y (getD fs k (unit 52))) (t .e) j k e' (pos 0) in-e (λ p. absurd (n p)) (λ q. b .done k i (lt-of-le-ne (le-of-lt-suc h) n)));
+        left = λ k i h. (
+          set-cases (λ (x : Float). x ≡ mOf s k) (t .m) j k m' nan in-m (λ p. absurd (let l : j < k = h in omega (arith, p))) (λ n. b .left k i (le-of-lt h) .0),
+          set-cases (λ (y : ℤ). y ≡ eOf s k) (t .e) j k e' (pos 0) in-e (λ p. absurd (let l : j < k = h in omega (arith, p))) (λ n. b .left k i (le-of-lt h) .1),
+        );
+      }
     where
-      here : back B k k ≤ 1022
-      here = subst (λ (t : Bool). cond t 0 B ≤ 1022) (sym (le-ltb k k (le-refl k))) small
+      m' : Float
+      m' = split (mOf t j) .m
 
-  pub renorm-held : (b : ℕ → ℕ) (s : Lanes) → ((k : ℕ) → k < 8 → b k ≤ B) → Held b s fs → Held (λ (k : ℕ). 0) (renorm s) fs
+      e' : ℤ
+      e' = eOf t j +ℤ split (mOf t j) .e
+
+      in-m : j < length (t .m)
+      in-m = subst (λ (n : ℕ). j < n) (sym (b .m-long)) J
+
+      in-e : j < length (t .e)
+      in-e = subst (λ (n : ℕ). j < n) (sym (b .e-long)) J
+
+      le-of-lt-suc : {x y : ℕ} → x < suc y → x ≤ y
+      le-of-lt-suc h = omega arith
+
+      here : Stands 0 m' e' (getD fs j (unit 52))
+      here =
+          subst (λ (x : Float). Stands 0 (split x .m) (eOf t j +ℤ split x .e) (getD fs j (unit 52))) (sym (b .left j J (le-refl j) .0))
+          (subst (λ (y : ℤ). Stands 0 (split (mOf s j) .m) (y +ℤ split (mOf s j) .e) (getD fs j (unit 52))) (sym (b .left j J (le-refl j) .1)) (each j J))
+
+  pub renorm-each : length (s .m) ≡ 8 → length (s .e) ≡ 8 → length fs ≡ 8 → Held (λ (k : ℕ). 0) (renorm s) fs
   unfolding renorm
-  renorm-held b s l H =
-      held-same (back B 8) (λ (k : ℕ). 0) (inOrder renormLane 8 s) (inOrder renormLane 8 s) fs fs refl refl refl (λ k a. subst (λ (t : Bool). cond t 0 B ≤ 0) (sym (lt-ltb k 8 a)) (le-refl 0))
-      (order-keeps renormLane (λ (k : ℕ) (s : Lanes). Held (back B k) s fs) 8 (λ k s. renorm-turn k s) s
-      (held-same b (back B 0) s s fs fs refl refl refl (λ k a. subst (λ (t : Bool). b k ≤ cond t 0 B) (sym (le-ltb k 0 zero-le)) (l k a)) H))
+  renorm-each m e f =
+      let b = order-keeps renormLane (Back s fs) 8 (λ j t. back-turn j t) s (record { m-long = m; e-long = e; done = λ k i h. absurd (omega arith); left = λ k i h. (refl, refl) }) in
+      record { m-long = b .m-long; e-long = b .e-long; f-long = f; at = λ k i. b .done k i i }
+
+pub renorm-held : (B : ℕ) → B ≤ 1022 → (fs : List Factor) (b : ℕ → ℕ) (s : Lanes) → ((k : ℕ) → k < 8 → b k ≤ B) → Held b s fs → Held (λ (k : ℕ). 0) (renorm s) fs
+renorm-held B small fs b s l H =
+    renorm-each s fs
+    (λ k i. stands-split B (mOf s k) (eOf s k) (getD fs k (unit 52)) small (stands-more (b k) B (mOf s k) (eOf s k) (getD fs k (unit 52)) (l k i) (H .at k i)))
+    (H .m-long) (H .e-long) (H .f-long)
 
 -- ---- values of one block, or those that are left: at most 64
 module _ (s : Lanes) (fs : List Factor) (xs : List Float) (short : length xs ≤ 64) (H : Held (λ (k : ℕ). 0) s fs) where
@@ -244,16 +269,16 @@ lane-in s fs k a p h H P =
     stands-split 1 m (a .e +ℤ eOf s k) f (lit≤ tt) (stands-times 0 0 (a .m) (mOf s k) (a .e) (eOf s k) p (getD fs k (unit 52)) P (H .at k h) (lit≤ tt))
 
 -- ---- the mark
-split-mark : (i : ℕ) (s : Lanes) (xs : List Float) → feed splitStep i s xs .bad ≡ (s .bad || some isBad xs)
+pub split-mark : (i : ℕ) (s : Lanes) (xs : List Float) → feed splitStep i s xs .bad ≡ (s .bad || some isBad xs)
 unfolding splitStep
 split-mark = feed-mark splitStep (λ (s : Lanes). s .bad) isBad (λ i s x. ap (λ (b : Bool). s .bad || b) (split-bad x))
 
-unsplit-mark : (i : ℕ) (s : Lanes) (xs : List Float) → feed unsplitStep i s xs .bad ≡ s .bad
+pub unsplit-mark : (i : ℕ) (s : Lanes) (xs : List Float) → feed unsplitStep i s xs .bad ≡ s .bad
 unfolding feed unsplitStep
 unsplit-mark i s [] = refl
 unsplit-mark i s (x ∷ xs) = unsplit-mark (suc i) (unsplitStep i s x) xs
 
-renorm-mark : (s : Lanes) → renorm s .bad ≡ s .bad
+pub renorm-mark : (s : Lanes) → renorm s .bad ≡ s .bad
 unfolding renorm renormLane
 renorm-mark s = order-keeps renormLane (λ (k : ℕ) (t : Lanes). t .bad ≡ s .bad) 8 (λ k t h e. e) s refl
 

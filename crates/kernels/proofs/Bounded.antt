@@ -51,6 +51,12 @@ total-take f [] k d h = absurd (omega arith)
 total-take f (x ∷ l) zero d h = omega arith
 total-take f (x ∷ l) (suc k) d h = let z = total-take f l k d (omega arith) in omega arith
 
+total-at : {A : Type 0} (f : A → ℕ) (l : List A) (k : ℕ) (d : A) → f (getD l k d) ≤ f d + total f l
+unfolding total
+total-at f [] k d = omega arith
+total-at f (x ∷ l) zero d = omega arith
+total-at f (x ∷ l) (suc k) d = let z = total-at f l k d in omega arith
+
 -- ---- the plain product, over factors of any width: exponents of at most E give at most E + 1 for each rate, and 8
 abbrev expSize : Factor → ℕ
 expSize f = natAbs (f .exp)
@@ -82,6 +88,9 @@ module _ (t E : ℕ) where
   filled-all {fs} F =
       subst (λ (n : ℕ). Filled n (feed (laneTimes t) 0 (replicate 8 (unit t)) fs)) (zero-add (length fs))
       (feed-keeps (laneTimes t) Short Filled (length fs) (λ i s x h. filled-more i s x) 0 (replicate 8 (unit t)) F (omega arith) filled-start)
+
+  pub lane-size : {fs : List Factor} → Each Short fs → (k : ℕ) → natAbs (getD (lanes t fs) k (unit t) .exp) ≤ suc E * length fs
+  lane-size {fs} F k = let z = total-at expSize (lanes t fs) k (unit t) in let n = filled-all F .near in omega arith
 
   pub plain-size : {fs : List Factor} → Each Short fs → natAbs (pieceProduct t fs .exp) ≤ suc E * length fs + 8
   unfolding pieceProduct total
@@ -178,7 +187,7 @@ module _ (xs : List Float) where
           le-trans (combined-size a (accAt ls k)) (omega arith)
 
 -- ---- blocks of 64
-rate-short : (x : Float) → Short 52 1024 (rate x)
+pub rate-short : (x : Float) → Short 52 1024 (rate x)
 rate-short x = record { normal = rate-normal x; near = subst (λ (z : ℤ). natAbs z ≤ 1024) (split-e x) (split-size x) }
 
 module _ {xs : List Float} (v : Each (λ (x : Float). T (fits binary64 x)) xs) where

@@ -14,7 +14,7 @@ use Rattle.kernels.specs.Blocks.{within, inBounds}
 
 -- ---- tests on numbers
 -- a < b or a = b
-le-test : (a b : ℕ) → (ltb a b || (eqb a b && true)) ≡ leb a b
+pub le-test : (a b : ℕ) → (ltb a b || (eqb a b && true)) ≡ leb a b
 le-test a b = go (leb a b) refl
   where
     at : (a ≡ b) ⊎ (a < b) → (ltb a b || (eqb a b && true)) ≡ true
@@ -35,7 +35,7 @@ apart a b h = go (eqb a b) refl
     go true e = ne-eqb a 0 (λ (z : a ≡ 0). let k : a ≡ b = eqb-true a b e in omega arith)
     go false e = refl
 
-not-nought : (a : ℕ) → 0 < a → eqb a 0 ≡ false
+pub not-nought : (a : ℕ) → 0 < a → eqb a 0 ≡ false
 not-nought a h = ne-eqb a 0 (λ (z : a ≡ 0). omega arith)
 
 eqb-comm : (a b : ℕ) → eqb a b ≡ eqb b a
@@ -45,7 +45,7 @@ eqb-comm a b = go (eqb a b) refl
     go true e = e ∙ sym (eq-eqb b a (sym (eqb-true a b e)))
     go false e = e ∙ sym (ne-eqb b a (λ (h : b ≡ a). eqb-false a b e (sym h)))
 
-and-no : (p : Bool) → (p && false) ≡ false
+pub and-no : (p : Bool) → (p && false) ≡ false
 and-no true = refl
 and-no false = refl
 

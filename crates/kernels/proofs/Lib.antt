@@ -4,6 +4,7 @@ pub mod Factors
 pub mod Standing
 pub mod Joining
 pub mod Stepping
+pub mod Least
 pub mod Bounds
 pub mod Blocking
 pub mod Sizes

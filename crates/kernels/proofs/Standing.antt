@@ -1,5 +1,4 @@
--- A lane kept as a float m and an exponent e stands for a factor, whatever way it is brought back: m is the factor's float at an exponent that is `off`,
--- and e and `off` make up the factor's exponent. Products of such lanes stand for `times`, as long as m stays a normal number. Assumes nothing.
+-- Products of lanes that stand for factors stand for `times`, as long as m stays a normal number. Assumes nothing.
 use Prim.Native.Nat.{ℕ, zero, suc, _+_, _-_, _*_, _≤_}
 use mathlib.Core.Path.{_≡_, refl, sym, ap, _∙_}
 use mathlib.Core.Bool.{Bool, false}
@@ -19,13 +18,7 @@ use Rattle.binary64.proofs.Magnitude.{moved-normal}
 use Rattle.binary64.proofs.Splitting.{split-m, split-factor, rate-normal, rate-float, float-rate}
 use Rattle.accumulator.specs.declared.StableProductFloatAcc.{StableProductFloatAcc}
 use Rattle.kernels.specs.Pieces.{accOf}
-
-pub record Stands (B : ℕ) (m : Float) (e : ℤ) (f : Factor) : Type 0 where
-  pub off : ℤ
-  pub near : natAbs off ≤ B
-  pub m-is : m ≡ floatOf 11 52 (moved f off)
-  pub e-is : f .exp ≡ e +ℤ off
-  pub normal : Normal 52 f
+use Rattle.kernels.specs.Standing.{Stands}
 
 pub stands-more : (B C : ℕ) (m : Float) (e : ℤ) (f : Factor) → B ≤ C → Stands B m e f → Stands C m e f
 stands-more B C m e f h s = record { off = s .off; near = le-trans (s .near) h; m-is = s .m-is; e-is = s .e-is; normal = s .normal }
@@ -75,17 +68,20 @@ unfolding factorAt
 split-e x = ap (λ (f : Factor). f .exp) (split-factor x)
 
 -- a lane whose m is normal, split, stands for the same factor with m in [1, 2)
-pub stands-split : (B : ℕ) (m : Float) (e : ℤ) (f : Factor) → B ≤ 1022 → Stands B m e f → Stands 0 (split m .m) (e +ℤ split m .e) f
-stands-split B m e f h s =
-    let g = moved f (s .off) in
-    let r : rate m ≡ g = ap rate (s .m-is) ∙ float-rate g (moved-normal 52 f (s .off) (s .normal)) (near-in f (s .off) (le-trans (s .near) h)) in
+pub range-split : (m : Float) (e : ℤ) (f : Factor) (off : ℤ) → InRange 11 (moved f off) → m ≡ floatOf 11 52 (moved f off) → f .exp ≡ e +ℤ off → Normal 52 f → Stands 0 (split m .m) (e +ℤ split m .e) f
+range-split m e f off R is at N =
+    let g = moved f off in
+    let r : rate m ≡ g = ap rate is ∙ float-rate g (moved-normal 52 f off N) R in
     record {
       off = pos 0;
       near = le-refl 0;
       m-is = split-m m ∙ ap (λ (k : Factor). floatOf 11 52 (moved k (pos 0))) r;
-      e-is = s .e-is ∙ ap (λ (y : ℤ). e +ℤ y) (sym (split-e m ∙ ap (λ (k : Factor). k .exp) r)) ∙ sym (+ℤ-idr (e +ℤ split m .e));
-      normal = s .normal;
+      e-is = at ∙ ap (λ (y : ℤ). e +ℤ y) (sym (split-e m ∙ ap (λ (k : Factor). k .exp) r)) ∙ sym (+ℤ-idr (e +ℤ split m .e));
+      normal = N;
     }
+
+pub stands-split : (B : ℕ) (m : Float) (e : ℤ) (f : Factor) → B ≤ 1022 → Stands B m e f → Stands 0 (split m .m) (e +ℤ split m .e) f
+stands-split B m e f h s = range-split m e f (s .off) (near-in f (s .off) (le-trans (s .near) h)) (s .m-is) (s .e-is) (s .normal)
 
 -- ---- rates
 -- a rate, split

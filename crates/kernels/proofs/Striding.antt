@@ -1,10 +1,12 @@
 -- The loop of stepped lanes over a slice: what is held after i values. Assumes nothing.
 use Prim.Native.Nat.{ℕ, zero, suc, _+_, _-_, _*_, _^_, _≤_, _<_}
 use mathlib.Core.Path.{_≡_, refl, sym, ap, _∙_, subst}
-use mathlib.Core.List.{List}
+use mathlib.Core.List.{List, _∷_}
 use native.Mathlib.Numerals.{add-one}
 use native.Mathlib.Omega.{arith}
-use lib.ListN.{length, getD, set, replicate}
+use lib.ListN.{length, getD, set, take, drop, replicate}
+use lib.Seq.{drop-cons, take-all}
+use native.Mathlib.Nat.{le-refl}
 use lib.IntN.{ℤ, pos, negsuc, natAbs, _+ℤ_, _*ℤ_}
 use lib.Dec.{T, ltb→lt}
 use lib.Signed.{nonNeg, _≤ℤ_, _<ℤ_}
@@ -74,6 +76,29 @@ pub length-strided : (xs : List Float) (start stride : ℤ) (n : ℕ) → length
 unfolding strided
 length-strided xs start stride zero = refl
 length-strided xs start stride (suc n) = ap suc (length-strided xs (start +ℤ stride) stride n)
+
+-- ---- at stride 1 the values lie side by side
+pub strided-window : (xs : List Float) (at n : ℕ) → at + n ≤ length xs → take n (drop at xs) ≡ strided xs (pos at) (pos 1) n
+unfolding strided
+strided-window xs at zero h = refl
+strided-window xs at (suc n) h =
+    ap (take (suc n)) (drop-cons xs at nan (omega arith))
+    ∙ ap (λ (l : List Float). getD xs at nan ∷ l) (strided-window xs (suc at) n (omega arith) ∙ ap (λ (k : ℕ). strided xs (pos k) (pos 1) n) next)
+  where
+    next : suc at ≡ at + 1
+    next = omega arith
+
+pub strided-all : (xs : List Float) → strided xs (pos 0) (pos 1) (length xs) ≡ xs
+strided-all xs = sym (strided-window xs 0 (length xs) (omega arith)) ∙ take-all (length xs) xs (le-refl (length xs))
+
+pub inside-all : (len : ℕ) → Inside len (pos 0) (pos 1) len
+inside-all len = record { least = λ i l. low i; most = λ i l. high i l }
+  where
+    low : (i : ℕ) → pos 0 ≤ℤ (pos 0 +ℤ pos 1 *ℤ pos i)
+    low i = simp ints (simp atoms (omega arith))
+
+    high : (i : ℕ) → i < len → (pos 0 +ℤ pos 1 *ℤ pos i) <ℤ pos len
+    high i = simp ints (simp atoms (omega arith))
 
 -- the lanes of at most 2^40 values are far from the ends of i64
 pub strided-small : (xs : List Float) (start stride : ℤ) (n : ℕ) → n ≤ 2 ^ 40 → SmallAccs (2 ^ 52) (steppedLanes (strided xs start stride n))

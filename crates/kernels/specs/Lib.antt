@@ -5,3 +5,4 @@ pub mod Strided
 pub mod Stepped
 pub mod Blocks
 pub mod Pieces
+pub mod Standing

@@ -25,9 +25,9 @@ fn reduce_piece(values: &[f64], first: i64, stride: i64, len: usize) -> StablePr
     if stride == 1 {
         let at = first as usize;
         let part = &values[at..at + len];
-        return kernels::blocks::stable_float_contiguous(part);
+        return rows::piece::stable_float_contiguous(part);
     }
-    kernels::stepped::lanes_strided(values, first, stride, len)
+    rows::piece::lanes_strided(values, first, stride, len)
 }
 
 // The pieces from start to end - 1: the first as it is, each later one joined from the right.

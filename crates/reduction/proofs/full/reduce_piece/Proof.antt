@@ -21,8 +21,8 @@ use Rattle.reduction.proofs.full.reduce_piece.Statement.{statement}
 use Rattle.reduction.proofs.full.reduce_piece.Tie as tie
 use Rattle.reduction.proofs.full.reduce_piece.Reads as reads
 use Rattle.reduction.proofs.full.reduce_piece.Lts as lts
-use Rattle.kernels.proofs.blocks.stable_float_contiguous.Reads as stable-float-contiguous-reads
-use Rattle.kernels.proofs.stepped.lanes_strided.Reads as lanes-strided-reads
+use Rattle.rows.proofs.piece.stable_float_contiguous.Reads as stable-float-contiguous-reads
+use Rattle.rows.proofs.piece.lanes_strided.Reads as lanes-strided-reads
 
 -- at stride 1 the piece is a part of the slice
 one : (c : tie.Then1) → c .before .before .args .stride ≡ pos 1

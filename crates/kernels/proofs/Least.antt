@@ -1,0 +1,214 @@
+-- A value from 2^-(k + 1) on: it is plus infinity, or it is not bad and its exponent is at least -(k + 1); and the least of values, by comparisons of floats.
+-- Assumes nothing.
+use Prim.Native.Nat.{ℕ, zero, suc, _+_, _*_, _^_, _≤_, _<_}
+use mathlib.Core.Path.{_≡_, refl, sym, ap, _∙_, subst}
+use mathlib.Core.Bool.{Bool, true, false, not, cond, _&&_, _||_, true≢false}
+use mathlib.Core.Logic.{_⊎_, inl, inr}
+use native.Mathlib.Nat.{le-trans, le-of-eq, le-of-lt, lt-of-lt-of-le, lt-of-le-of-lt, not-le-of-lt, lt-of-not-le, mul-comm, mul-right-comm, mul-one, one-mul, mul-pos, mul-le-mul-right, mul-lt-mul-of-pos-right, le-of-mul-le-mul-right}
+use native.Mathlib.Omega.{arith}
+use lib.IntN.{ℤ, pos, negsuc, _+ℤ_}
+use lib.Dec.{T, leb, eqb, lit<, lit≤}
+use lib.Pow.{pow-add, pow-pos, pow-mono}
+use lib.Signed.{leZ}
+use lib.Ieee.{Float, nan, inf, fin, binary64, up, down, lt, le, isNan, fits}
+use lib.Ieee.Fits.{down-pos}
+use lib.Ieee.Exact.{HasValue, units-val}
+use lib.Ieee.Positive.{first-pos}
+use lib.Ieee.Bits.{ofBits-toBits}
+use borrow.Author.Tests.{leb-true, le-leb, ltb-true, ltb-false, ne-eqb}
+use Rattle.integers.proofs.Difference.{ints, atoms}
+use Rattle.binary64.specs.Rounding.{delivered}
+use Rattle.binary64.specs.Factor.{Factor}
+use Rattle.binary64.specs.Fields.{signField, expField, fraction, ofParts, valueOf, badBits}
+use Rattle.binary64.specs.Splitting.{bitsOf, isBad, rate}
+use Rattle.binary64.proofs.Fields.{value-is, fraction-lt}
+use Rattle.binary64.proofs.Bridge.{delivered-units, room, floatOf-value}
+use Rattle.binary64.proofs.Splitting.{rate-normal, rate-range, rate-float}
+use Rattle.kernels.proofs.Comparing.{le-test, not-nought, and-no}
+
+-- a number, of a magnitude of 2^-B or more
+abbrev pub reaches : ℕ → Float → Bool
+reaches B nan = false
+reaches B (inf s) = false
+reaches B (fin s m e) = leb (down e) (m * up e * 2 ^ B)
+
+-- by any fraction a / c that the value equals: 1 ≤ |x| × 2^B
+value-least : (B : ℕ) (s : Bool) (a c : ℕ) (x : Float) → HasValue x s a c → reaches B x ≡ true → c ≤ a * 2 ^ B
+value-least B s a c nan h w = absurd h
+value-least B s a c (inf u) h w = absurd h
+value-least B s a c (fin u m e) h w =
+    let p = 2 ^ B in
+    le-of-mul-le-mul-right
+    (le-trans (le-of-eq (mul-comm c (down e)))
+    (le-trans (mul-le-mul-right c (leb-true (down e) (m * up e * p) w))
+    (le-of-eq (mul-right-comm (m * up e) p c ∙ ap (λ (y : ℕ). y * p) (h .1) ∙ mul-right-comm a (down e) p))))
+    (down-pos e)
+
+-- powers of two are ordered as their exponents
+power-less : (i j : ℕ) → 2 ^ i < 2 ^ j → i < j
+power-less i j h = lt-of-not-le (λ (g : j ≤ i). not-le-of-lt h (pow-mono g))
+
+-- ---- not bad
+module _ (B : ℕ) (small : B ≤ 1021) (x : Float) (f : T (fits binary64 x)) (w : reaches B x ≡ true) where
+  parts-is : x ≡ ofParts 11 52 (signField 11 52 (bitsOf x)) (expField 11 52 (bitsOf x)) (fraction 52 (bitsOf x))
+  unfolding valueOf
+  parts-is = sym (ofBits-toBits binary64 x f) ∙ value-is binary64 11 52 refl refl (lit< tt) (bitsOf x) (lit< tt)
+
+  -- a subnormal is too small
+  not-zero : (s : Bool) (t : ℕ) → t < 2 ^ 52 → x ≡ ofParts 11 52 s 0 t → ⊥
+  unfolding ofParts
+  not-zero s t h e =
+      not-le-of-lt below (value-least B s (t * 2 ^ 0) (2 ^ 1074) x value w)
+    where
+      value : HasValue x s (t * 2 ^ 0) (2 ^ 1074)
+      value =
+          subst (λ (y : Float). HasValue y s (t * 2 ^ 0) (2 ^ 1074)) (sym (e ∙ delivered-units binary64 11 52 refl refl s t 0))
+          (units-val binary64 s t 0 (room binary64 11 52 refl refl t 0 (lt-of-lt-of-le h (lit≤ tt)) (lit< tt)))
+
+      below : t * 2 ^ 0 * 2 ^ B < 2 ^ 1074
+      below =
+          lt-of-lt-of-le (mul-lt-mul-of-pos-right (lt-of-le-of-lt (le-of-eq (mul-one t)) h) (pow-pos B))
+          (le-trans (le-of-eq (sym (pow-add 2 52 B))) (pow-mono {j = 1074} (let l : 52 + B ≤ 1074 = omega arith in l)))
+
+  -- an infinity and a NaN are no numbers
+  not-full : (b : Bool) (s : Bool) → x ≡ cond b (inf s) nan → ⊥
+  not-full true s e = true≢false (sym w ∙ ap (reaches B) e)
+  not-full false s e = true≢false (sym w ∙ ap (reaches B) e)
+
+  field-good : (s : Bool) (E t : ℕ) → t < 2 ^ 52 → x ≡ ofParts 11 52 s E t → (eqb E 0 || eqb E 2047) ≡ false
+  unfolding ofParts
+  field-good s zero t h e = absurd (not-zero s t h e)
+  field-good s (suc E) t h e = go (eqb (suc E) 2047) refl e
+    where
+      go : (b : Bool) → eqb (suc E) 2047 ≡ b → x ≡ cond b (cond (eqb t 0) (inf s) nan) (delivered 53 1023 s (2 ^ 52 + t) E) → (eqb (suc E) 0 || eqb (suc E) 2047) ≡ false
+      go true k e = absurd (not-full (eqb t 0) s e)
+      go false k e = ap (λ (b : Bool). b || eqb (suc E) 2047) (ne-eqb (suc E) 0 (λ (z : suc E ≡ 0). omega arith)) ∙ k
+
+  pub reaching-good : isBad x ≡ false
+  unfolding isBad badBits
+  reaching-good = field-good (signField 11 52 (bitsOf x)) (expField 11 52 (bitsOf x)) (fraction 52 (bitsOf x)) (fraction-lt 52 (bitsOf x)) parts-is
+
+-- ---- the exponent
+-- a rate that is not bad, by its factor
+pub rate-value : (x : Float) → T (fits binary64 x) → (good : isBad x ≡ false) → HasValue x (rate x .sign) (rate x .sig * 2 ^ rate-range x good .place) (2 ^ 1074)
+rate-value x f good =
+    let g = rate x in
+    let R = rate-range x good in
+    subst (λ (y : Float). HasValue y (g .sign) (g .sig * 2 ^ R .place) (2 ^ 1074)) (rate-float x f good) (floatOf-value binary64 11 52 refl refl g (rate-normal x) R)
+
+least-place : (e : ℤ) (p k : ℕ) → e +ℤ pos 1022 ≡ pos p → 1022 ≤ p + suc k → leZ (negsuc k) e ≡ true
+least-place e p k = simp ints (simp atoms (omega arith))
+
+pub reaching-exponent : (k : ℕ) (x : Float) → T (fits binary64 x) → isBad x ≡ false → reaches (suc k) x ≡ true → leZ (negsuc k) (rate x .exp) ≡ true
+reaching-exponent k x f good w = least-place (g .exp) p k (rate-range x good .above) least
+  where
+    B : ℕ
+    B = suc k
+
+    g : Factor
+    g = rate x
+
+    p : ℕ
+    p = rate-range x good .place
+
+    least : 1022 ≤ p + suc k
+    least =
+        let l : 1074 < 53 + p + B = power-less 1074 (53 + p + B) (lt-of-le-of-lt (value-least B (g .sign) (g .sig * 2 ^ p) (2 ^ 1074) x (rate-value x f good) w)
+        (lt-of-lt-of-le (mul-lt-mul-of-pos-right (mul-lt-mul-of-pos-right (rate-normal x .most) (pow-pos p)) (pow-pos B)) (le-of-eq (ap (λ (y : ℕ). y * 2 ^ B) (sym (pow-add 2 53 p)) ∙ sym (pow-add 2 (53 + p) B))))) in
+        omega arith
+
+-- ---- by a comparison with 2^-(k + 1)
+-- plus infinity, or a plus number that reaches 2^-B
+abbrev from : ℕ → Float → Bool
+from B nan = false
+from B (inf s) = not s
+from B (fin s m e) = not s && reaches B (fin s m e)
+
+le-from : (k : ℕ) (x : Float) → le (fin false 1 (negsuc k)) x ≡ from (suc k) x
+unfolding le
+le-from k nan = refl
+le-from k (inf true) = refl
+le-from k (inf false) = refl
+le-from k (fin false m e) = le-test (1 * down e) (m * up e * 2 ^ suc k) ∙ ap (λ (n : ℕ). leb n (m * up e * 2 ^ suc k)) (one-mul (down e))
+le-from k (fin true m e) =
+    let t = eqb (1 * down e) (m * up e * 2 ^ suc k) in
+    ap (λ (u : Bool). t && u) (not-nought (1 * down e) (lt-of-lt-of-le (down-pos e) (le-of-eq (sym (one-mul (down e)))))) ∙ and-no t
+
+-- a value from 2^-(k + 1) on is plus infinity, or it is not bad and its exponent is at least -(k + 1)
+pub least-good : (k : ℕ) → suc k ≤ 1021 → (x : Float) → T (fits binary64 x) → le (fin false 1 (negsuc k)) x ≡ true
+    → (x ≡ inf false) ⊎ ((isBad x ≡ false) × (leZ (negsuc k) (rate x .exp) ≡ true))
+least-good k small x f h = go x f (sym (le-from k x) ∙ h)
+  where
+    go : (x : Float) → T (fits binary64 x) → from (suc k) x ≡ true → (x ≡ inf false) ⊎ ((isBad x ≡ false) × (leZ (negsuc k) (rate x .exp) ≡ true))
+    go nan f h = absurd (true≢false (sym h))
+    go (inf true) f h = absurd (true≢false (sym h))
+    go (inf false) f h = inl refl
+    go (fin true m e) f h = absurd (true≢false (sym h))
+    go (fin false m e) f h =
+        let good = reaching-good (suc k) small (fin false m e) f h in
+        inr (good, reaching-exponent k (fin false m e) f good h)
+
+-- ---- the lesser of two
+-- 1 ≤ a / d × p, and a / d ≤ b / c
+reaches-on : (p a d b c : ℕ) → 0 < d → leb d (a * p) ≡ true → a * c ≤ b * d → leb c (b * p) ≡ true
+reaches-on p a d b c D h l =
+    le-leb c (b * p)
+    (le-of-mul-le-mul-right
+    (le-trans (le-of-eq (mul-comm c d))
+    (le-trans (mul-le-mul-right c (leb-true d (a * p) h))
+    (le-trans (le-of-eq (mul-right-comm a p c))
+    (le-trans (mul-le-mul-right p l) (le-of-eq (mul-right-comm b d p))))))
+    D)
+
+-- above a value from 2^-B on there are only such values
+from-above : (B : ℕ) (x a : Float) → from B x ≡ true → lt x a ≡ true → from B a ≡ true
+unfolding lt
+from-above B nan a h l = absurd (true≢false (sym h))
+from-above B (inf true) a h l = absurd (true≢false (sym h))
+from-above B (inf false) nan h l = absurd (true≢false (sym l))
+from-above B (inf false) (inf t) h l = absurd (true≢false (sym l))
+from-above B (inf false) (fin t n d) h l = absurd (true≢false (sym l))
+from-above B (fin true m e) a h l = absurd (true≢false (sym h))
+from-above B (fin false m e) nan h l = absurd (true≢false (sym l))
+from-above B (fin false m e) (inf t) h l = l
+from-above B (fin false m e) (fin true n d) h l = absurd (true≢false (sym l))
+from-above B (fin false m e) (fin false n d) h l =
+    reaches-on (2 ^ B) (m * up e) (down e) (n * up d) (down d) (down-pos e) h (le-of-lt (ltb-true (m * up e * down d) (n * up d * down e) l))
+
+-- and what is not below one is one, or a NaN
+from-not-below : (B : ℕ) (x a : Float) → from B a ≡ true → lt x a ≡ false → (from B x ≡ true) ⊎ (isNan x ≡ true)
+unfolding lt isNan
+from-not-below B nan a h l = inr refl
+from-not-below B (inf false) a h l = inl refl
+from-not-below B (inf true) nan h l = absurd (true≢false (sym h))
+from-not-below B (inf true) (inf true) h l = absurd (true≢false (sym h))
+from-not-below B (inf true) (inf false) h l = absurd (true≢false l)
+from-not-below B (inf true) (fin t n d) h l = absurd (true≢false l)
+from-not-below B (fin s m e) nan h l = absurd (true≢false (sym h))
+from-not-below B (fin s m e) (inf true) h l = absurd (true≢false (sym h))
+from-not-below B (fin s m e) (inf false) h l = absurd (true≢false l)
+from-not-below B (fin s m e) (fin true n d) h l = absurd (true≢false (sym h))
+from-not-below B (fin false m e) (fin false n d) h l =
+    inl (reaches-on (2 ^ B) (n * up d) (down d) (m * up e) (down e) (down-pos d) h (ltb-false (m * up e * down d) (n * up d * down e) l))
+from-not-below B (fin true m e) (fin false n d) h l =
+    absurd (no (m * up e * down d) (n * up d * down e) (mul-pos least (down-pos e)) (ltb-false 0 (m * up e * down d + n * up d * down e) l))
+  where
+    least : 0 < n * up d
+    least = first-pos (n * up d) (2 ^ B) (lt-of-lt-of-le (down-pos d) (leb-true (down d) (n * up d * 2 ^ B) h))
+
+    no : (a b : ℕ) → 0 < b → a + b ≤ 0 → ⊥
+    no a b h l = omega arith
+
+-- the lesser of a value and the least so far: if it is not below 2^-(k + 1), neither was the least so far, nor the value unless it is a NaN
+pub least-lesser : (k : ℕ) (x a : Float) → le (fin false 1 (negsuc k)) (cond (lt x a) x a) ≡ true
+    → (le (fin false 1 (negsuc k)) a ≡ true) × ((le (fin false 1 (negsuc k)) x ≡ true) ⊎ (isNan x ≡ true))
+least-lesser k x a = go (lt x a) refl
+  where
+    back : (from (suc k) x ≡ true) ⊎ (isNan x ≡ true) → (le (fin false 1 (negsuc k)) x ≡ true) ⊎ (isNan x ≡ true)
+    back (inl h) = inl (le-from k x ∙ h)
+    back (inr h) = inr h
+
+    go : (b : Bool) → lt x a ≡ b → le (fin false 1 (negsuc k)) (cond b x a) ≡ true
+        → (le (fin false 1 (negsuc k)) a ≡ true) × ((le (fin false 1 (negsuc k)) x ≡ true) ⊎ (isNan x ≡ true))
+    go true l h = (le-from k a ∙ from-above (suc k) x a (sym (le-from k x) ∙ h) l, inl h)
+    go false l h = (h, back (from-not-below (suc k) x a (sym (le-from k a) ∙ h) l))

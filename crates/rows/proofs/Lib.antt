@@ -1,0 +1,9 @@
+-- Laws of rows of eight values and of lanes that wait.
+pub mod Rowwise
+pub mod Rows
+pub mod Waits
+pub mod Waiting
+pub mod Chaining
+pub mod Guarding
+pub mod Feds
+pub mod Shorts

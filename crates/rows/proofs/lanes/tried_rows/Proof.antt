@@ -1,0 +1,97 @@
+-- `rows::lanes::tried_rows` meets its contract: lanes that pass both tests are what the values make of them. Assumes nothing.
+use Prim.Native.Nat.{ℕ, _*_, _^_, _≤_}
+use mathlib.Core.Path.{_≡_, refl, sym, ap, _∙_, subst}
+use mathlib.Core.Bool.{Bool, true, false, _&&_, true≢false}
+use mathlib.Core.List.{List}
+use native.Mathlib.Omega.{arith}
+use lib.ListN.{length, replicate, length-replicate}
+use lib.IntN.{ℤ}
+use lib.Dec.{lit≤}
+use lib.Ieee.{Float}
+use mir.Val.{toZ, ofZ}
+use mir.ValLaws.{toZ-ofZ}
+use mir.Syntax.{w64}
+use borrow.Author.Needs.{needs}
+use Rattle.kernels.specs.declared.blocks.Lanes.{Lanes}
+use Rattle.kernels.specs.Lanes.{feed, every}
+use Rattle.kernels.specs.Strided.{strided}
+use Rattle.kernels.specs.Blocks.{eOf, renorm, SmallLanes}
+use Rattle.kernels.specs.Standing.{Fed}
+use Rattle.kernels.proofs.Feeding.{and-both}
+use Rattle.kernels.proofs.Striding.{length-strided}
+use Rattle.kernels.proofs.LaneSizes.{lanes-le}
+use Rattle.rows.specs.declared.row.Waiting.{Waiting}
+use Rattle.rows.specs.Waiting.{one, waitStep, startWaiting, notBelow, notPast}
+use Rattle.rows.proofs.Rows.{wait-m-long, wait-least-long}
+use Rattle.rows.proofs.Guarding.{waited-fed}
+use Rattle.rows.proofs.Feds.{strided-values}
+use Rattle.rows.proofs.lanes.tried_rows.Statement.{statement}
+use Rattle.rows.proofs.lanes.tried_rows.Tie as tie
+use Rattle.rows.proofs.lanes.tried_rows.Reads as reads
+use Rattle.rows.proofs.lanes.tried_rows.Lts as lts
+use Rattle.kernels.proofs.blocks.stable_renorm.Reads as stable-renorm-reads
+use Rattle.rows.proofs.lanes.start_waiting.Reads as start-waiting-reads
+use Rattle.rows.proofs.lanes.wait_rows.Reads as wait-rows-reads
+use Rattle.rows.proofs.row.none_below.Reads as none-below-reads
+use Rattle.rows.proofs.row.none_past.Reads as none-past-reads
+
+-- the lanes after the rows
+waited : (c : tie.After-wait-rows) → let s = c .before .before .before in c .wait-rows .result ≡ feed waitStep 0 (startWaiting (s .args .s .m)) (strided (s .args .values .now) (s .args .start) (s .args .stride) (8 * s .args .rows))
+waited c =
+    let b = c .before in
+    let s = b .before .before in
+    simp (toZ-ofZ w64 (s .args .start) (s .fits .start), toZ-ofZ w64 (s .args .stride) (s .fits .stride)) at
+    (c .wait-rows .ensures ∙ ap (λ (w : Waiting). feed waitStep 0 w (strided (s .args .values .now) (toZ w64 (ofZ w64 (s .args .start))) (toZ w64 (ofZ w64 (s .args .stride))) (8 * s .args .rows))) (b .start-waiting .ensures))
+
+start-waiting-requires : tie.Need-start-waiting-requires
+start-waiting-requires c κs = search needs
+
+wait-rows-requires : tie.Need-wait-rows-requires
+wait-rows-requires c κs =
+    let s = c .before .before in
+    let e = c .start-waiting .ensures in
+    simp (toZ-ofZ w64 (s .args .start) (s .fits .start), toZ-ofZ w64 (s .args .stride) (s .fits .stride))
+    (ap (λ (w : Waiting). length (w .m)) e ∙ s .pre .1, ap (λ (w : Waiting). length (w .least)) e ∙ length-replicate 8 one, (let h = s .pre .2 in omega arith), s .pre .3)
+
+none-below-requires : tie.Need-none-below-requires
+none-below-requires c κs = ap (λ (w : Waiting). length (w .least)) (waited c) ∙ wait-least-long 0 _ _ ∙ length-replicate 8 one
+
+none-past-requires : tie.Need-none-past-requires
+none-past-requires c κs = ap (λ (w : Waiting). length (w .m)) (waited (c .before)) ∙ wait-m-long 0 _ _ ∙ c .before .before .before .before .pre .1
+
+stable-renorm-requires : tie.Need-stable-renorm-requires
+stable-renorm-requires c κs =
+    let s = c .before .before .before .before .before .before .before .before in
+    record { at = λ k. lanes-le (2 ^ 59) (2 ^ 60) (s .args .s) (lit≤ tt) (s .pre .0) .at k }
+
+returns : tie.Need-returns
+returns c q =
+    let t = c .before .before .before in
+    let p = t .before in
+    let w = p .before .before in
+    let s = w .before .before .before in
+    let xs = strided (s .args .values .now) (s .args .start) (s .args .stride) (8 * s .args .rows) in
+    let b = and-both _ _ (t .if1 .taken) in
+    subst (Fed (s .args .s) xs)
+    (sym (c .stable-renorm .ensures ∙ ap (λ (u : Waiting). renorm (record { m = u .m; e = s .args .s .e; bad = s .args .s .bad })) (waited w)))
+    (waited-fed (s .args .s) (startWaiting (s .args .s .m)) xs
+    (strided-values (s .args .values .now) (w .before .before .shared-slice-known .given) (s .args .start) (s .args .stride) (8 * s .args .rows))
+    (subst (λ (n : ℕ). n ≤ 512) (sym (length-strided (s .args .values .now) (s .args .start) (s .args .stride) (8 * s .args .rows))) (let h = s .pre .2 in omega arith))
+    refl (length-replicate 8 one)
+    (ap (λ (u : Waiting). every notBelow (u .least)) (sym (waited w)) ∙ sym (p .before .none-below .ensures) ∙ b .0)
+    (ap (λ (u : Waiting). every notPast (u .m)) (sym (waited w)) ∙ sym (p .none-past .ensures) ∙ b .1))
+
+returns-2 : tie.Need-returns-2
+returns-2 c q = absurd (true≢false (sym q))
+
+pub tried-rows-spec : {M : Type 1} → statement M
+tried-rows-spec =
+    tie.close
+    (tie.spec
+    start-waiting-requires
+    wait-rows-requires
+    none-below-requires
+    none-past-requires
+    stable-renorm-requires
+    returns
+    returns-2)

@@ -1,0 +1,32 @@
+-- `rows::row::guarded_row` meets its contract. Assumes nothing.
+use mathlib.Core.Path.{_∙_, sym}
+use borrow.Author.Needs.{needs}
+use Rattle.rows.proofs.Rowwise.{guarded-inside, guarded-outside}
+use Rattle.rows.proofs.row.guarded_row.Statement.{statement}
+use Rattle.rows.proofs.row.guarded_row.Tie as tie
+
+row-in-bounds-requires : tie.Need-row-in-bounds-requires
+row-in-bounds-requires c κs = search needs
+
+unsplit-row-requires : tie.Need-unsplit-row-requires
+unsplit-row-requires c κs = search needs
+
+returns : tie.Need-returns
+returns c =
+    let s = c .before .before .before .args in
+    let b = c .before .before .row-in-bounds in
+    c .unsplit-row .ensures ∙ guarded-inside (s .s) (s .row .v) (sym (b .ensures) ∙ c .before .if1 .taken)
+
+split-row-requires : tie.Need-split-row-requires
+split-row-requires c κs = search needs
+
+returns-2 : tie.Need-returns-2
+returns-2 c =
+    let s = c .before .before .before .args in
+    let b = c .before .before .row-in-bounds in
+    c .split-row .ensures ∙ guarded-outside (s .s) (s .row .v) (sym (b .ensures) ∙ c .before .if1 .left)
+
+pub guarded-row-spec : {M : Type 1} → statement M
+guarded-row-spec =
+    tie.close
+    (tie.spec row-in-bounds-requires unsplit-row-requires returns split-row-requires returns-2)

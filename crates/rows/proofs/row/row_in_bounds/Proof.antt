@@ -1,0 +1,63 @@
+-- `rows::row::row_in_bounds` meets its contract. The loop's invariant: the test of the lanes from k on is left. Assumes nothing.
+use Prim.Native.Nat.{ℕ, _-_, _≤_, _<_}
+use mathlib.Core.Path.{_≡_, refl, sym, subst}
+use mathlib.Core.Bool.{_&&_}
+use native.Mathlib.Omega.{arith}
+use borrow.Author.Needs.{needs}
+use lib.ListN.{drop}
+use lib.Ieee.{nan}
+use Rattle.kernels.specs.Lanes.{every}
+use Rattle.kernels.specs.Blocks.{inBounds}
+use Rattle.rows.proofs.Rowwise.{test-more, test-all}
+use Rattle.rows.proofs.row.row_in_bounds.Statement.{statement}
+use Rattle.rows.proofs.row.row_in_bounds.Tie as tie
+
+abbrev Inv-loop : tie.InvT-loop
+Inv-loop row ok₀ k₀ ok k = (k ≤ 8) × ((ok && every inBounds (drop k (row .v))) ≡ every inBounds (row .v))
+
+abbrev μ-loop : tie.MeasureT-loop
+μ-loop row ok₀ k₀ ok k = 8 - k
+
+loop-holds : tie.Need-loop-holds Inv-loop μ-loop
+loop-holds c = (omega arith, refl)
+
+mul-in-bounds : tie.Need-mul-in-bounds Inv-loop μ-loop
+mul-in-bounds c = omega arith
+
+element-copy-out-in-bounds : tie.Need-element-copy-out-in-bounds Inv-loop μ-loop
+element-copy-out-in-bounds c = omega arith
+
+in-bounds-requires : tie.Need-in-bounds-requires Inv-loop μ-loop
+in-bounds-requires c κs = search needs
+
+add-k : tie.Need-add-k Inv-loop μ-loop
+add-k c = omega arith
+
+loop-less : tie.Need-loop-less Inv-loop μ-loop
+loop-less c = omega arith
+
+loop-again : tie.Need-loop-again Inv-loop μ-loop
+loop-again c =
+    let t = c .before .before .before in
+    let v = t .before .args .t1 .v in
+    (omega arith, test-more inBounds v (t .loop .ok) (c .in-bounds .result) (t .loop .k) nan (subst (λ (n : ℕ). t .loop .k < n) (sym (t .before .pre)) (c .before .before .loop-test .taken)) (t .loop .inv .1) (c .in-bounds .ensures))
+
+returns : tie.Need-returns Inv-loop μ-loop
+returns c =
+    let t = c .before in
+    test-all inBounds (t .before .args .t1 .v) (t .loop .ok) (t .loop .k) (subst (λ (n : ℕ). n ≤ t .loop .k) (sym (t .before .pre)) (c .loop-test .left)) (t .loop .inv .1)
+
+pub row-in-bounds-spec : {M : Type 1} → statement M
+row-in-bounds-spec =
+    tie.close
+    (tie.spec
+    Inv-loop
+    μ-loop
+    loop-holds
+    mul-in-bounds
+    element-copy-out-in-bounds
+    in-bounds-requires
+    add-k
+    loop-less
+    loop-again
+    returns)

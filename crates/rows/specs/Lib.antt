@@ -1,0 +1,2 @@
+-- Rows of eight values, and lanes that wait. Definitions only.
+pub mod Waiting

@@ -1,0 +1,73 @@
+-- Lanes that wait: values are multiplied in unsplit, eight at a time, and a test at the end says whether the lanes are what split values give. Definitions only.
+use Prim.Native.Nat.{ℕ, _+_, _-_, _%_}
+use mathlib.Core.Bool.{Bool, true, false, cond, _&&_}
+use mathlib.Core.List.{List, _++_}
+use lib.ListN.{length, getD, set, replicate}
+use lib.IntN.{ℤ, pos, negsuc, _+ℤ_}
+use lib.Ieee.{Float, nan, fin, lt, le, neg}
+use Rattle.binary64.specs.Product.{productOf}
+use Rattle.binary64.specs.Splitting.{split}
+use Rattle.accumulator.specs.declared.StableProductFloatAcc.{StableProductFloatAcc}
+use Rattle.kernels.specs.declared.blocks.Lanes.{Lanes}
+use Rattle.kernels.specs.Lanes.{feed, laneOf, inOrder, every}
+use Rattle.kernels.specs.Blocks.{mOf, eOf, unsplitStep, splitStep, inBounds}
+use Rattle.rows.specs.declared.row.Waiting.{Waiting}
+
+abbrev pub one : Float
+one = fin false 1 (pos 0)
+
+-- a row: the values from lane 0 on, and 1.0 in the lanes that are left
+abbrev pub put : ℕ → List Float → Float → List Float
+put k row x = set row k x
+
+unfoldable pub rowOf : List Float → List Float
+rowOf xs = feed put 0 (replicate 8 one) xs
+
+-- the lesser of two by `<`; where one is a NaN, the second
+abbrev pub lesser : Float → Float → Float
+lesser x y = cond (lt x y) x y
+
+-- value i goes to lane i mod 8: multiplied in unsplit, and the least value of the lane is kept
+unfoldable pub waitStep : ℕ → Waiting → Float → Waiting
+waitStep i w x =
+    let k = laneOf i in
+    record { m = set (w .m) k (productOf 11 52 (getD (w .m) k nan) x); least = set (w .least) k (lesser x (getD (w .least) k nan)) }
+
+-- 2^-15: 64 values from there on, multiplied into a lane in [1, 2), stay normal
+abbrev pub LEAST : Float
+LEAST = fin false 1 (negsuc 14)
+
+abbrev pub notBelow : Float → Bool
+notBelow x = le LEAST x
+
+-- not infinite, not a NaN: no more than 2^1000 either way
+abbrev pub MOST : Float
+MOST = fin false 1 (pos 1000)
+
+abbrev pub notPast : Float → Bool
+notPast x = le x MOST && le (neg MOST) x
+
+-- the lanes' m multiplied in lane order, from 1.0
+unfoldable pub chained : List Float → Float
+chained ms = inOrder (λ (k : ℕ) (p : Float). productOf 11 52 p (getD ms k nan)) 8 one
+
+-- the lanes' exponents, added
+unfoldable pub exponentsOf : Lanes → ℤ
+exponentsOf s = inOrder (λ (k : ℕ) (e : ℤ). e +ℤ eOf s k) 8 (pos 0)
+
+-- a row multiplied unsplit if every magnitude of it lies in the bounds of a block, else split
+unfoldable pub guarded : Lanes → List Float → Lanes
+guarded s row = cond (every inBounds row) (feed unsplitStep 0 s row) (feed splitStep 0 s row)
+
+-- the lanes multiplied in lane order and brought back to [1, 2), with their exponents and their mark
+unfoldable pub lanesProduct : Lanes → StableProductFloatAcc
+unfolding chained exponentsOf
+lanesProduct s = let p = chained (s .m) in record { m = split p .m; e = exponentsOf s +ℤ split p .e; bad = s .bad }
+
+-- values, and 1.0 up to whole rows
+abbrev pub padded : List Float → List Float
+padded xs = xs ++ replicate (7 - (length xs + 7) % 8) one
+
+-- lanes that begin to wait
+abbrev pub startWaiting : List Float → Waiting
+startWaiting ms = record { m = ms; least = replicate 8 one }
