@@ -2,6 +2,7 @@
 //!
 //! The axis records, the cursor, the reset and the fusing are written from rules 3 and 4 of the product engine
 //! and from the sentence on the cursor: "The cursor adds a step, or a reset with carry to the next axis."
+//! What the benchmark times of this is marked `inline`, so that it does not slow the source down.
 //! The inner axes and the names of the scalar trait serve only to compile what no case calls.
 //! The source's: the module `reduce_kernel`, unchanged.
 
@@ -22,6 +23,7 @@ pub struct ReduceOuterAxis {
 }
 
 /// Rule 3: -(size - 1) × stride must fit, and so must size - 1 and the product before its sign is turned.
+#[inline]
 fn checked_reduce_reset(size: usize, stride: isize) -> Result<isize> {
     let less_one = i128::from(fit(size as i128 - 1)?);
     let product = i128::from(fit(less_one * stride as i128)?);
@@ -29,11 +31,13 @@ fn checked_reduce_reset(size: usize, stride: isize) -> Result<isize> {
 }
 
 /// The number where it fits an i64. Both factors of a product here lie below 2^64, so an i128 holds it.
+#[inline]
 fn fit(number: i128) -> Result<i64> {
     i64::try_from(number).map_err(|_| StridedError::OffsetOverflow)
 }
 
 /// Rule 4: from left to right, an axis and the next become one where step × size equals the next stride.
+#[inline]
 fn compress_reduce_outer_axes(axes: Vec<ReduceOuterAxis>) -> Result<Vec<ReduceOuterAxis>> {
     let mut fused = axes;
     let mut at = 0;
@@ -61,6 +65,7 @@ struct ReduceOuterCursor<'a> {
 }
 
 impl<'a> ReduceOuterCursor<'a> {
+    #[inline]
     fn decode(number: usize, source: isize, dest: isize, axes: &'a [ReduceOuterAxis]) -> Result<Self> {
         let mut left = number;
         let mut offsets = (source as i128, dest as i128);
@@ -80,6 +85,7 @@ impl<'a> ReduceOuterCursor<'a> {
         })
     }
 
+    #[inline]
     fn advance(&mut self) {
         for (digit, axis) in self.digits.iter_mut().zip(self.axes) {
             if *digit + 1 < axis.extent {
@@ -94,6 +100,7 @@ impl<'a> ReduceOuterCursor<'a> {
         }
     }
 
+    #[inline]
     fn leading_coord(&self) -> usize {
         self.digits.first().copied().unwrap_or(0)
     }

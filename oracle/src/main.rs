@@ -5,14 +5,15 @@
 //!
 //! The source's: `reduce_kernel.rs`, a copy that is the same to the byte.
 //! Ours: this file and every other. `erased.rs` stands in for the file of the source that we lack, and is
-//! written from the rules of the product engine; `inline.rs`, `simd.rs` and `complex.rs` stand in for the few
-//! other names that the copy imports.
+//! written from the rules of the product engine; `inline.rs`, `simd.rs`, `complex.rs` and `error.rs` stand in for
+//! the few other names that the copy imports.
 
 extern crate self as num_complex;
 
 mod cases;
 mod complex;
 mod erased;
+mod error;
 mod generate;
 mod inline;
 mod rules;
@@ -20,15 +21,7 @@ mod simd;
 mod words;
 
 pub use complex::{Complex32, Complex64};
-
-/// Ours: the two errors of the source that can arise here, under the source's names.
-#[derive(Clone, Copy, Debug, Eq, PartialEq)]
-pub enum StridedError {
-    StrideLengthMismatch,
-    OffsetOverflow,
-}
-
-pub type Result<T> = core::result::Result<T, StridedError>;
+pub use error::{Result, StridedError};
 
 fn usage() -> ! {
     eprintln!("usage: oracle replay < cases, or oracle generate KIND SEED COUNT");

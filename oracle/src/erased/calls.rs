@@ -9,6 +9,15 @@ use super::reduce_kernel::{
 use super::ErasedReduceScalar;
 use crate::Result;
 use std::cell::RefCell;
+use std::ops::Range;
+
+/// The source's compiled layout as it is. The benchmark times it, so nothing is read back here.
+#[derive(Clone)]
+pub struct Plan(FullTraversal);
+
+/// The source's accumulator as it is.
+#[derive(Clone, Copy)]
+pub struct Answer(SourceAcc);
 
 /// A compiled layout. `axes` holds size, step and reset of each outer axis.
 #[derive(Clone)]
@@ -17,7 +26,7 @@ pub struct Layout {
     pub run_len: u64,
     pub run_stride: i64,
     pub axes: Vec<(u64, i64, i64)>,
-    traversal: FullTraversal,
+    plan: Plan,
 }
 
 /// An accumulator of the stable product.
@@ -55,20 +64,37 @@ fn only<T: std::str::FromStr + Copy>(print: &str, name: &str) -> T {
     found[0]
 }
 
+impl Plan {
+    pub fn compile(dims: &[usize], steps: &[isize]) -> Result<Plan> {
+        Ok(Plan(FullTraversal::compile(dims, steps)?))
+    }
+
+    /// The product of a range whose elements all lie inside the values.
+    pub fn product(&self, base: isize, range: Range<usize>, values: &[f64]) -> Answer {
+        Answer(reduce::<f64, StableProductKernel>(self, base, range, values))
+    }
+}
+
+impl Answer {
+    pub fn read(self) -> Acc {
+        read(self.0)
+    }
+}
+
 pub fn compile(sizes: &[u64], strides: &[i64]) -> Result<Layout> {
     let dims: Vec<usize> = sizes.iter().map(|&size| size as usize).collect();
     let steps: Vec<isize> = strides.iter().map(|&stride| stride as isize).collect();
-    let traversal = FullTraversal::compile(&dims, &steps)?;
-    let print = format!("{traversal:?}");
+    let plan = Plan::compile(&dims, &steps)?;
+    let print = format!("{:?}", plan.0);
     let extents = numbers(&print, "extent");
     let steps = numbers(&print, "source_step");
     let resets = numbers(&print, "source_reset");
     Ok(Layout {
-        total: traversal.total() as u64,
+        total: plan.0.total() as u64,
         run_len: only(&print, "run_len"),
         run_stride: only(&print, "run_stride"),
         axes: (0..extents.len()).map(|i| (extents[i], steps[i], resets[i])).collect(),
-        traversal,
+        plan,
     })
 }
 
@@ -103,15 +129,14 @@ impl ReduceKernel<i64> for Recording {
 }
 
 fn reduce<T: ErasedReduceScalar, K: ReduceKernel<T>>(
-    layout: &Layout,
-    base: i64,
-    range: (u64, u64),
+    plan: &Plan,
+    base: isize,
+    range: Range<usize>,
     values: &[T],
 ) -> K::Acc {
-    let range = range.0 as usize..range.1 as usize;
     // SAFETY: the caller has seen to it that every element of the layout lies inside the values, and that the
     // range is not empty and ends within the total.
-    let acc = unsafe { reduce_full_range::<T, K>(values.as_ptr(), base as isize, &layout.traversal, range) };
+    let acc = unsafe { reduce_full_range::<T, K>(values.as_ptr(), base, &plan.0, range) };
     acc.unwrap_or_else(|error| panic!("an accepted range answered {error:?}"))
 }
 
@@ -119,13 +144,14 @@ fn reduce<T: ErasedReduceScalar, K: ReduceKernel<T>>(
 pub fn visited(layout: &Layout, base: i64, range: (u64, u64), length: u64) -> Vec<i64> {
     let own_index: Vec<i64> = (0..length as i64).collect();
     VISITED.with(|visited| visited.borrow_mut().clear());
-    reduce::<i64, Recording>(layout, base, range, &own_index);
+    let range = range.0 as usize..range.1 as usize;
+    reduce::<i64, Recording>(&layout.plan, base as isize, range, &own_index);
     VISITED.with(|visited| visited.take())
 }
 
 /// The product of a range whose elements all lie inside the values.
 pub fn product(layout: &Layout, base: i64, range: (u64, u64), values: &[f64]) -> Acc {
-    read(reduce::<f64, StableProductKernel>(layout, base, range, values))
+    layout.plan.product(base as isize, range.0 as usize..range.1 as usize, values).read()
 }
 
 fn read(acc: SourceAcc) -> Acc {
