@@ -9,7 +9,7 @@ mod finish;
 mod join;
 mod layout;
 mod rates;
-mod reduce;
+pub mod reduce;
 
 use std::io::{Result, Write};
 
@@ -28,7 +28,7 @@ pub fn maker(kind: &str) -> Option<Maker> {
 
 pub fn print(make: Maker, seed: u64, count: u64) -> Result<()> {
     let mut output = std::io::BufWriter::new(std::io::stdout().lock());
-    let mut dice = Dice { state: seed };
+    let mut dice = Dice::new(seed);
     for _ in 0..count {
         let line = make(&mut dice);
         output.write_all(line.as_bytes())?;
@@ -43,7 +43,11 @@ pub struct Dice {
 }
 
 impl Dice {
-    fn next(&mut self) -> u64 {
+    pub fn new(seed: u64) -> Dice {
+        Dice { state: seed }
+    }
+
+    pub fn next(&mut self) -> u64 {
         self.state = self.state.wrapping_add(0x9e37_79b9_7f4a_7c15);
         let mut mixed = self.state;
         mixed = (mixed ^ (mixed >> 30)).wrapping_mul(0xbf58_476d_1ce4_e5b9);
@@ -52,7 +56,7 @@ impl Dice {
     }
 
     /// Below `count`, which is not 0.
-    fn below(&mut self, count: u64) -> u64 {
+    pub fn below(&mut self, count: u64) -> u64 {
         self.next() % count
     }
 
@@ -61,7 +65,7 @@ impl Dice {
         self.below(count) == 0
     }
 
-    fn of<T: Copy>(&mut self, choices: &[T]) -> T {
+    pub fn of<T: Copy>(&mut self, choices: &[T]) -> T {
         choices[self.below(choices.len() as u64) as usize]
     }
 

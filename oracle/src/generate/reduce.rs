@@ -14,23 +14,7 @@ const BLOCK: u64 = 64;
 const MOST_VISITED: u64 = 5000;
 
 pub fn line(dice: &mut Dice) -> String {
-    let axes = drawn_axes(dice);
-    let total = axes.total(dice);
-    let (start, end) = stretch(dice, total);
-    let (base, length) = fit(dice, &axes);
-    let call = Call { axes, range: Range { base, start, end, length } };
-    let word = dice.of(&["reduce", "reduce", "reduce", "product"]);
-    let mut values = rates::drawn(dice, length);
-    if dice.once_in(7) {
-        call.spoil(dice, &mut values);
-    } else if dice.once_in(if word == "product" { 2 } else { 20 }) {
-        call.aim(dice, &mut values);
-    }
-    let mut text = format!("{word}{} {base} {start} {end} {length}", call.axes.text());
-    for value in values {
-        text += &format!(" {value:016x}");
-    }
-    text
+    Call::drawn(dice).text()
 }
 
 fn drawn_axes(dice: &mut Dice) -> Axes {
@@ -145,12 +129,45 @@ fn fit(dice: &mut Dice, axes: &Axes) -> (i64, u64) {
     ((before - low) as i64, (before + high - low + 1 + after) as u64)
 }
 
-struct Call {
-    axes: Axes,
-    range: Range,
+/// A call with its values, as bits. The word is that of its line.
+pub struct Call {
+    word: &'static str,
+    pub axes: Axes,
+    pub range: Range,
+    values: Vec<u64>,
 }
 
 impl Call {
+    pub fn drawn(dice: &mut Dice) -> Call {
+        let axes = drawn_axes(dice);
+        let total = axes.total(dice);
+        let (start, end) = stretch(dice, total);
+        let (base, length) = fit(dice, &axes);
+        let word = dice.of(&["reduce", "reduce", "reduce", "product"]);
+        let values = rates::drawn(dice, length);
+        let mut call = Call { word, axes, range: Range { base, start, end, length }, values };
+        if dice.once_in(7) {
+            call.spoil(dice);
+        } else if dice.once_in(if word == "product" { 2 } else { 20 }) {
+            call.aim(dice);
+        }
+        call
+    }
+
+    pub fn text(&self) -> String {
+        let Range { base, start, end, length } = &self.range;
+        let mut text = format!("{}{} {base} {start} {end} {length}", self.word, self.axes.text());
+        for value in &self.values {
+            text += &format!(" {value:016x}");
+        }
+        text
+    }
+
+    /// The values themselves.
+    pub fn floats(&self) -> Vec<f64> {
+        self.values.iter().map(|&bits| f64::from_bits(bits)).collect()
+    }
+
     /// The length of a run, if the call is accepted.
     fn run(&self) -> Option<u64> {
         rules::range(&self.axes.sizes, &self.axes.strides, &self.range).ok().map(|layout| layout.run_len)
@@ -163,11 +180,11 @@ impl Call {
     }
 
     /// Mostly one rate becomes bad, now and then two or three.
-    fn spoil(&self, dice: &mut Dice, values: &mut [u64]) {
+    fn spoil(&mut self, dice: &mut Dice) {
         let Some(run) = self.run() else { return };
         for _ in 0..dice.of(&[1, 1, 1, 1, 2, 3]) {
-            let element = self.spot(dice, run);
-            values[self.place(element)] = rates::bad(dice);
+            let place = self.place(self.spot(dice, run));
+            self.values[place] = rates::bad(dice);
         }
     }
 
@@ -191,14 +208,13 @@ impl Call {
     }
 
     /// Exponents are changed so that the product comes to a limit of the doubles, if none is visited twice.
-    fn aim(&self, dice: &mut Dice, values: &mut [u64]) {
+    fn aim(&mut self, dice: &mut Dice) {
         let (sizes, strides) = (&self.axes.sizes, &self.axes.strides);
-        let floats: Vec<f64> = values.iter().map(|&bits| f64::from_bits(bits)).collect();
-        let Ok(acc) = rules::reduce(sizes, strides, &self.range, &floats) else { return };
+        let Ok(acc) = rules::reduce(sizes, strides, &self.range, &self.floats()) else { return };
         let mut wanted = dice.of(&[-1076, -1075, -1074, -1073, -1050, -1024, -1023, -1022, 1023, 1023, 1024]) - acc.e;
         for element in self.range.start..self.range.end {
             let place = self.place(element);
-            (values[place], wanted) = rates::moved(values[place], wanted);
+            (self.values[place], wanted) = rates::moved(self.values[place], wanted);
         }
     }
 }
