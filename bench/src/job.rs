@@ -1,0 +1,88 @@
+//! A call that is timed, for the engine and for the Rust.
+//!
+//! Timed of the Rust: the source's own `FullTraversal::compile` and `reduce_full_range` with
+//! `StableProductKernel` on f64, and nothing else. The refusals that the engine adds are no part of the source:
+//! `Job::new` asks them once, before the timing. Timed of the engine: the whole call, with all its checks.
+
+use crate::erased::calls::{Acc, Answer, Plan};
+use crate::probe::{self, Bits, Reduced};
+use crate::rules;
+use std::hint::black_box;
+
+pub struct Job {
+    sizes: Vec<u64>,
+    strides: Vec<i64>,
+    dims: Vec<usize>,
+    steps: Vec<isize>,
+    count: u64,
+    bases: Vec<i64>,
+    pub values: Vec<f64>,
+}
+
+pub fn bits(acc: Acc) -> Bits {
+    [acc.m.to_bits(), acc.e as u64, u64::from(acc.bad)]
+}
+
+impl Job {
+    /// A call on the first `count` elements of a layout. The calls take turns with the bases, so that a short one
+    /// does not meet the same values each time: of a hundred thousand values and fewer that come again and again,
+    /// the processor learns which lanes are halved, and the Rust then is up to three times as fast at strides.
+    pub fn new(axes: &[(u64, i64)], count: u64, bases: Vec<i64>, values: Vec<f64>) -> Job {
+        let sizes: Vec<u64> = axes.iter().map(|axis| axis.0).collect();
+        let strides: Vec<i64> = axes.iter().map(|axis| axis.1).collect();
+        for &base in &bases {
+            let range = rules::Range { base, start: 0, end: count, length: values.len() as u64 };
+            assert!(rules::range(&sizes, &strides, &range).is_ok(), "a timed call is accepted");
+        }
+        let dims = sizes.iter().map(|&size| size as usize).collect();
+        let steps = strides.iter().map(|&stride| stride as isize).collect();
+        Job { sizes, strides, dims, steps, count, bases, values }
+    }
+
+    pub fn count(&self) -> u64 {
+        self.count
+    }
+
+    /// The number of bases.
+    pub fn turns(&self) -> usize {
+        self.bases.len()
+    }
+
+    pub fn plan(&self) -> Plan {
+        Plan::compile(black_box(&self.dims), black_box(&self.steps)).expect("a timed layout compiles")
+    }
+
+    /// The Rust with a plan that is compiled already.
+    #[inline(never)]
+    pub fn rust_ahead(&self, plan: &Plan, turn: usize) -> Answer {
+        let base = black_box(self.bases[turn]) as isize;
+        black_box(plan).product(base, 0..black_box(self.count) as usize, black_box(&self.values))
+    }
+
+    #[inline(never)]
+    pub fn rust(&self, turn: usize) -> Answer {
+        let base = black_box(self.bases[turn]) as isize;
+        self.plan().product(base, 0..black_box(self.count) as usize, black_box(&self.values))
+    }
+
+    #[inline(never)]
+    pub fn engine(&self, turn: usize) -> Reduced {
+        let range = probe::Range {
+            sizes: black_box(&self.sizes),
+            strides: black_box(&self.strides),
+            base: black_box(self.bases[turn]),
+            start: 0,
+            end: black_box(self.count),
+        };
+        probe::reduce(&range, black_box(&self.values))
+    }
+
+    /// The first base at which the two answers differ, with them.
+    pub fn difference(&self) -> Option<(i64, Bits, Reduced)> {
+        (0..self.turns()).find_map(|turn| {
+            let expected = bits(self.rust(turn).read());
+            let found = self.engine(turn);
+            (found != Ok(expected)).then_some((self.bases[turn], expected, found))
+        })
+    }
+}

@@ -1,0 +1,55 @@
+//! The benchmark: the engine, linked from the static library `probe`, and the Rust source, in one process.
+//!
+//! `bench table` prints a row for each kind of call, `bench growth` the time against the number of values,
+//! `bench compare COUNT SEED` the answers to random calls, by kind. Each ends with 1 if two answers differ.
+//!
+//! The Rust is the oracle's, included by its path, so that nothing is copied and both see the same source.
+
+extern crate self as num_complex;
+
+#[allow(dead_code)]
+#[path = "../../oracle/src"]
+mod oracle {
+    pub mod complex;
+    pub mod erased;
+    pub mod error;
+    pub mod generate;
+    pub mod inline;
+    pub mod rules;
+    pub mod simd;
+}
+
+mod compare;
+mod growth;
+mod job;
+mod probe;
+mod rates;
+mod table;
+mod timing;
+
+// The oracle's files name each other from the root of the crate.
+pub use oracle::complex::{Complex32, Complex64};
+pub use oracle::error::{Result, StridedError};
+use oracle::{erased, generate, inline, rules, simd};
+
+fn usage() -> ! {
+    eprintln!("usage: bench table, bench growth, or bench compare COUNT SEED");
+    std::process::exit(2);
+}
+
+fn main() {
+    let args: Vec<String> = std::env::args().skip(1).collect();
+    let words: Vec<&str> = args.iter().map(String::as_str).collect();
+    let same = match words.as_slice() {
+        ["table"] => table::print(),
+        ["growth"] => growth::print(),
+        ["compare", count, seed] => match (count.parse(), seed.parse()) {
+            (Ok(count), Ok(seed)) => compare::run(count, seed),
+            _ => usage(),
+        },
+        _ => usage(),
+    };
+    if !same {
+        std::process::exit(1);
+    }
+}

@@ -1,0 +1,111 @@
+//! The engine's calls (crates/probe). Nothing checks these declarations against the library, so they all stand here.
+//! A slice passes as a pointer and then a length, and a bool in memory is a byte.
+
+extern "C" {
+    fn probe_reduce(
+        sizes: *const u64,
+        sizes_len: usize,
+        strides: *const i64,
+        strides_len: usize,
+        base: i64,
+        start: u64,
+        end: u64,
+        values: *const f64,
+        values_len: usize,
+        m: *mut f64,
+        e: *mut i64,
+        bad: *mut u8,
+    ) -> u32;
+
+    fn probe_list(
+        sizes: *const u64,
+        sizes_len: usize,
+        strides: *const i64,
+        strides_len: usize,
+        base: i64,
+        start: u64,
+        end: u64,
+        length: u64,
+        out: *mut i64,
+        out_len: usize,
+    ) -> u32;
+}
+
+/// An accumulator, or a place for one. The mark is read as the byte it is, which must be 0 or 1.
+#[derive(Clone, Copy)]
+pub struct Place {
+    pub m: f64,
+    pub e: i64,
+    pub bad: u8,
+}
+
+/// An accumulator in plain numbers: the bits of m, the exponent in two's complement, and the mark.
+pub type Bits = [u64; 3];
+
+impl Place {
+    pub fn bits(self) -> Bits {
+        [self.m.to_bits(), self.e as u64, u64::from(self.bad)]
+    }
+}
+
+/// The accumulator, or the number of a refusal.
+pub type Reduced = Result<Bits, u32>;
+
+/// A layout and a range of its elements.
+pub struct Range<'a> {
+    pub sizes: &'a [u64],
+    pub strides: &'a [i64],
+    pub base: i64,
+    pub start: u64,
+    pub end: u64,
+}
+
+/// 0, with the accumulator in `place`; or the refusal 1 to 7, with `place` as it was.
+#[inline]
+pub fn reduce_into(range: &Range, values: &[f64], place: &mut Place) -> u32 {
+    // SAFETY: each pointer goes with the length of its own slice, and only the fields of `place` are written.
+    unsafe {
+        probe_reduce(
+            range.sizes.as_ptr(),
+            range.sizes.len(),
+            range.strides.as_ptr(),
+            range.strides.len(),
+            range.base,
+            range.start,
+            range.end,
+            values.as_ptr(),
+            values.len(),
+            &mut place.m,
+            &mut place.e,
+            &mut place.bad,
+        )
+    }
+}
+
+#[inline]
+pub fn reduce(range: &Range, values: &[f64]) -> Reduced {
+    let mut place = Place { m: 0.0, e: 0, bad: 0 };
+    match reduce_into(range, values, &mut place) {
+        0 => Ok(place.bits()),
+        code => Err(code),
+    }
+}
+
+/// 0, with the offsets in the first places of `out`; or the refusal 1 to 8, with `out` as it was.
+pub fn list(range: &Range, length: u64, out: &mut [i64]) -> u32 {
+    // SAFETY: each pointer goes with the length of its own slice, and only `out` is written.
+    unsafe {
+        probe_list(
+            range.sizes.as_ptr(),
+            range.sizes.len(),
+            range.strides.as_ptr(),
+            range.strides.len(),
+            range.base,
+            range.start,
+            range.end,
+            length,
+            out.as_mut_ptr(),
+            out.len(),
+        )
+    }
+}
