@@ -8,7 +8,7 @@ const BLOCK: i64 = 120;
 const LEAST: i64 = -1022;
 const MOST: i64 = 1023;
 
-const KINDS: [fn(&mut Dice) -> u64; 13] = [
+const KINDS: [fn(&mut Dice) -> u64; 15] = [
     keep,
     keep,
     near_one,
@@ -16,6 +16,8 @@ const KINDS: [fn(&mut Dice) -> u64; 13] = [
     inside_a_block,
     large,
     little,
+    too_large,
+    too_little,
     any_normal,
     short_product,
     half_product,
@@ -102,6 +104,16 @@ fn large(dice: &mut Dice) -> u64 {
 /// About the lower bound of a block.
 fn little(dice: &mut Dice) -> u64 {
     rate(plain(dice), between(dice, -BLOCK - 16, -BLOCK + 4))
+}
+
+/// All a little above what a block may hold: eight in one lane pass every double, so a bound that is too wide is seen.
+fn too_large(dice: &mut Dice) -> u64 {
+    rate(plain(dice), between(dice, BLOCK + 8, BLOCK + 9))
+}
+
+/// All a little below it: eight in one lane come to a subnormal or to zero.
+fn too_little(dice: &mut Dice) -> u64 {
+    rate(plain(dice), between(dice, -BLOCK - 10, -BLOCK - 9))
 }
 
 fn any_normal(dice: &mut Dice) -> u64 {
