@@ -20,7 +20,7 @@ use Rattle.kernels.specs.declared.blocks.Lanes.{Lanes}
 use Rattle.kernels.specs.Lanes.{Each, none, more, feed, laneOf, inOrder, every, some}
 use Rattle.kernels.specs.Plain.{laneTimes, lanes, pieceProduct}
 use Rattle.kernels.specs.Pieces.{Rate, accOf}
-use Rattle.kernels.specs.Blocks.{startLanes, mOf, eOf, unsplitStep, splitStep, inBounds, renorm, contiguous, SmallLanes}
+use Rattle.kernels.specs.Blocks.{startLanes, mOf, eOf, unsplitStep, splitStep, renorm, contiguous, SmallLanes}
 use Rattle.kernels.specs.Standing.{Stands, Held, Fed}
 use Rattle.kernels.proofs.Feeding.{feed-related, feed-append, feed-eights, every-each, each-map, each-both, some-append, some-none, or-none, or-assoc}
 use Rattle.kernels.proofs.Factors.{lane-again, times-again}
@@ -30,7 +30,8 @@ use Rattle.kernels.proofs.Standing.{stands-split, stands-acc}
 use Rattle.kernels.proofs.Bounds.{within-good}
 use Rattle.kernels.proofs.Blocking.{Value, count, Near, unsplit-more, split-among, held-same, held-start, renorm-held, renorm-each, renorm-mark, split-mark, unsplit-mark, contiguous-is}
 use Rattle.rows.specs.declared.row.Waiting.{Waiting}
-use Rattle.rows.specs.Waiting.{one, rowOf, put, waitStep, notBelow, notPast, chained, exponentsOf, guarded}
+use Rattle.rows.specs.Waiting.{one, rowOf, put, waitStep, notBelow, notPast, chained, exponentsOf, inBand, guarded}
+use Rattle.rows.proofs.Squares.{square-band}
 use Rattle.rows.proofs.Waits.{Waits, waits-more, waits-split, stands-waits}
 use Rattle.rows.proofs.Waiting.{WaitLanes, LostLane, Guarded, waited, guards, every-at, past-lost}
 use Rattle.rows.proofs.Chaining.{chain-stands, chain-waits, chain-lost}
@@ -52,17 +53,17 @@ module _ (i : ℕ) (t : Lanes) (gs : List Factor) (row : List Float) (eight : le
   module _ (again-un : (i : ℕ) (s : Lanes) (x : Float) → unsplitStep (i + 8) s x ≡ unsplitStep i s x) (again-sp : (i : ℕ) (s : Lanes) (x : Float) → splitStep (i + 8) s x ≡ splitStep i s x) where
     pub row-held : Held (λ (k : ℕ). 121 * count k (8 * i)) t gs → Held (λ (k : ℕ). 121 * count k (8 * suc i)) (guarded t row) (feed (laneTimes 52) 0 gs (map rate row))
     unfolding guarded
-    row-held h = subst (Held (λ (k : ℕ). 121 * count k (8 * suc i)) (cond (every inBounds row) (feed unsplitStep 0 t row) (feed splitStep 0 t row))) plain-on (go (every inBounds row) refl)
+    row-held h = subst (Held (λ (k : ℕ). 121 * count k (8 * suc i)) (cond (every inBand row) (feed unsplitStep 0 t row) (feed splitStep 0 t row))) plain-on (go (every inBand row) refl)
       where
         at-end : (u : Lanes) → Held (λ (k : ℕ). 121 * count k (8 * i + length row)) u (feed (laneTimes 52) (8 * i) gs (map rate row)) → Held (λ (k : ℕ). 121 * count k (8 * suc i)) u (feed (laneTimes 52) (8 * i) gs (map rate row))
         at-end u H = subst (λ (n : ℕ). Held (λ (k : ℕ). 121 * count k n) u (feed (laneTimes 52) (8 * i) gs (map rate row))) counted H
 
-        go : (b : Bool) → every inBounds row ≡ b → Held (λ (k : ℕ). 121 * count k (8 * suc i)) (cond b (feed unsplitStep 0 t row) (feed splitStep 0 t row)) (feed (laneTimes 52) (8 * i) gs (map rate row))
+        go : (b : Bool) → every inBand row ≡ b → Held (λ (k : ℕ). 121 * count k (8 * suc i)) (cond b (feed unsplitStep 0 t row) (feed splitStep 0 t row)) (feed (laneTimes 52) (8 * i) gs (map rate row))
         go true e =
             at-end (feed unsplitStep 0 t row)
             (subst (λ (u : Lanes). Held (λ (k : ℕ). 121 * count k (8 * i + length row)) u (feed (laneTimes 52) (8 * i) gs (map rate row))) (feed-eights unsplitStep again-un i t row)
             (feed-related unsplitStep (laneTimes 52) rate Near (λ (n : ℕ). Held (λ (k : ℕ). 121 * count k n)) 64 unsplit-more (8 * i) t gs
-            (each-map (λ (x : Float). Value x × (inBounds x ≡ true)) Near (λ x p. record { value = p .0; near = p .1 }) (each-both Value (λ (x : Float). inBounds x ≡ true) v (every-each inBounds row e))) within h))
+            (each-map (λ (x : Float). Value x × (inBand x ≡ true)) Near (λ x p. record { value = p .0; near = square-band x (p .1) }) (each-both Value (λ (x : Float). inBand x ≡ true) v (every-each inBand row e))) within h))
         go false e =
             at-end (feed splitStep 0 t row)
             (subst (λ (u : Lanes). Held (λ (k : ℕ). 121 * count k (8 * i + length row)) u (feed (laneTimes 52) (8 * i) gs (map rate row))) (feed-eights splitStep again-sp i t row)
@@ -70,12 +71,12 @@ module _ (i : ℕ) (t : Lanes) (gs : List Factor) (row : List Float) (eight : le
 
   pub row-mark : guarded t row .bad ≡ (t .bad || some isBad row)
   unfolding guarded
-  row-mark = go (every inBounds row) refl
+  row-mark = go (every inBand row) refl
     where
-      go : (b : Bool) → every inBounds row ≡ b → cond b (feed unsplitStep 0 t row) (feed splitStep 0 t row) .bad ≡ (t .bad || some isBad row)
+      go : (b : Bool) → every inBand row ≡ b → cond b (feed unsplitStep 0 t row) (feed splitStep 0 t row) .bad ≡ (t .bad || some isBad row)
       go true e =
           unsplit-mark 0 t row
-          ∙ sym (ap (λ (b : Bool). t .bad || b) (some-none isBad (each-map (λ (x : Float). Value x × (inBounds x ≡ true)) (λ (x : Float). isBad x ≡ false) (λ x p. within-good 120 (lit≤ tt) x (p .0) (p .1)) (each-both Value (λ (x : Float). inBounds x ≡ true) v (every-each inBounds row e)))) ∙ or-none (t .bad))
+          ∙ sym (ap (λ (b : Bool). t .bad || b) (some-none isBad (each-map (λ (x : Float). Value x × (inBand x ≡ true)) (λ (x : Float). isBad x ≡ false) (λ x p. within-good 120 (lit≤ tt) x (p .0) (square-band x (p .1))) (each-both Value (λ (x : Float). inBand x ≡ true) v (every-each inBand row e)))) ∙ or-none (t .bad))
       go false e = split-mark 0 t row
 
 -- ---- rows that waited and passed both tests
@@ -141,7 +142,7 @@ split-long i s (x ∷ xs) = split-long (suc i) (splitStep i s x) xs ∙ length-s
 
 pub guarded-long : (s : Lanes) (row : List Float) → length (guarded s row .m) ≡ length (s .m)
 unfolding guarded
-guarded-long s row = go (every inBounds row)
+guarded-long s row = go (every inBand row)
   where
     go : (b : Bool) → length (cond b (feed unsplitStep 0 s row) (feed splitStep 0 s row) .m) ≡ length (s .m)
     go true = unsplit-long 0 s row
@@ -149,7 +150,7 @@ guarded-long s row = go (every inBounds row)
 
 pub guarded-small : (n : ℕ) (s : Lanes) (row : List Float) → length row ≡ 8 → SmallLanes n s → SmallLanes (n + 8192) (guarded s row)
 unfolding guarded
-guarded-small n s row e h = go (every inBounds row)
+guarded-small n s row e h = go (every inBand row)
   where
     go : (b : Bool) → SmallLanes (n + 8192) (cond b (feed unsplitStep 0 s row) (feed splitStep 0 s row))
     go true = lanes-le n (n + 8192) (feed unsplitStep 0 s row) (omega arith) (unsplit-small n 0 s row h)

@@ -1,6 +1,7 @@
 -- Laws of rows of eight values and of lanes that wait.
 pub mod Rowwise
 pub mod Rows
+pub mod Squares
 pub mod Waits
 pub mod Waiting
 pub mod Chaining

@@ -26,7 +26,7 @@ use Rattle.kernels.proofs.Feeding.{feed-append, feed-eights, order-keeps}
 use Rattle.kernels.proofs.Sizes.{split-size}
 use Rattle.kernels.proofs.Striding.{length-strided}
 use Rattle.rows.specs.declared.row.Waiting.{Waiting}
-use Rattle.rows.specs.Waiting.{one, put, rowOf, lesser, waitStep, chained, exponentsOf, lanesProduct, padded}
+use Rattle.rows.specs.Waiting.{square, one, put, rowOf, lesser, waitStep, chained, exponentsOf, lanesProduct, padded}
 use Rattle.rows.proofs.Rowwise.{strided-append}
 
 -- ---- a row
@@ -87,7 +87,7 @@ module _ {S : Type 0} (step : ℕ → S → Float → S) (again : (i : ℕ) (s :
 -- ---- lanes that wait
 pub wait-again : (i : ℕ) (w : Waiting) (x : Float) → waitStep (i + 8) w x ≡ waitStep i w x
 unfolding waitStep
-wait-again i w x = ap (λ (k : ℕ). record { m = set (w .m) k (productOf 11 52 (getD (w .m) k nan) x); least = set (w .least) k (lesser x (getD (w .least) k nan)) }) (lane-again i)
+wait-again i w x = ap (λ (k : ℕ). record { m = set (w .m) k (productOf 11 52 (getD (w .m) k nan) x); least = set (w .least) k (lesser (square x) (getD (w .least) k nan)) }) (lane-again i)
 
 pub wait-m-long : (i : ℕ) (w : Waiting) (xs : List Float) → length (feed waitStep i w xs .m) ≡ length (w .m)
 unfolding feed waitStep
@@ -97,7 +97,7 @@ wait-m-long i w (x ∷ xs) = wait-m-long (suc i) (waitStep i w x) xs ∙ length-
 pub wait-least-long : (i : ℕ) (w : Waiting) (xs : List Float) → length (feed waitStep i w xs .least) ≡ length (w .least)
 unfolding feed waitStep
 wait-least-long i w [] = refl
-wait-least-long i w (x ∷ xs) = wait-least-long (suc i) (waitStep i w x) xs ∙ length-set (w .least) (laneOf i) (lesser x (getD (w .least) (laneOf i) nan))
+wait-least-long i w (x ∷ xs) = wait-least-long (suc i) (waitStep i w x) xs ∙ length-set (w .least) (laneOf i) (lesser (square x) (getD (w .least) (laneOf i) nan))
 
 -- ---- a piece that is rows and then fewer than eight values
 module _ (xs : List Float) (s d : ℤ) (n : ℕ) where

@@ -8,10 +8,10 @@ use native.Mathlib.Numerals.{add-one}
 use native.Mathlib.Omega.{arith}
 use lib.ListN.{length, getD, set, drop, drop-of-length-le}
 use lib.Seq.{drop-cons}
-use lib.IntN.{ℤ, pos, natAbs, _+ℤ_, _*ℤ_}
+use lib.IntN.{ℤ, pos, negsuc, natAbs, _+ℤ_, _*ℤ_}
 use lib.Dec.{T}
 use lib.Signed.{nonNeg, _≤ℤ_, _<ℤ_}
-use lib.Ieee.{Float, nan, lt, le, neg, mul, binary64, ofBits}
+use lib.Ieee.{Float, nan, fin, lt, le, neg, mul, binary64, ofBits}
 use mir.Val.{SFits}
 use mir.Syntax.{w64}
 use Rattle.integers.proofs.Difference.{ints, atoms}
@@ -19,12 +19,12 @@ use Rattle.binary64.specs.Product.{productOf}
 use Rattle.binary64.proofs.Product.{mul-binary64}
 use Rattle.kernels.specs.declared.blocks.Lanes.{Lanes}
 use Rattle.kernels.specs.Lanes.{feed, every}
-use Rattle.kernels.specs.Blocks.{unsplitStep, splitStep, inBounds}
+use Rattle.kernels.specs.Blocks.{unsplitStep, splitStep}
 use Rattle.kernels.specs.Strided.{strided, Inside}
 use Rattle.kernels.proofs.Feeding.{feed-append, feed-more, feed-all}
 use Rattle.kernels.proofs.Striding.{length-strided, first-natural, first-below}
 use Rattle.rows.specs.declared.row.Waiting.{Waiting}
-use Rattle.rows.specs.Waiting.{rowOf, put, lesser, waitStep, LEAST, MOST, notBelow, notPast, guarded}
+use Rattle.rows.specs.Waiting.{rowOf, put, lesser, waitStep, LEAST, MOST, notBelow, notPast, guarded, square, inBand}
 
 -- ---- places
 pub place-first : (s t : ℤ) → s ≡ s +ℤ t *ℤ pos 0
@@ -93,7 +93,7 @@ pub lesser-second : (x y : Float) → lt x y ≡ false → y ≡ lesser x y
 lesser-second x y h = sym (ap (λ (t : Bool). cond t x y) h)
 
 -- the constants of the code
-least-is : ofBits binary64 4539628424389459968 ≡ LEAST
+least-is : ofBits binary64 4476578029606273024 ≡ LEAST
 unfolding ofBits
 least-is = refl
 
@@ -101,8 +101,22 @@ most-is : ofBits binary64 9110782046170513408 ≡ MOST
 unfolding ofBits
 most-is = refl
 
-pub below-test : (x : Float) → le (ofBits binary64 4539628424389459968) x ≡ notBelow x
+pub below-test : (x : Float) → le (ofBits binary64 4476578029606273024) x ≡ notBelow x
 below-test x = ap (λ (l : Float). le l x) least-is
+
+band-low : ofBits binary64 3530822107858468864 ≡ fin false 1 (negsuc 238)
+unfolding ofBits
+band-low = refl
+
+band-high : ofBits binary64 5683542729741565952 ≡ fin false 1 (pos 239)
+unfolding ofBits
+band-high = refl
+
+pub band-test : (x : Float) → (le (ofBits binary64 3530822107858468864) (mul binary64 x x) && le (mul binary64 x x) (ofBits binary64 5683542729741565952)) ≡ inBand x
+band-test x =
+    ap (λ (l : Float). le l (mul binary64 x x) && le (mul binary64 x x) (ofBits binary64 5683542729741565952)) band-low
+    ∙ ap (λ (h : Float). le (fin false 1 (negsuc 238)) (mul binary64 x x) && le (mul binary64 x x) h) band-high
+    ∙ ap (λ (y : Float). le (fin false 1 (negsuc 238)) y && le y (fin false 1 (pos 239))) (mul-binary64 x x)
 
 pub past-test : (x : Float) → (le x (ofBits binary64 9110782046170513408) && le (neg (ofBits binary64 9110782046170513408)) x) ≡ notPast x
 past-test x = ap (λ (h : Float). le x h && le (neg h) x) most-is
@@ -139,13 +153,13 @@ test-all {X} q xs ok k h p = sym (ap (λ (l : List X). ok && every q l) (drop-of
     and-yes false = refl
 
 -- value k of a row goes to lane k
-pub wait-lane : (w : Waiting) (k : ℕ) (x y : Float) → k < 8 → y ≡ lesser x (getD (w .least) k nan)
+pub wait-lane : (w : Waiting) (k : ℕ) (x y : Float) → k < 8 → y ≡ lesser (mul binary64 x x) (getD (w .least) k nan)
     → _≡_ {A = Waiting} (record { m = set (w .m) k (mul binary64 (getD (w .m) k nan) x); least = set (w .least) k y }) (waitStep k w x)
 unfolding waitStep
 wait-lane w k x y h e =
-    ap (λ (z : Float). record { m = set (w .m) k (mul binary64 (getD (w .m) k nan) x); least = set (w .least) k z }) e
-    ∙ ap (λ (z : Float). record { m = set (w .m) k z; least = set (w .least) k (lesser x (getD (w .least) k nan)) }) (mul-binary64 (getD (w .m) k nan) x)
-    ∙ ap (λ (j : ℕ). record { m = set (w .m) j (productOf 11 52 (getD (w .m) j nan) x); least = set (w .least) j (lesser x (getD (w .least) j nan)) }) (sym (mod-eq-of-lt h))
+    ap (λ (z : Float). record { m = set (w .m) k (mul binary64 (getD (w .m) k nan) x); least = set (w .least) k z }) (e ∙ ap (λ (z : Float). lesser z (getD (w .least) k nan)) (mul-binary64 x x))
+    ∙ ap (λ (z : Float). record { m = set (w .m) k z; least = set (w .least) k (lesser (square x) (getD (w .least) k nan)) }) (mul-binary64 (getD (w .m) k nan) x)
+    ∙ ap (λ (j : ℕ). record { m = set (w .m) j (productOf 11 52 (getD (w .m) j nan) x); least = set (w .least) j (lesser (square x) (getD (w .least) j nan)) }) (sym (mod-eq-of-lt h))
 
 -- ---- a row of one value more
 pub row-more : (xs : List Float) (s t : ℤ) (k : ℕ) (v : List Float) (place : ℤ) → v ≡ rowOf (strided xs s t k) → place ≡ s +ℤ t *ℤ pos k
@@ -163,10 +177,10 @@ row-more xs s t k v place p e =
 
 -- ---- a row by its test
 module _ (s : Lanes) (row : List Float) where
-  pub guarded-inside : every inBounds row ≡ true → feed unsplitStep 0 s row ≡ guarded s row
+  pub guarded-inside : every inBand row ≡ true → feed unsplitStep 0 s row ≡ guarded s row
   unfolding guarded
   guarded-inside h = sym (ap (λ (t : Bool). cond t (feed unsplitStep 0 s row) (feed splitStep 0 s row)) h)
 
-  pub guarded-outside : every inBounds row ≡ false → feed splitStep 0 s row ≡ guarded s row
+  pub guarded-outside : every inBand row ≡ false → feed splitStep 0 s row ≡ guarded s row
   unfolding guarded
   guarded-outside h = sym (ap (λ (t : Bool). cond t (feed unsplitStep 0 s row) (feed splitStep 0 s row)) h)

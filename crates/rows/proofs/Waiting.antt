@@ -1,4 +1,4 @@
--- Lanes that wait: after at most 512 values that passed the test of the least, either every lane waits for its factor and no value was bad, or a lane is an
+-- Lanes that wait: after at most 512 values whose squares passed the test of the least, either every lane waits for its factor and no value was bad, or a lane is an
 -- infinity or a NaN, which it stays. Assumes nothing.
 use Prim.Native.Nat.{ℕ, zero, suc, _+_, _-_, _*_, _/_, _≤_, _<_}
 use mathlib.Core.Path.{_≡_, refl, sym, ap, _∙_, subst}
@@ -22,9 +22,10 @@ use Rattle.kernels.specs.Pieces.{Rate}
 use Rattle.kernels.proofs.Feeding.{and-both}
 use Rattle.kernels.proofs.Factors.{lane-lt, set-cases}
 use Rattle.kernels.proofs.Blocking.{count}
-use Rattle.kernels.proofs.Least.{least-good, least-lesser}
+use Rattle.kernels.proofs.Least.{least-lesser}
 use Rattle.rows.specs.declared.row.Waiting.{Waiting}
-use Rattle.rows.specs.Waiting.{lesser, waitStep, LEAST, notBelow, notPast}
+use Rattle.rows.specs.Waiting.{square, lesser, waitStep, notBelow, notPast}
+use Rattle.rows.proofs.Squares.{square-least, square-nan}
 use Rattle.rows.proofs.Waits.{Waits, waits-more, waits-times, waits-rate}
 
 -- ---- lanes
@@ -73,28 +74,22 @@ lost-feed i w [] h = h
 lost-feed i w (x ∷ xs) h = lost-feed (suc i) (waitStep i w x) xs (lost-step i w x h)
 
 -- ---- one value
--- not below 2^-15, or a NaN
+-- its square is not below 2^-29, or a NaN
 pub record Guarded (x : Float) : Type 0 where
   pub value : T (fits binary64 x)
-  pub from : (notBelow x ≡ true) ⊎ (isNan x ≡ true)
+  pub from : (notBelow (square x) ≡ true) ⊎ (isNan (square x) ≡ true)
 
-nan-lost : (y : Float) → isNan y ≡ true → isLost y ≡ true
-unfolding isNan
-nan-lost nan e = refl
-nan-lost (inf s) e = refl
-nan-lost (fin s m d) e = absurd (true≢false (sym e))
-
--- a NaN and plus infinity are lost; any other is a rate that waits
+-- a NaN and an infinity are lost; any other is a rate that waits
 guard-cases : (x : Float) → Guarded x → (Rate x × Waits 15 x (pos 0) (rate x)) ⊎ (isLost x ≡ true)
 guard-cases x g = go (g .from)
   where
-    good : (x ≡ inf false) ⊎ ((isBad x ≡ false) × (leZ (negsuc 14) (rate x .exp) ≡ true)) → (Rate x × Waits 15 x (pos 0) (rate x)) ⊎ (isLost x ≡ true)
-    good (inl e) = inr (ap isLost e)
+    good : (isLost x ≡ true) ⊎ ((isBad x ≡ false) × (leZ (negsuc 14) (rate x .exp) ≡ true)) → (Rate x × Waits 15 x (pos 0) (rate x)) ⊎ (isLost x ≡ true)
+    good (inl e) = inr e
     good (inr p) = inl (record { value = g .value; good = p .0 }, waits-rate 14 x (g .value) (p .0) (p .1))
 
-    go : (notBelow x ≡ true) ⊎ (isNan x ≡ true) → (Rate x × Waits 15 x (pos 0) (rate x)) ⊎ (isLost x ≡ true)
-    go (inl h) = good (least-good 14 (lit≤ tt) x (g .value) h)
-    go (inr h) = inr (nan-lost x h)
+    go : (notBelow (square x) ≡ true) ⊎ (isNan (square x) ≡ true) → (Rate x × Waits 15 x (pos 0) (rate x)) ⊎ (isLost x ≡ true)
+    go (inl h) = good (square-least x (g .value) h)
+    go (inr h) = inr (square-nan x h)
 
 turn-room : (i : ℕ) → 15 * count (laneOf i) i + 15 ≡ 15 * count (laneOf i) (suc i)
 turn-room i = omega arith
@@ -186,16 +181,16 @@ every-at p [] k d h e = absurd (omega arith)
 every-at p (x ∷ l) zero d h e = and-both (p x) (every p l) e .0
 every-at p (x ∷ l) (suc k) d h e = every-at p l k d (omega arith) (and-both (p x) (every p l) e .1)
 
--- if no lane's least is below 2^-15 at the end, each value passed, and none was below at the start
+-- if no lane's least is below 2^-29 at the end, each square passed, and none was below at the start
 pub guards : (i : ℕ) (w : Waiting) {xs : List Float} → Each (λ (x : Float). T (fits binary64 x)) xs → length (w .least) ≡ 8 → every notBelow (feed waitStep i w xs .least) ≡ true → (every notBelow (w .least) ≡ true) × Each Guarded xs
 unfolding feed waitStep
 guards i w none h e = (e, none)
 guards i w (more {x = x} {xs = xs} v vs) h e =
     let j = laneOf i in
     let a = getD (w .least) j nan in
-    let r = guards (suc i) (waitStep i w x) vs (length-set (w .least) j (lesser x a) ∙ h) e in
-    let s = every-set notBelow (w .least) j (lesser x a) nan (subst (λ (n : ℕ). j < n) (sym h) (lane-lt i)) (r .0) in
-    let b = least-lesser 14 x a (s .0) in
+    let r = guards (suc i) (waitStep i w x) vs (length-set (w .least) j (lesser (square x) a) ∙ h) e in
+    let s = every-set notBelow (w .least) j (lesser (square x) a) nan (subst (λ (n : ℕ). j < n) (sym h) (lane-lt i)) (r .0) in
+    let b = least-lesser 28 (square x) a (s .0) in
     (s .1 (b .0), more (record { value = v; from = b .1 }) (r .1))
 
 -- what is not past 2^1000 is a number

@@ -10,7 +10,7 @@ use Rattle.binary64.specs.Splitting.{split}
 use Rattle.accumulator.specs.declared.StableProductFloatAcc.{StableProductFloatAcc}
 use Rattle.kernels.specs.declared.blocks.Lanes.{Lanes}
 use Rattle.kernels.specs.Lanes.{feed, laneOf, inOrder, every}
-use Rattle.kernels.specs.Blocks.{mOf, eOf, unsplitStep, splitStep, inBounds}
+use Rattle.kernels.specs.Blocks.{eOf, unsplitStep, splitStep}
 use Rattle.rows.specs.declared.row.Waiting.{Waiting}
 
 abbrev pub one : Float
@@ -27,18 +27,22 @@ rowOf xs = feed put 0 (replicate 8 one) xs
 abbrev pub lesser : Float → Float → Float
 lesser x y = cond (lt x y) x y
 
--- value i goes to lane i mod 8: multiplied in unsplit, and the least value of the lane is kept
+-- the size of a value, whatever its sign
+abbrev pub square : Float → Float
+square x = productOf 11 52 x x
+
+-- value i goes to lane i mod 8: multiplied in unsplit, and the least square of the lane's values is kept
 unfoldable pub waitStep : ℕ → Waiting → Float → Waiting
 waitStep i w x =
     let k = laneOf i in
-    record { m = set (w .m) k (productOf 11 52 (getD (w .m) k nan) x); least = set (w .least) k (lesser x (getD (w .least) k nan)) }
+    record { m = set (w .m) k (productOf 11 52 (getD (w .m) k nan) x); least = set (w .least) k (lesser (square x) (getD (w .least) k nan)) }
 
--- 2^-15: 64 values from there on, multiplied into a lane in [1, 2), stay normal
+-- A square from 2^-29 on is that of a value from 2^-15 on: 64 of them, multiplied into a lane in [1, 2), stay normal.
 abbrev pub LEAST : Float
-LEAST = fin false 1 (negsuc 14)
+LEAST = fin false 1 (negsuc 28)
 
 abbrev pub notBelow : Float → Bool
-notBelow x = le LEAST x
+notBelow y = le LEAST y
 
 -- not infinite, not a NaN: no more than 2^1000 either way
 abbrev pub MOST : Float
@@ -55,9 +59,13 @@ chained ms = inOrder (λ (k : ℕ) (p : Float). productOf 11 52 p (getD ms k nan
 unfoldable pub exponentsOf : Lanes → ℤ
 exponentsOf s = inOrder (λ (k : ℕ) (e : ℤ). e +ℤ eOf s k) 8 (pos 0)
 
--- a row multiplied unsplit if every magnitude of it lies in the bounds of a block, else split
+-- a value whose square lies in 2^-239 to 2^239: its magnitude lies in the bounds of a block
+abbrev pub inBand : Float → Bool
+inBand x = le (fin false 1 (negsuc 238)) (square x) && le (square x) (fin false 1 (pos 239))
+
+-- a row multiplied unsplit if every value of it lies there, else split
 unfoldable pub guarded : Lanes → List Float → Lanes
-guarded s row = cond (every inBounds row) (feed unsplitStep 0 s row) (feed splitStep 0 s row)
+guarded s row = cond (every inBand row) (feed unsplitStep 0 s row) (feed splitStep 0 s row)
 
 -- the lanes multiplied in lane order and brought back to [1, 2), with their exponents and their mark
 unfoldable pub lanesProduct : Lanes → StableProductFloatAcc

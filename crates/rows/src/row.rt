@@ -7,15 +7,15 @@ ghost use mir.Val.{SFits};
 ghost use mir.Syntax.{w64};
 ghost use Rattle.kernels.specs.Lanes.{feed, every};
 ghost use Rattle.kernels.specs.Strided.{strided, Inside};
-ghost use Rattle.kernels.specs.Blocks.{unsplitStep, splitStep, inBounds, SmallLanes};
-ghost use Rattle.rows.specs.Waiting.{rowOf, lesser, waitStep, notBelow, notPast, chained, guarded};
+ghost use Rattle.kernels.specs.Blocks.{unsplitStep, splitStep, SmallLanes};
+ghost use Rattle.rows.specs.Waiting.{rowOf, lesser, waitStep, notBelow, notPast, chained, inBand, guarded};
 use accumulator::StableProductFloatAcc;
 use kernels::blocks::Lanes;
 
 const LANES: usize = StableProductFloatAcc::LANES;
 
-// 2^-15 and 2^1000.
-const LEAST: f64 = 0.000030517578125;
+// 2^-29 and 2^1000.
+const LEAST: f64 = 0.00000000186264514923095703125;
 
 const MOST: f64 = 1.0715086071862673e301;
 
@@ -23,7 +23,12 @@ pub struct Row {
     pub v: [f64; LANES],
 }
 
-// Lanes multiplied unsplit, beside the least value that each has met.
+// 2^-239 and 2^239.
+const BAND_LO: f64 = 1.131959884853339e-72;
+
+const BAND_HI: f64 = 8.834235323891922e71;
+
+// Lanes multiplied unsplit, beside the least square of the values that each has met.
 pub struct Waiting {
     pub m: [f64; LANES],
     pub least: [f64; LANES],
@@ -71,13 +76,13 @@ pub fn wait_row(w: Waiting, row: Row) -> Waiting
     while k < LANES {
         let x = row.v[k];
         t.m[k] = t.m[k] * x;
-        t.least[k] = lesser(x, t.least[k]);
+        t.least[k] = lesser(x * x, t.least[k]);
         k += 1;
     }
     t
 }
 
-// No value that a lane has met is below 2^-15.
+// No square that a lane has met is below 2^-29.
 pub fn none_below(w: Waiting) -> bool
     requires { ⌜ length (w .least) ≡ 8 ⌝ }
     ensures { λ r. ⌜ r ≡ every notBelow (w .least) ⌝ }
@@ -125,14 +130,22 @@ pub fn chain(row: Row) -> f64
     p
 }
 
-fn row_in_bounds(row: Row) -> bool
+// The value's square lies in 2^-239 to 2^239.
+fn in_band(x: f64) -> bool
+    ensures { λ r. ⌜ r ≡ inBand x ⌝ }
+{
+    let y = x * x;
+    (BAND_LO <= y) & (y <= BAND_HI)
+}
+
+fn row_in_band(row: Row) -> bool
     requires { ⌜ length (row .v) ≡ 8 ⌝ }
-    ensures { λ r. ⌜ r ≡ every inBounds (row .v) ⌝ }
+    ensures { λ r. ⌜ r ≡ every inBand (row .v) ⌝ }
 {
     let mut ok = true;
     let mut k: usize = 0;
     while k < LANES {
-        ok = ok & kernels::blocks::in_bounds(row.v[k]);
+        ok = ok & in_band(row.v[k]);
         k += 1;
     }
     ok
@@ -164,12 +177,12 @@ fn split_row(s: Lanes, row: Row) -> Lanes
     t
 }
 
-// A row with a magnitude outside the bounds of a block is split, any other multiplied as it is.
+// A row with a value outside the band is split, any other multiplied as it is.
 pub fn guarded_row(s: Lanes, row: Row) -> Lanes
     requires { ⌜ SmallLanes (2 ^ 59) s × (length (s .m) ≡ 8) × (length (row .v) ≡ 8) ⌝ }
     ensures { λ r. ⌜ r ≡ guarded s (row .v) ⌝ }
 {
-    if row_in_bounds(row) {
+    if row_in_band(row) {
         return unsplit_row(s, row);
     }
     split_row(s, row)

@@ -5,8 +5,8 @@ use Rattle.rows.proofs.Rowwise.{guarded-inside, guarded-outside}
 use Rattle.rows.proofs.row.guarded_row.Statement.{statement}
 use Rattle.rows.proofs.row.guarded_row.Tie as tie
 
-row-in-bounds-requires : tie.Need-row-in-bounds-requires
-row-in-bounds-requires c κs = search needs
+row-in-band-requires : tie.Need-row-in-band-requires
+row-in-band-requires c κs = search needs
 
 unsplit-row-requires : tie.Need-unsplit-row-requires
 unsplit-row-requires c κs = search needs
@@ -14,7 +14,7 @@ unsplit-row-requires c κs = search needs
 returns : tie.Need-returns
 returns c =
     let s = c .before .before .before .args in
-    let b = c .before .before .row-in-bounds in
+    let b = c .before .before .row-in-band in
     c .unsplit-row .ensures ∙ guarded-inside (s .s) (s .row .v) (sym (b .ensures) ∙ c .before .if1 .taken)
 
 split-row-requires : tie.Need-split-row-requires
@@ -23,10 +23,10 @@ split-row-requires c κs = search needs
 returns-2 : tie.Need-returns-2
 returns-2 c =
     let s = c .before .before .before .args in
-    let b = c .before .before .row-in-bounds in
+    let b = c .before .before .row-in-band in
     c .split-row .ensures ∙ guarded-outside (s .s) (s .row .v) (sym (b .ensures) ∙ c .before .if1 .left)
 
 pub guarded-row-spec : {M : Type 1} → statement M
 guarded-row-spec =
     tie.close
-    (tie.spec row-in-bounds-requires unsplit-row-requires returns split-row-requires returns-2)
+    (tie.spec row-in-band-requires unsplit-row-requires returns split-row-requires returns-2)
