@@ -100,6 +100,20 @@ inside-all len = record { least = λ i l. low i; most = λ i l. high i l }
     high : (i : ℕ) → i < len → (pos 0 +ℤ pos 1 *ℤ pos i) <ℤ pos len
     high i = simp ints (simp atoms (omega arith))
 
+module _ (len at : ℕ) (z : ℤ) (n : ℕ) (i : Inside len z (pos 1) n) (some : 1 ≤ n) (e : natAbs z ≡ at) where
+  pub at-first : z ≡ pos at
+  at-first = go z (first-natural len z (pos 1) n i some) e
+    where
+      go : (y : ℤ) → T (nonNeg y) → natAbs y ≡ at → y ≡ pos at
+      go (pos k) t q = ap pos q
+      go (negsuc k) t q = absurd t
+
+  pub at-last : at + n ≤ len
+  at-last = go (subst (λ (y : ℤ). (y +ℤ pos 1 *ℤ pos (n - 1)) <ℤ pos len) at-first (i .most (n - 1) (omega arith))) some
+    where
+      go : (pos at +ℤ pos 1 *ℤ pos (n - 1)) <ℤ pos len → 1 ≤ n → at + n ≤ len
+      go = simp ints (simp atoms (omega arith))
+
 -- the lanes of at most 2^40 values are far from the ends of i64
 pub strided-small : (xs : List Float) (start stride : ℤ) (n : ℕ) → n ≤ 2 ^ 40 → SmallAccs (2 ^ 52) (steppedLanes (strided xs start stride n))
 strided-small xs start stride n h = accs-le (1025 * length (strided xs start stride n)) (2 ^ 52) (steppedLanes (strided xs start stride n)) (rw (length-strided xs start stride n) (omega arith)) (accs-all (strided xs start stride n))

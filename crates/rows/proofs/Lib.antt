@@ -8,3 +8,4 @@ pub mod Chaining
 pub mod Guarding
 pub mod Feds
 pub mod Shorts
+pub mod Stepping

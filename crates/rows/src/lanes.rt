@@ -1,12 +1,13 @@
 // The lanes of a piece, many rows at a time.
 ghost use mathlib.Core.Path.{_≡_};
-ghost use mathlib.Core.Bool.{true};
+ghost use mathlib.Core.Logic.{_⊎_};
 ghost use Prim.Native.Nat.{_*_, _^_, _≤_, min};
 ghost use lib.ListN.{length};
 ghost use Rattle.kernels.specs.Lanes.{feed};
 ghost use Rattle.kernels.specs.Strided.{strided, Inside};
 ghost use Rattle.kernels.specs.Blocks.{startLanes, SmallLanes};
 ghost use Rattle.kernels.specs.Standing.{Fed};
+ghost use Rattle.rows.specs.Steps.{Stepped, Progress, holdAfter};
 ghost use Rattle.rows.specs.Waiting.{waitStep, startWaiting, exponentsOf, lanesProduct};
 use crate::row::Row;
 use crate::row::Waiting;
@@ -15,15 +16,17 @@ use kernels::blocks::Lanes;
 
 const LANES: usize = StableProductFloatAcc::LANES;
 
-// Rows that lanes wait for at most, and rows of a block of 64 values.
+// Rows that lanes wait for at most, the values of a block, and blocks from a failed try to the next.
 const MOST_ROWS: usize = 64;
 
-const BLOCK_ROWS: usize = StableProductFloatAcc::BLOCK / LANES;
+const BLOCK: usize = StableProductFloatAcc::BLOCK;
 
-// Lanes, if they could be had.
-pub struct Tried {
-    pub ok: bool,
+const HOLD: usize = 16;
+
+// Lanes that wait to be brought back, and how many values went to them.
+pub struct Step {
     pub lanes: Lanes,
+    pub done: usize,
 }
 
 pub fn start_waiting(s: Lanes) -> Waiting
@@ -44,7 +47,7 @@ pub fn wait_rows(w: Waiting, values: &[f64], start: i64, stride: i64, rows: usiz
     let mut at = start;
     let mut i: usize = 0;
     while i < rows {
-        let row = crate::row::row_of(values, at, stride, LANES);
+        let row = crate::row::full_row(values, at, stride);
         t = crate::row::wait_row(t, row);
         i += 1;
         if i < rows {
@@ -54,42 +57,43 @@ pub fn wait_rows(w: Waiting, values: &[f64], start: i64, stride: i64, rows: usiz
     t
 }
 
-// Up to 64 rows that wait. They count only if no value was below 2^-15 and no lane is infinite or a NaN.
-fn tried_rows(s: Lanes, values: &[f64], start: i64, stride: i64, rows: usize) -> Tried
-    requires { ⌜ SmallLanes (2 ^ 59) s × (length (s .m) ≡ 8) × (rows ≤ 64) × Inside (length (now values)) start stride (8 * rows) ⌝ }
-    ensures { λ r. ⌜ (r .ok ≡ true → Fed s (strided (now (values .entry)) start stride (8 * rows)) (r .lanes)) ⌝ }
+// Up to 64 rows that wait. They count only if no square was below 2^-29 and no lane is infinite or a NaN; else nothing is done.
+fn tried(s: Lanes, values: &[f64], start: i64, stride: i64, rows: usize) -> Step
+    requires { ⌜ SmallLanes (2 ^ 56) s × (length (s .m) ≡ 8) × (rows ≤ 64) × Inside (length (now values)) start stride (8 * rows) ⌝ }
+    ensures { λ r. ⌜ Stepped s (strided (now (values .entry)) start stride (r .done)) (r .lanes) ⌝ }
+    ensures done { λ r. ⌜ (r .done ≡ 8 * rows) ⊎ (r .done ≡ 0) ⌝ }
 {
     let w = wait_rows(start_waiting(s), values, start, stride, rows);
     if crate::row::none_below(w) & crate::row::none_past(w) {
         let m = w.m;
         let e = s.e;
         let bad = s.bad;
-        let lanes = kernels::blocks::stable_renorm(Lanes { m, e, bad });
-        return Tried { ok: true, lanes };
+        return Step {
+            lanes: Lanes { m, e, bad },
+            done: LANES * rows,
+        };
     }
-    Tried {
-        ok: false,
-        lanes: s,
-    }
+    Step { lanes: s, done: 0 }
 }
 
 // Up to a block of 64 values, a row split where it must be.
-fn guarded_rows(s: Lanes, values: &[f64], start: i64, stride: i64, rows: usize) -> Lanes
-    requires { ⌜ SmallLanes (2 ^ 58) s × (length (s .m) ≡ 8) × (rows ≤ 8) × Inside (length (now values)) start stride (8 * rows) ⌝ }
-    ensures { λ r. ⌜ Fed s (strided (now (values .entry)) start stride (8 * rows)) r ⌝ }
+fn guarded(s: Lanes, values: &[f64], start: i64, stride: i64, len: usize) -> Lanes
+    requires { ⌜ SmallLanes (2 ^ 56) s × (length (s .m) ≡ 8) × (len ≤ 64) × Inside (length (now values)) start stride len ⌝ }
+    ensures { λ r. ⌜ Stepped s (strided (now (values .entry)) start stride len) r ⌝ }
 {
+    let rows = (len + 7) / LANES;
     let mut t = s;
     let mut at = start;
     let mut i: usize = 0;
     while i < rows {
-        let row = crate::row::row_of(values, at, stride, LANES);
+        let row = crate::row::some_row(values, at, stride, len - LANES * i);
         t = crate::row::guarded_row(t, row);
         i += 1;
         if i < rows {
             at += stride * 8;
         }
     }
-    kernels::blocks::stable_renorm(t)
+    t
 }
 
 fn least(a: usize, b: usize) -> usize
@@ -98,49 +102,52 @@ fn least(a: usize, b: usize) -> usize
     if a < b { a } else { b }
 }
 
-// All the rows. After a try that failed, eight blocks are guarded before the next.
-fn whole_rows(values: &[f64], start: i64, stride: i64, rows: usize) -> Lanes
-    requires { ⌜ (rows ≤ 2 ^ 37) × Inside (length (now values)) start stride (8 * rows) ⌝ }
-    ensures { λ r. ⌜ Fed startLanes (strided (now (values .entry)) start stride (8 * rows)) r ⌝ }
+// The next rows of a piece: a try, unless one failed a short while ago.
+fn next_step(s: Lanes, values: &[f64], at: i64, stride: i64, left: usize, hold: usize) -> Step
+    requires { ⌜ SmallLanes (2 ^ 56) s × (length (s .m) ≡ 8) × (left ≤ 2 ^ 40) × Inside (length (now values)) at stride left ⌝ }
+    ensures { λ r. ⌜ Stepped s (strided (now (values .entry)) at stride (r .done)) (r .lanes) ⌝ }
+    ensures done { λ r. ⌜ Progress left hold (r .done) ⌝ }
 {
-    let mut s = kernels::blocks::start_lanes();
-    let mut i: usize = 0;
-    let mut held: usize = 0;
-    while i < rows {
-        let at = crate::row::place(start, stride, LANES * i);
-        if held == 0 {
-            let n = least(MOST_ROWS, rows - i);
-            let t = tried_rows(s, values, at, stride, n);
-            if t.ok {
-                s = t.lanes;
-                i += n;
-            } else {
-                held = 8;
-            }
-        } else {
-            let n = least(BLOCK_ROWS, rows - i);
-            s = guarded_rows(s, values, at, stride, n);
-            held -= 1;
-            i += n;
+    if hold == 0 {
+        if LANES <= left {
+            let n = least(MOST_ROWS, left / LANES);
+            return tried(s, values, at, stride, n);
         }
     }
-    s
+    let done = least(BLOCK, left);
+    let lanes = guarded(s, values, at, stride, done);
+    Step { lanes, done }
 }
 
-// The lanes of a whole piece: its rows, and then the values that are left.
+// After a try that failed, so many blocks are guarded before the next.
+fn next_hold(hold: usize, done: usize) -> usize
+    ensures { λ r. ⌜ r ≡ holdAfter hold done ⌝ }
+{
+    if done == 0 {
+        return HOLD;
+    }
+    if hold == 0 {
+        return 0;
+    }
+    hold - 1
+}
+
+// The lanes of a whole piece.
 pub fn fed_lanes(values: &[f64], start: i64, stride: i64, len: usize) -> Lanes
     requires { ⌜ (len ≤ 2 ^ 40) × Inside (length (now values)) start stride len ⌝ }
     ensures { λ r. ⌜ Fed startLanes (strided (now (values .entry)) start stride len) r ⌝ }
 {
-    let rows = len / LANES;
-    let s = whole_rows(values, start, stride, rows);
-    if len % LANES == 0 {
-        return s;
+    let mut s = kernels::blocks::start_lanes();
+    let mut i: usize = 0;
+    let mut hold: usize = 0;
+    while i < len {
+        let at = crate::row::place(start, stride, i);
+        let t = next_step(s, values, at, stride, len - i, hold);
+        s = kernels::blocks::stable_renorm(t.lanes);
+        hold = next_hold(hold, t.done);
+        i += t.done;
     }
-    let at = crate::row::place(start, stride, LANES * rows);
-    let row = crate::row::row_of(values, at, stride, len % LANES);
-    let t = crate::row::guarded_row(s, row);
-    kernels::blocks::stable_renorm(t)
+    s
 }
 
 fn exponents(s: Lanes) -> i64

@@ -1,11 +1,11 @@
 // A row: eight values, one for each lane.
 ghost use mathlib.Core.Path.{_≡_};
-ghost use Prim.Native.Nat.{_*_, _^_, _≤_};
+ghost use Prim.Native.Nat.{_+_, _*_, _^_, _≤_, min};
 ghost use lib.ListN.{length};
 ghost use lib.IntN.{pos, _+ℤ_, _*ℤ_};
 ghost use mir.Val.{SFits};
 ghost use mir.Syntax.{w64};
-ghost use Rattle.kernels.specs.Lanes.{feed, every};
+ghost use Rattle.kernels.specs.Lanes.{feed, window, every};
 ghost use Rattle.kernels.specs.Strided.{strided, Inside};
 ghost use Rattle.kernels.specs.Blocks.{unsplitStep, splitStep, SmallLanes};
 ghost use Rattle.rows.specs.Waiting.{rowOf, lesser, waitStep, notBelow, notPast, chained, inBand, guarded};
@@ -59,6 +59,42 @@ pub fn row_of(values: &[f64], at: i64, stride: i64, n: usize) -> Row
         }
     }
     r
+}
+
+// Eight values that lie side by side.
+fn row_at(values: &[f64], at: usize) -> Row
+    requires { ⌜ at + 8 ≤ length (now values) ⌝ }
+    ensures { λ r. ⌜ r .v ≡ window (now (values .entry)) at 8 ⌝ }
+{
+    let mut r = Row { v: [1.0; LANES] };
+    let mut k: usize = 0;
+    while k < LANES {
+        r.v[k] = values[at + k];
+        k += 1;
+    }
+    r
+}
+
+// Eight values of a piece. Those at stride 1 are read without a place for each.
+pub fn full_row(values: &[f64], at: i64, stride: i64) -> Row
+    requires { ⌜ Inside (length (now values)) at stride 8 ⌝ }
+    ensures { λ r. ⌜ r .v ≡ strided (now (values .entry)) at stride 8 ⌝ }
+{
+    if stride == 1 {
+        return row_at(values, at as usize);
+    }
+    row_of(values, at, stride, LANES)
+}
+
+// The next row of a piece of which `left` values are left.
+pub fn some_row(values: &[f64], at: i64, stride: i64, left: usize) -> Row
+    requires { ⌜ Inside (length (now values)) at stride left ⌝ }
+    ensures { λ r. ⌜ r .v ≡ rowOf (strided (now (values .entry)) at stride (min 8 left)) ⌝ }
+{
+    if left < LANES {
+        return row_of(values, at, stride, left);
+    }
+    full_row(values, at, stride)
 }
 
 fn lesser(x: f64, y: f64) -> f64

@@ -1,9 +1,11 @@
--- `rows::lanes::fed_lanes` meets its contract: the whole rows, and the values that are left as a row with 1.0 after them. Assumes nothing.
-use Prim.Native.Nat.{ℕ, _+_, _-_, _*_, _/_, _%_, _^_, _≤_, _<_}
+-- `rows::lanes::fed_lanes` meets its contract. The loop's invariant: the lanes are what the first i values make of them, and these are whole rows or all. Assumes nothing.
+use Prim.Native.Nat.{ℕ, zero, suc, _+_, _-_, _*_, _%_, _^_, _≤_, _<_}
 use mathlib.Core.Path.{_≡_, refl, sym, ap, _∙_, subst}
-use mathlib.Core.List.{List, _++_}
+use mathlib.Core.List.{List, []}
+use mathlib.Core.Logic.{_⊎_, inl, inr}
 use native.Mathlib.Omega.{arith}
-use lib.ListN.{length, replicate}
+use native.Mathlib.Nat.{zero-add}
+use lib.ListN.{length}
 use lib.IntN.{ℤ, pos, _+ℤ_, _*ℤ_}
 use lib.Dec.{lit≤}
 use lib.Ieee.{Float}
@@ -12,137 +14,164 @@ use mir.ValLaws.{toZ-ofZ}
 use mir.Syntax.{w64}
 use borrow.Author.Needs.{needs}
 use Rattle.kernels.specs.declared.blocks.Lanes.{Lanes}
-use Rattle.kernels.specs.Lanes.{Each}
 use Rattle.kernels.specs.Strided.{strided, Inside}
 use Rattle.kernels.specs.Blocks.{startLanes, renorm, SmallLanes}
 use Rattle.kernels.specs.Standing.{Fed}
-use Rattle.kernels.proofs.Striding.{length-strided}
 use Rattle.kernels.proofs.LaneSizes.{lanes-le}
-use Rattle.kernels.proofs.Blocking.{Value}
-use Rattle.rows.specs.Waiting.{one, rowOf, padded, guarded}
+use Rattle.rows.specs.Steps.{Stepped, Progress, holdAfter}
 use Rattle.rows.proofs.Rowwise.{inside-part, place-fits, step-fits}
-use Rattle.rows.proofs.Rows.{row-long, row-padded, inside-less, rest-padded}
-use Rattle.rows.proofs.Guarding.{fed-row, guarded-small}
-use Rattle.rows.proofs.Feds.{fed-append, fed-pad, fed-eight, rows-small, strided-values}
-use Rattle.rows.proofs.Shorts.{padded-values}
+use Rattle.rows.proofs.Feds.{fed-none, fed-eight, rows-small}
+use Rattle.rows.proofs.Stepping.{fed-step}
 use Rattle.rows.proofs.lanes.fed_lanes.Statement.{statement}
 use Rattle.rows.proofs.lanes.fed_lanes.Tie as tie
 use Rattle.rows.proofs.lanes.fed_lanes.Reads as reads
 use Rattle.rows.proofs.lanes.fed_lanes.Lts as lts
 use Rattle.kernels.proofs.blocks.stable_renorm.Reads as stable-renorm-reads
-use Rattle.rows.proofs.lanes.whole_rows.Reads as whole-rows-reads
-use Rattle.rows.proofs.row.guarded_row.Reads as guarded-row-reads
+use Rattle.kernels.proofs.blocks.start_lanes.Reads as start-lanes-reads
+use Rattle.rows.proofs.lanes.next_hold.Reads as next-hold-reads
+use Rattle.rows.proofs.lanes.next_step.Reads as next-step-reads
 use Rattle.rows.proofs.row.place.Reads as place-reads
-use Rattle.rows.proofs.row.row_of.Reads as row-of-reads
 
-whole-rows-requires : tie.Need-whole-rows-requires
-whole-rows-requires c κs =
-    let s = c .before in
-    simp (toZ-ofZ w64 (s .args .start) (s .fits .start), toZ-ofZ w64 (s .args .stride) (s .fits .stride))
-    (let h = s .pre .0 in omega arith, inside-less (length (s .args .values .now)) (s .args .start) (s .args .stride) (s .args .len) (8 * (s .args .len / 8)) (s .pre .1) (omega arith))
+abbrev Inv-loop : tie.InvT-loop
+Inv-loop values start stride len s₀ i₀ hold₀ s i hold = (i ≤ len) × ((i % 8 ≡ 0) ⊎ (i ≡ len)) × Fed startLanes (strided values (toZ w64 start) (toZ w64 stride) i) s
 
--- the whole rows
-rows : (c : tie.After-whole-rows) → let s = c .before .before in Fed startLanes (strided (s .args .values .now) (s .args .start) (s .args .stride) (8 * (s .args .len / 8))) (c .whole-rows .result)
-rows c =
-    let s = c .before .before in
-    simp (toZ-ofZ w64 (s .args .start) (s .fits .start), toZ-ofZ w64 (s .args .stride) (s .fits .stride)) at (c .whole-rows .ensures)
+-- a try that fails takes no value, but the room for another try
+abbrev μ-loop : tie.MeasureT-loop
+μ-loop values start stride len s₀ i₀ hold₀ s i hold = 2 * (len - i) + (1 - hold)
 
-returns : tie.Need-returns
-returns c =
-    let w = c .before in
-    let s = w .before .before in
-    let l = c .if1 .taken in
-    subst (λ (n : ℕ). Fed startLanes (strided (s .args .values .now) (s .args .start) (s .args .stride) n) (w .whole-rows .result)) (let z : 8 * (s .args .len / 8) ≡ s .args .len = omega arith in z) (rows w)
+start-lanes-requires : tie.Need-start-lanes-requires Inv-loop μ-loop
+start-lanes-requires c κs = search needs
 
-mul-place : tie.Need-mul-place
-mul-place c = let h = c .before .before .before .pre .0 in omega arith
+loop-holds : tie.Need-loop-holds Inv-loop μ-loop
+unfolding strided
+loop-holds c = (omega arith, inl refl, subst (Fed startLanes []) (sym (c .start-lanes .ensures)) (fed-none startLanes))
 
-place-requires : tie.Need-place-requires
+-- what is required, of the numbers as the code holds them
+inside : (c : tie.In-loop Inv-loop μ-loop) → let s = c .before .before .before .before in Inside (length (s .args .values .now)) (toZ w64 (ofZ w64 (s .args .start))) (toZ w64 (ofZ w64 (s .args .stride))) (s .args .len)
+inside c = let s = c .before .before .before .before in simp (toZ-ofZ w64 (s .args .start) (s .fits .start), toZ-ofZ w64 (s .args .stride) (s .fits .stride)) (s .pre .1)
+
+place-requires : tie.Need-place-requires Inv-loop μ-loop
 place-requires c κs =
+    let s = c .before .before .before .before in
+    let h = s .pre .0 in
+    let l = c .loop-test .taken in
+    let n = length (s .args .values .now) in
+    let b = toZ w64 (ofZ w64 (s .args .start)) in
+    let d = toZ w64 (ofZ w64 (s .args .stride)) in
+    (omega arith, step-fits n b d (s .args .len) (inside c) (c .before .loop .i) l (omega (arith, s .good .0 .1)), place-fits n b d (s .args .len) (inside c) (c .before .loop .i) l (omega (arith, s .good .0 .1)))
+
+-- the place of the next value, as the code holds it
+here : (c : tie.After-place Inv-loop μ-loop) → let t = c .before .before in let s = t .before .before .before in toZ w64 (ofZ w64 (c .place .result)) ≡ toZ w64 (ofZ w64 (s .args .start)) +ℤ toZ w64 (ofZ w64 (s .args .stride)) *ℤ pos (t .loop .i)
+here c = toZ-ofZ w64 (c .place .result) (subst (SFits w64) (sym (c .place .ensures)) (place-requires (c .before) _ .2)) ∙ c .place .ensures
+
+sub-next-step : tie.Need-sub-next-step Inv-loop μ-loop
+sub-next-step c = let l = c .before .loop-test .taken in omega arith
+
+small : (c : tie.At-loop Inv-loop μ-loop) → SmallLanes (2 ^ 56) (c .loop .s)
+small c =
     let s = c .before .before .before in
-    let l = length (s .args .values .now) in
-    simp (toZ-ofZ w64 (s .args .start) (s .fits .start), toZ-ofZ w64 (s .args .stride) (s .fits .stride))
-    (omega (arith, s .pre .0), step-fits l (s .args .start) (s .args .stride) (s .args .len) (s .pre .1) (8 * (s .args .len / 8)) (omega (arith, c .if1 .left)) (omega (arith, s .good .0 .1)), place-fits l (s .args .start) (s .args .stride) (s .args .len) (s .pre .1) (8 * (s .args .len / 8)) (omega (arith, c .if1 .left)) (omega (arith, s .good .0 .1)))
+    rows-small (s .args .values .now) (toZ w64 (ofZ w64 (s .args .start))) (toZ w64 (ofZ w64 (s .args .stride))) (c .loop .i) (c .loop .s) (let h = s .pre .0 in let l = c .loop .inv .0 in omega arith) (c .loop .inv .2)
 
--- where the values that are left begin
-there : (c : tie.After-place) → let s = c .before .before .before .before in c .place .result ≡ s .args .start +ℤ s .args .stride *ℤ pos (8 * (s .args .len / 8))
-there c =
-    let s = c .before .before .before .before in
-    simp (toZ-ofZ w64 (s .args .start) (s .fits .start), toZ-ofZ w64 (s .args .stride) (s .fits .stride)) at (c .place .ensures)
-
-at-is : (c : tie.After-place) → let s = c .before .before .before .before in toZ w64 (ofZ w64 (c .place .result)) ≡ s .args .start +ℤ s .args .stride *ℤ pos (8 * (s .args .len / 8))
-at-is c =
-    let s = c .before .before .before .before in
-    toZ-ofZ w64 (c .place .result) (subst (SFits w64) (sym (there c)) (place-fits (length (s .args .values .now)) (s .args .start) (s .args .stride) (s .args .len) (s .pre .1) (8 * (s .args .len / 8)) (omega (arith, c .before .if1 .left)) (omega (arith, s .good .0 .1)))) ∙ there c
-
-row-of-requires : tie.Need-row-of-requires
-row-of-requires c κs =
-    let s = c .before .before .before .before in
-    let l = length (s .args .values .now) in
-    let n = s .args .len in (
-      omega arith,
-      subst (λ (z : ℤ). Inside l z (toZ w64 (ofZ w64 (s .args .stride))) (n % 8)) (sym (at-is c))
-          (subst (λ (z : ℤ). Inside l (s .args .start +ℤ s .args .stride *ℤ pos (8 * (n / 8))) z (n % 8)) (sym (toZ-ofZ w64 (s .args .stride) (s .fits .stride)))
-          (inside-part l (s .args .start) (s .args .stride) n (8 * (n / 8)) (n % 8) (s .pre .1) (omega arith))),
+next-step-requires : tie.Need-next-step-requires Inv-loop μ-loop
+next-step-requires c κs =
+    let t = c .before .before in
+    let s = t .before .before .before in
+    let l = c .before .loop-test .taken in
+    let h = s .pre .0 in
+    let n = length (s .args .values .now) in
+    let d = toZ w64 (ofZ w64 (s .args .stride)) in (
+      small t,
+      fed-eight _ (t .loop .s) (t .loop .inv .2),
+      (omega arith),
+      subst (λ (z : ℤ). Inside n z d (s .args .len - t .loop .i)) (sym (here c)) (inside-part n (toZ w64 (ofZ w64 (s .args .start))) d (s .args .len) (t .loop .i) (s .args .len - t .loop .i) (inside (c .before)) (omega arith)),
     )
 
-small : (c : tie.After-whole-rows) → SmallLanes (2 ^ 56) (c .whole-rows .result)
-small c = let s = c .before .before in let h = s .pre .0 in rows-small (s .args .values .now) (s .args .start) (s .args .stride) (8 * (s .args .len / 8)) (c .whole-rows .result) (omega arith) (rows c)
+stable-renorm-requires : tie.Need-stable-renorm-requires Inv-loop μ-loop
+stable-renorm-requires c κs = lanes-le (2 ^ 59) (2 ^ 60) (c .next-step .result .lanes) (lit≤ tt) (c .next-step .ensures .0 .small)
 
-guarded-row-requires : tie.Need-guarded-row-requires
-guarded-row-requires c κs =
-    let w = c .before .before .before in
-    (lanes-le (2 ^ 56) (2 ^ 59) (w .whole-rows .result) (lit≤ tt) (small w), fed-eight _ (w .whole-rows .result) (rows w), ap length (c .row-of .ensures) ∙ row-long _)
+next-hold-requires : tie.Need-next-hold-requires Inv-loop μ-loop
+next-hold-requires c κs = search needs
 
--- the row of the values that are left
-left : (c : tie.After-row-of) → let s = c .before .before .before .before .before in c .row-of .result .v ≡ rowOf (strided (s .args .values .now) (s .args .start +ℤ s .args .stride *ℤ pos (8 * (s .args .len / 8))) (s .args .stride) (s .args .len % 8))
-left c =
-    let s = c .before .before .before .before .before in
-    let n = s .args .len in
+add-i : tie.Need-add-i Inv-loop μ-loop
+add-i c =
+    let q = c .before .before .before in
+    let t = q .before .before .before in
+    let h = t .before .before .before .pre .0 in
+    let l = q .before .before .loop-test .taken in
+    let u = q .next-step .ensures .1 .upto in
+    omega arith
+
+-- less is left, or no room for another try
+less : (n i done hold k : ℕ) → i < n → done ≤ n - i → (0 < n - i → done ≡ 0 → hold ≡ 0) → k ≡ holdAfter hold done → 2 * (n - (i + done)) + (1 - k) < 2 * (n - i) + (1 - hold)
+unfolding holdAfter
+less n i zero hold k l u m e =
+    let z = m (omega arith) refl in
+    subst (λ (h : ℕ). 2 * (n - (i + 0)) + (1 - k) < 2 * (n - i) + (1 - h)) (sym z) (subst (λ (j : ℕ). 2 * (n - (i + 0)) + (1 - j) < 2 * (n - i) + (1 - 0)) (sym e) (omega arith))
+less n i (suc done) hold k l u m e = fewer (n - (i + suc done)) (n - i) (1 - k) (1 - hold) (omega arith) (at-most k)
+  where
+    fewer : (a b x y : ℕ) → a < b → x ≤ 1 → 2 * a + x < 2 * b + y
+    fewer a b x y p q = omega arith
+
+    at-most : (j : ℕ) → 1 - j ≤ 1
+    at-most j = omega arith
+
+loop-less : tie.Need-loop-less Inv-loop μ-loop
+loop-less c =
+    let q = c .before .before .before in
+    let t = q .before .before .before in
+    let p = q .next-step .ensures .1 in
+    less (t .before .before .before .args .len) (t .loop .i) (q .next-step .result .done) (t .loop .hold) (c .before .next-hold .result) (q .before .before .loop-test .taken) (p .upto) (p .moves) (c .before .next-hold .ensures)
+
+-- whole rows, or all: a row is left, so the rows before are whole
+rows-of : (n i done : ℕ) → (i % 8 ≡ 0) ⊎ (i ≡ n) → i < n → (i % 8 ≡ 0)
+rows-of n i done (inl e) l = e
+rows-of n i done (inr e) l = absurd (omega arith)
+
+rows-after : (n i done : ℕ) → i % 8 ≡ 0 → i < n → (done % 8 ≡ 0) ⊎ (done ≡ n - i) → ((i + done) % 8 ≡ 0) ⊎ (i + done ≡ n)
+rows-after n i done e l (inl d) = inl (omega arith)
+rows-after n i done e l (inr d) = inr (omega arith)
+
+loop-again : tie.Need-loop-again Inv-loop μ-loop
+loop-again c =
+    let r = c .before .before in
+    let q = r .before in
+    let p = q .before in
+    let t = p .before .before in
+    let s = t .before .before .before in
     let xs = s .args .values .now in
-    c .row-of .ensures
-    ∙ ap (λ (z : ℤ). rowOf (strided xs z (toZ w64 (ofZ w64 (s .args .stride))) (n % 8))) (at-is (c .before))
-    ∙ ap (λ (z : ℤ). rowOf (strided xs (s .args .start +ℤ s .args .stride *ℤ pos (8 * (n / 8))) z (n % 8))) (toZ-ofZ w64 (s .args .stride) (s .fits .stride))
+    let d = toZ w64 (ofZ w64 (s .args .stride)) in
+    let l = p .before .loop-test .taken in
+    let g = q .next-step .ensures .1 in
+    let w = rows-of (s .args .len) (t .loop .i) 0 (t .loop .inv .1) l in
+    let u = g .upto in (
+      omega arith,
+      rows-after (s .args .len) (t .loop .i) (q .next-step .result .done) w l (g .rows),
+      fed-step xs (toZ w64 (ofZ w64 (s .args .start))) d (t .loop .i) (q .next-step .result .done) (t .loop .s) (r .stable-renorm .result) w (t .loop .inv .2)
+          (subst (λ (z : ℤ). Fed (t .loop .s) (strided xs z d (q .next-step .result .done)) (r .stable-renorm .result)) (here p)
+          (subst (Fed (t .loop .s) (strided xs (toZ w64 (ofZ w64 (p .place .result))) d (q .next-step .result .done))) (sym (r .stable-renorm .ensures)) (q .next-step .ensures .0 .fed))),
+    )
 
-stable-renorm-requires : tie.Need-stable-renorm-requires
-stable-renorm-requires c κs =
-    let r = c .before in
-    let w = r .before .before .before in
-    subst (SmallLanes (2 ^ 60)) (sym (c .guarded-row .ensures))
-    (lanes-le (2 ^ 56 + 8192) (2 ^ 60) _ (lit≤ tt) (guarded-small (2 ^ 56) (w .whole-rows .result) (r .row-of .result .v) (ap length (r .row-of .ensures) ∙ row-long _) (small w)))
-
-row-values : (xs : List Float) → length xs ≤ 8 → Each Value xs → Each Value (rowOf xs)
-row-values xs h v = subst (Each Value) (sym (row-padded xs h)) (padded-values xs (8 - length xs) v)
-
-returns-2 : tie.Need-returns-2
-returns-2 c =
-    let g = c .before in
-    let q = g .before in
-    let w = q .before .before .before in
-    let s = w .before .before in
-    let xs = s .args .values .now in
-    let b = s .args .start in
-    let d = s .args .stride in
-    let n = s .args .len in
-    let ys = strided xs (b +ℤ d *ℤ pos (8 * (n / 8))) d (n % 8) in
-    let r = c .stable-renorm .result in
-    let F : Fed (w .whole-rows .result) (rowOf ys) r =
-    fed-row (2 ^ 56) (w .whole-rows .result) r (rowOf ys) (fed-eight _ (w .whole-rows .result) (rows w)) (small w) (row-long ys)
-    (row-values ys (subst (λ (m : ℕ). m ≤ 8) (sym (length-strided xs (b +ℤ d *ℤ pos (8 * (n / 8))) d (n % 8))) (omega arith)) (strided-values xs (w .before .shared-slice-known .given) (b +ℤ d *ℤ pos (8 * (n / 8))) d (n % 8)))
-    (c .stable-renorm .ensures ∙ ap renorm (g .guarded-row .ensures ∙ ap (guarded (w .whole-rows .result)) (left q))) in
-    fed-pad startLanes r (strided xs b d n) (7 - (length (strided xs b d n) + 7) % 8)
-    (subst (λ (zs : List Float). Fed startLanes zs r) (rest-padded xs b d n (q .before .before .if1 .left))
-    (fed-append startLanes (w .whole-rows .result) r (strided xs b d (8 * (n / 8))) (rowOf ys) (n / 8) (length-strided xs b d (8 * (n / 8))) (rows w) F))
+returns : tie.Need-returns Inv-loop μ-loop
+returns c =
+    let t = c .before in
+    let s = t .before .before .before in
+    let e = subst (λ (n : ℕ). Fed startLanes (strided (s .args .values .now) (toZ w64 (ofZ w64 (s .args .start))) (toZ w64 (ofZ w64 (s .args .stride))) n) (t .loop .s)) (let z : t .loop .i ≡ s .args .len = (let a = t .loop .inv .0 in let b = c .loop-test .left in omega arith) in z) (t .loop .inv .2) in
+    simp (toZ-ofZ w64 (s .args .start) (s .fits .start), toZ-ofZ w64 (s .args .stride) (s .fits .stride)) at e
 
 pub fed-lanes-spec : {M : Type 1} → statement M
 fed-lanes-spec =
     tie.close
     (tie.spec
-    whole-rows-requires
-    returns
-    mul-place
+    Inv-loop
+    μ-loop
+    start-lanes-requires
+    loop-holds
     place-requires
-    row-of-requires
-    guarded-row-requires
+    sub-next-step
+    next-step-requires
     stable-renorm-requires
-    returns-2)
+    next-hold-requires
+    add-i
+    loop-less
+    loop-again
+    returns)

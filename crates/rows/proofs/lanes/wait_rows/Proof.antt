@@ -12,7 +12,8 @@ use Rattle.kernels.specs.Strided.{strided, Inside}
 use Rattle.rows.specs.declared.row.Waiting.{Waiting}
 use Rattle.rows.specs.Waiting.{waitStep}
 use Rattle.rows.proofs.Rowwise.{place-first, inside-part, place-fits, step-fits}
-use Rattle.rows.proofs.Rows.{row-whole, row-long, place-row, rows-more, wait-again, wait-m-long, wait-least-long}
+use Rattle.kernels.proofs.Striding.{length-strided}
+use Rattle.rows.proofs.Rows.{place-row, rows-more, wait-again, wait-m-long, wait-least-long}
 use Rattle.rows.proofs.lanes.wait_rows.Statement.{statement}
 use Rattle.rows.proofs.lanes.wait_rows.Tie as tie
 
@@ -34,14 +35,12 @@ inside : (c : tie.In-loop Inv-loop μ-loop) → let s = c .before .before .befor
 inside c = let s = c .before .before .before in simp (toZ-ofZ w64 (s .args .start) (s .fits .start), toZ-ofZ w64 (s .args .stride) (s .fits .stride)) (s .pre .3)
 
 -- the next row
-row-of-requires : tie.Need-row-of-requires Inv-loop μ-loop
-row-of-requires c κs =
+full-row-requires : tie.Need-full-row-requires Inv-loop μ-loop
+full-row-requires c κs =
     let s = c .before .before .before in
-    let i = c .before .loop .i in (
-      omega arith,
-      subst (λ (z : ℤ). Inside (length (s .args .values .now)) z (toZ w64 (ofZ w64 (s .args .stride))) 8) (sym (c .before .loop .inv .2 (c .loop-test .taken)))
-          (inside-part (length (s .args .values .now)) (toZ w64 (ofZ w64 (s .args .start))) (toZ w64 (ofZ w64 (s .args .stride))) (8 * s .args .rows) (8 * i) 8 (inside c) (omega (arith, c .loop-test .taken))),
-    )
+    let i = c .before .loop .i in
+    subst (λ (z : ℤ). Inside (length (s .args .values .now)) z (toZ w64 (ofZ w64 (s .args .stride))) 8) (sym (c .before .loop .inv .2 (c .loop-test .taken)))
+    (inside-part (length (s .args .values .now)) (toZ w64 (ofZ w64 (s .args .start))) (toZ w64 (ofZ w64 (s .args .stride))) (8 * s .args .rows) (8 * i) 8 (inside c) (omega (arith, c .loop-test .taken)))
 
 wait-row-requires : tie.Need-wait-row-requires Inv-loop μ-loop
 wait-row-requires c κs =
@@ -49,7 +48,7 @@ wait-row-requires c κs =
     let s = t .before .before in (
       ap (λ (w : Waiting). length (w .m)) (t .loop .inv .1) ∙ wait-m-long 0 (s .args .w) _ ∙ s .pre .0,
       ap (λ (w : Waiting). length (w .least)) (t .loop .inv .1) ∙ wait-least-long 0 (s .args .w) _ ∙ s .pre .1,
-      ap length (c .row-of .ensures) ∙ row-long _,
+      ap length (c .full-row .ensures) ∙ length-strided _ _ _ 8,
     )
 
 add-i : tie.Need-add-i Inv-loop μ-loop
@@ -88,7 +87,7 @@ more c =
     let d = toZ w64 (ofZ w64 (s .args .stride)) in
     rows-more waitStep wait-again (s .args .w) (t .loop .t) (c .wait-row .result) xs b d (t .loop .i) (t .loop .inv .1)
     (c .wait-row .ensures
-    ∙ ap (feed waitStep 0 (t .loop .t)) (c .before .row-of .ensures ∙ row-whole xs (toZ w64 (t .loop .at)) d)
+    ∙ ap (feed waitStep 0 (t .loop .t)) (c .before .full-row .ensures)
     ∙ ap (λ (z : ℤ). feed waitStep 0 (t .loop .t) (strided xs z d 8)) (t .loop .inv .2 (c .before .before .loop-test .taken)))
 
 loop-less : tie.Need-loop-less Inv-loop μ-loop
@@ -120,7 +119,7 @@ wait-rows-spec =
     Inv-loop
     μ-loop
     loop-holds
-    row-of-requires
+    full-row-requires
     wait-row-requires
     add-i
     mul-at

@@ -1,4 +1,4 @@
--- `rows::lanes::tried_rows` meets its contract: lanes that pass both tests are what the values make of them. Assumes nothing.
+-- `rows::lanes::tried` meets its contract: lanes that pass both tests, brought back, are what the values make of them. Assumes nothing.
 use Prim.Native.Nat.{ℕ, _*_, _^_, _≤_}
 use mathlib.Core.Path.{_≡_, refl, sym, ap, _∙_, subst}
 use mathlib.Core.Bool.{Bool, true, false, _&&_, true≢false}
@@ -25,11 +25,13 @@ use Rattle.rows.specs.Waiting.{one, waitStep, startWaiting, notBelow, no
 use Rattle.rows.proofs.Rows.{wait-m-long, wait-least-long}
 use Rattle.rows.proofs.Guarding.{waited-fed}
 use Rattle.rows.proofs.Feds.{strided-values}
-use Rattle.rows.proofs.lanes.tried_rows.Statement.{statement}
-use Rattle.rows.proofs.lanes.tried_rows.Tie as tie
-use Rattle.rows.proofs.lanes.tried_rows.Reads as reads
-use Rattle.rows.proofs.lanes.tried_rows.Lts as lts
-use Rattle.kernels.proofs.blocks.stable_renorm.Reads as stable-renorm-reads
+use Rattle.rows.proofs.Stepping.{unmoved}
+use mathlib.Core.Logic.{_⊎_, inl, inr}
+use Rattle.rows.specs.Steps.{Stepped}
+use Rattle.rows.proofs.lanes.tried.Statement.{statement}
+use Rattle.rows.proofs.lanes.tried.Tie as tie
+use Rattle.rows.proofs.lanes.tried.Reads as reads
+use Rattle.rows.proofs.lanes.tried.Lts as lts
 use Rattle.rows.proofs.lanes.start_waiting.Reads as start-waiting-reads
 use Rattle.rows.proofs.lanes.wait_rows.Reads as wait-rows-reads
 use Rattle.rows.proofs.row.none_below.Reads as none-below-reads
@@ -59,39 +61,43 @@ none-below-requires c κs = ap (λ (w : Waiting). length (w .least)) (waited c) 
 none-past-requires : tie.Need-none-past-requires
 none-past-requires c κs = ap (λ (w : Waiting). length (w .m)) (waited (c .before)) ∙ wait-m-long 0 _ _ ∙ c .before .before .before .before .pre .1
 
-stable-renorm-requires : tie.Need-stable-renorm-requires
-stable-renorm-requires c κs =
-    let s = c .before .before .before .before .before .before .before .before in
-    record { at = λ k. lanes-le (2 ^ 59) (2 ^ 60) (s .args .s) (lit≤ tt) (s .pre .0) .at k }
+mul-t15 : tie.Need-mul-t15
+mul-t15 c = let h = c .before .before .before .before .before .before .before .before .pre .2 in omega arith
 
 returns : tie.Need-returns
-returns c q =
-    let t = c .before .before .before in
+returns c =
+    let t = c .before .before in
     let p = t .before in
     let w = p .before .before in
     let s = w .before .before .before in
     let xs = strided (s .args .values .now) (s .args .start) (s .args .stride) (8 * s .args .rows) in
-    let b = and-both _ _ (t .if1 .taken) in
-    subst (Fed (s .args .s) xs)
-    (sym (c .stable-renorm .ensures ∙ ap (λ (u : Waiting). renorm (record { m = u .m; e = s .args .s .e; bad = s .args .s .bad })) (waited w)))
-    (waited-fed (s .args .s) (startWaiting (s .args .s .m)) xs
-    (strided-values (s .args .values .now) (w .before .before .shared-slice-known .given) (s .args .start) (s .args .stride) (8 * s .args .rows))
-    (subst (λ (n : ℕ). n ≤ 512) (sym (length-strided (s .args .values .now) (s .args .start) (s .args .stride) (8 * s .args .rows))) (let h = s .pre .2 in omega arith))
-    refl (length-replicate 8 one)
-    (ap (λ (u : Waiting). every notBelow (u .least)) (sym (waited w)) ∙ sym (p .before .none-below .ensures) ∙ b .0)
-    (ap (λ (u : Waiting). every notPast (u .m)) (sym (waited w)) ∙ sym (p .none-past .ensures) ∙ b .1))
+    let b = and-both _ _ (t .if1 .taken) in (
+      record {
+        fed =
+            subst (λ (u : Waiting). Fed (s .args .s) xs (renorm (record { m = u .m; e = s .args .s .e; bad = s .args .s .bad }))) (sym (waited w))
+            (waited-fed (s .args .s) (startWaiting (s .args .s .m)) xs
+            (strided-values (s .args .values .now) (w .before .before .shared-slice-known .given) (s .args .start) (s .args .stride) (8 * s .args .rows))
+            (subst (λ (n : ℕ). n ≤ 512) (sym (length-strided (s .args .values .now) (s .args .start) (s .args .stride) (8 * s .args .rows))) (let h = s .pre .2 in omega arith))
+            refl (length-replicate 8 one)
+            (ap (λ (u : Waiting). every notBelow (u .least)) (sym (waited w)) ∙ sym (p .before .none-below .ensures) ∙ b .0)
+            (ap (λ (u : Waiting). every notPast (u .m)) (sym (waited w)) ∙ sym (p .none-past .ensures) ∙ b .1));
+        small = record { at = λ k. lanes-le (2 ^ 56) (2 ^ 59) (s .args .s) (lit≤ tt) (s .pre .0) .at k };
+      },
+      inl refl,
+    )
 
 returns-2 : tie.Need-returns-2
-returns-2 c q = absurd (true≢false (sym q))
+unfolding strided
+returns-2 c = (unmoved (c .before .before .before .before .before .before .args .s) (c .before .before .before .before .before .before .pre .0), inr refl)
 
-pub tried-rows-spec : {M : Type 1} → statement M
-tried-rows-spec =
+pub tried-spec : {M : Type 1} → statement M
+tried-spec =
     tie.close
     (tie.spec
     start-waiting-requires
     wait-rows-requires
     none-below-requires
     none-past-requires
-    stable-renorm-requires
+    mul-t15
     returns
     returns-2)

@@ -1,0 +1,99 @@
+-- The steps of a piece: rows that are guarded, rows that waited, and one step after another. Assumes nothing.
+use Prim.Native.Nat.{ℕ, zero, suc, _+_, _-_, _*_, _/_, _%_, _^_, _≤_, _<_, min}
+use mathlib.Core.Path.{_≡_, refl, sym, ap, _∙_, subst}
+use mathlib.Core.Bool.{Bool, true, false}
+use mathlib.Core.List.{List, [], _++_, map}
+use mathlib.Core.Logic.{_⊎_, inl, inr}
+use native.Mathlib.Nat.{le-refl, le-of-lt}
+use native.Mathlib.Omega.{arith}
+use lib.ListN.{length, getD}
+use lib.IntN.{ℤ, pos, _+ℤ_, _*ℤ_}
+use lib.Dec.{T, ltb, lit≤}
+use lib.Ieee.{Float, nan, binary64, fits}
+use borrow.Author.Tests.{ltb-true, ltb-false}
+use Rattle.kernels.specs.declared.blocks.Lanes.{Lanes}
+use Rattle.kernels.specs.Lanes.{Each, feed}
+use Rattle.kernels.specs.Plain.{laneTimes}
+use Rattle.kernels.specs.Strided.{strided}
+use Rattle.kernels.specs.Blocks.{startLanes, renorm, SmallLanes}
+use Rattle.binary64.specs.Splitting.{rate}
+use Rattle.kernels.specs.Standing.{Fed}
+use Rattle.kernels.proofs.Striding.{length-strided}
+use Rattle.kernels.proofs.LaneSizes.{lanes-le}
+use Rattle.kernels.proofs.Blocking.{Value, renorm-held, renorm-mark}
+use Rattle.rows.specs.Waiting.{rowOf, padded, guarded}
+use Rattle.rows.specs.Steps.{Stepped, Progress, holdAfter}
+use Rattle.rows.proofs.Rowwise.{strided-append}
+use Rattle.rows.proofs.Rows.{row-padded, row-whole, row-long, rest-padded}
+use Rattle.rows.proofs.Guarding.{Rowed, rowed-none, rowed-more, rowed-fed}
+use Rattle.rows.proofs.Feds.{fed-append, fed-pad, fed-none, strided-values}
+use Rattle.rows.proofs.Shorts.{padded-values}
+
+-- ---- rows of a piece of n values, the last with 1.0 after its values
+pub record Rows (N : ℕ) (s : Lanes) (xs : List Float) (b d : ℤ) (n i : ℕ) (t : Lanes) : Type 0 where
+  pub long : length (t .m) ≡ 8
+  pub small : SmallLanes (N + 8192 * i) t
+  pub whole : 8 * i ≤ n → Rowed N s (strided xs b d (8 * i)) i t
+  pub last : n < 8 * i → Rowed N s (padded (strided xs b d n)) i t
+
+module _ (N : ℕ) (s : Lanes) (xs : List Float) (b d : ℤ) (n : ℕ) where
+  pub rows-none : length (s .m) ≡ 8 → SmallLanes N s → Rows N s xs b d n 0 s
+  unfolding strided
+  rows-none l h = record { long = l; small = rowed-none N s l h .small; whole = λ z. rowed-none N s l h; last = λ z. absurd (omega arith) }
+
+  row-values : ((i : ℕ) → T (fits binary64 (getD xs i nan))) → (k i : ℕ) → k ≤ 8 → Each Value (rowOf (strided xs (b +ℤ d *ℤ pos (8 * i)) d k))
+  row-values v k i h =
+      let ys = strided xs (b +ℤ d *ℤ pos (8 * i)) d k in
+      let l = length-strided xs (b +ℤ d *ℤ pos (8 * i)) d k in
+      subst (Each Value) (sym (row-padded ys (subst (λ (m : ℕ). m ≤ 8) (sym l) h))) (padded-values ys (8 - length ys) (strided-values xs v (b +ℤ d *ℤ pos (8 * i)) d k))
+
+  module _ (v : (i : ℕ) → T (fits binary64 (getD xs i nan))) (i : ℕ) (t u : Lanes) (R : Rows N s xs b d n i t) (few : i < 8) (more-left : 8 * i < n) (g : u ≡ guarded t (rowOf (strided xs (b +ℤ d *ℤ pos (8 * i)) d (min 8 (n - 8 * i))))) where
+    before : Rowed N s (strided xs b d (8 * i)) i t
+    before = R .whole (le-of-lt more-left)
+
+    joined : Rowed N s (strided xs b d (8 * i) ++ rowOf (strided xs (b +ℤ d *ℤ pos (8 * i)) d (min 8 (n - 8 * i)))) (suc i) u
+    joined = rowed-more N s (strided xs b d (8 * i)) i t u (rowOf (strided xs (b +ℤ d *ℤ pos (8 * i)) d (min 8 (n - 8 * i)))) before few (row-long _) (row-values v (min 8 (n - 8 * i)) i (omega arith)) g
+
+    full : 8 * suc i ≤ n → strided xs b d (8 * i) ++ rowOf (strided xs (b +ℤ d *ℤ pos (8 * i)) d (min 8 (n - 8 * i))) ≡ strided xs b d (8 * suc i)
+    full h =
+        ap (λ (k : ℕ). strided xs b d (8 * i) ++ rowOf (strided xs (b +ℤ d *ℤ pos (8 * i)) d k)) (let e : min 8 (n - 8 * i) ≡ 8 = omega arith in e)
+        ∙ ap (λ (l : List Float). strided xs b d (8 * i) ++ l) (row-whole xs (b +ℤ d *ℤ pos (8 * i)) d)
+        ∙ sym (strided-append xs b d (8 * i) 8)
+        ∙ ap (strided xs b d) (let e : 8 * i + 8 ≡ 8 * suc i = omega arith in e)
+
+    rest : n < 8 * suc i → strided xs b d (8 * i) ++ rowOf (strided xs (b +ℤ d *ℤ pos (8 * i)) d (min 8 (n - 8 * i))) ≡ padded (strided xs b d n)
+    rest h =
+        ap (λ (k : ℕ). strided xs b d (8 * i) ++ rowOf (strided xs (b +ℤ d *ℤ pos (8 * i)) d k)) (let e : min 8 (n - 8 * i) ≡ n % 8 = omega arith in e)
+        ∙ ap (λ (k : ℕ). strided xs b d (8 * k) ++ rowOf (strided xs (b +ℤ d *ℤ pos (8 * k)) d (n % 8))) (let e : i ≡ n / 8 = omega arith in e)
+        ∙ rest-padded xs b d n (not-whole (omega arith))
+      where
+        not-whole : 0 < n % 8 → n % 8 ≡ 0 → ⊥
+        not-whole a z = omega arith
+
+    pub rows-next : Rows N s xs b d n (suc i) u
+    rows-next = record { long = joined .long; small = joined .small; whole = λ h. subst (λ (l : List Float). Rowed N s l (suc i) u) (full h) joined; last = λ h. subst (λ (l : List Float). Rowed N s l (suc i) u) (rest h) joined }
+
+  pub rows-fed : N ≤ 2 ^ 58 → (i : ℕ) (t : Lanes) → Rows N s xs b d n i t → i ≤ 8 → n ≤ 8 * i → 8 * i < n + 8 → Stepped s (strided xs b d n) t
+  rows-fed room i t R few up down = go (ltb n (8 * i)) refl
+    where
+      go : (c : Bool) → ltb n (8 * i) ≡ c → Stepped s (strided xs b d n) t
+      go true e =
+          let r = R .last (ltb-true n (8 * i) e) in
+          record { fed = fed-pad s (renorm t) (strided xs b d n) (7 - (length (strided xs b d n) + 7) % 8) (rowed-fed N s (padded (strided xs b d n)) i t (renorm t) r few refl); small = lanes-le (N + 8192 * i) (2 ^ 59) t (omega arith) (R .small) }
+      go false e =
+          let same : 8 * i ≡ n = (let a = ltb-false n (8 * i) e in omega arith) in
+          let r = R .whole (ltb-false n (8 * i) e) in
+          record { fed = subst (λ (k : ℕ). Fed s (strided xs b d k) (renorm t)) same (rowed-fed N s (strided xs b d (8 * i)) i t (renorm t) r few refl); small = lanes-le (N + 8192 * i) (2 ^ 59) t (omega arith) (R .small) }
+
+-- ---- one step after another: i values are whole rows
+pub fed-step : (xs : List Float) (b d : ℤ) (i n : ℕ) (s r : Lanes) → i % 8 ≡ 0 → Fed startLanes (strided xs b d i) s → Fed s (strided xs (b +ℤ d *ℤ pos i) d n) r → Fed startLanes (strided xs b d (i + n)) r
+fed-step xs b d i n s r e F G =
+    subst (λ (ys : List Float). Fed startLanes ys r) (sym (strided-append xs b d i n))
+    (fed-append startLanes s r (strided xs b d i) (strided xs (b +ℤ d *ℤ pos i) d n) (i / 8) (length-strided xs b d i ∙ (let z : i ≡ 8 * (i / 8) = omega arith in z)) F G)
+
+-- lanes that are brought back already stay as they are
+pub unmoved : (s : Lanes) → SmallLanes (2 ^ 56) s → Stepped s [] s
+unmoved s h = record {
+  fed = record { held = λ fs H. renorm-held 0 (lit≤ tt) (feed (laneTimes 52) 0 fs (map rate [])) (λ (k : ℕ). 0) s (λ k i. le-refl 0) (fed-none s .held fs H); mark = λ fs H. renorm-mark s ∙ fed-none s .mark fs H };
+  small = lanes-le (2 ^ 56) (2 ^ 59) s (lit≤ tt) h;
+}

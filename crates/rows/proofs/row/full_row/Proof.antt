@@ -1,0 +1,63 @@
+-- `rows::row::full_row` meets its contract, side by side or a stride apart. Assumes nothing.
+use Prim.Native.Nat.{ℕ, _+_, _≤_}
+use mathlib.Core.Path.{_≡_, sym, ap, _∙_, subst}
+use native.Mathlib.Omega.{arith}
+use lib.ListN.{length}
+use lib.IntN.{ℤ, pos, natAbs}
+use lib.Dec.{lit≤, lit<}
+use mir.Val.{toZ, ofZ}
+use mir.ValLaws.{toZ-ofZ}
+use mir.Syntax.{w64}
+use borrow.Author.Needs.{needs}
+use Rattle.integers.proofs.Machine.{same-bits, pos-fits}
+use Rattle.kernels.specs.Strided.{strided, Inside}
+use Rattle.kernels.proofs.Striding.{first-natural, strided-window, at-first, at-last}
+use Rattle.rows.proofs.Rows.{row-whole}
+use Rattle.rows.proofs.row.full_row.Statement.{statement}
+use Rattle.rows.proofs.row.full_row.Tie as tie
+
+one : (c : tie.Then1) → c .before .before .args .stride ≡ pos 1
+one c = same-bits _ (pos 1) (c .before .before .fits .stride) (pos-fits 1 (omega arith)) (c .if1 .taken)
+
+inside : (c : tie.Then1) → Inside (length (c .before .before .args .values .now)) (c .before .before .args .at) (pos 1) 8
+inside c =
+    let s = c .before .before in
+    subst (λ (z : ℤ). Inside (length (s .args .values .now)) (s .args .at) z 8) (one c) (s .pre)
+
+held : (c : tie.Then1) → natAbs (c .before .before .args .at) ≡ natAbs (toZ w64 (ofZ w64 (c .before .before .args .at)))
+held c = let s = c .before .before in sym (ap natAbs (toZ-ofZ w64 (s .args .at) (s .fits .at)))
+
+ends : (c : tie.Then1) → natAbs (toZ w64 (ofZ w64 (c .before .before .args .at))) + 8 ≤ length (c .before .before .args .values .now)
+ends c = let s = c .before .before in at-last _ _ (s .args .at) 8 (inside c) (lit≤ tt) (held c)
+
+cast-row-at : tie.Need-cast-row-at
+cast-row-at c =
+    let s = c .before .before in
+    (rw (toZ-ofZ w64 (s .args .at) (s .fits .at)) (first-natural _ _ _ _ (inside c) (lit< tt)), omega (arith, ends c, s .good .0 .1))
+
+row-at-requires : tie.Need-row-at-requires
+row-at-requires c κs = ends c
+
+returns : tie.Need-returns
+returns c =
+    let t = c .before in
+    let s = t .before .before in
+    let at = natAbs (toZ w64 (ofZ w64 (s .args .at))) in
+    c .row-at .ensures
+    ∙ strided-window (s .args .values .now) at 8 (ends t)
+    ∙ ap (λ (z : ℤ). strided (s .args .values .now) z (pos 1) 8) (sym (at-first _ at (s .args .at) 8 (inside t) (lit≤ tt) (held t)))
+    ∙ ap (λ (z : ℤ). strided (s .args .values .now) (s .args .at) z 8) (sym (one t))
+
+row-of-requires : tie.Need-row-of-requires
+row-of-requires c κs =
+    let s = c .before .before in
+    simp (toZ-ofZ w64 (s .args .at) (s .fits .at), toZ-ofZ w64 (s .args .stride) (s .fits .stride)) (omega arith, s .pre)
+
+returns-2 : tie.Need-returns-2
+returns-2 c =
+    let s = c .before .before .before in
+    simp (toZ-ofZ w64 (s .args .at) (s .fits .at), toZ-ofZ w64 (s .args .stride) (s .fits .stride)) at (c .row-of .ensures)
+    ∙ row-whole (s .args .values .now) (s .args .at) (s .args .stride)
+
+pub full-row-spec : {M : Type 1} → statement M
+full-row-spec = tie.close (tie.spec cast-row-at row-at-requires returns row-of-requires returns-2)

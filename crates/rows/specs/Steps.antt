@@ -1,0 +1,25 @@
+-- The steps of a piece: what each makes of the lanes, and that it comes to an end. Definitions only.
+use Prim.Native.Nat.{ℕ, zero, suc, _-_, _%_, _^_, _≤_, _<_}
+use mathlib.Core.Path.{_≡_}
+use mathlib.Core.Logic.{_⊎_}
+use mathlib.Core.List.{List}
+use lib.Ieee.{Float}
+use Rattle.kernels.specs.declared.blocks.Lanes.{Lanes}
+use Rattle.kernels.specs.Blocks.{renorm, SmallLanes}
+use Rattle.kernels.specs.Standing.{Fed}
+
+-- lanes that, brought back, are what the values xs make of the lanes s
+pub record Stepped (s : Lanes) (xs : List Float) (r : Lanes) : Type 0 where
+  pub fed : Fed s xs (renorm r)
+  pub small : SmallLanes (2 ^ 59) r
+
+-- How many values a step took of those that are left: whole rows or all of them, and none only if a try failed.
+pub record Progress (left hold done : ℕ) : Type 0 where
+  pub upto : done ≤ left
+  pub rows : (done % 8 ≡ 0) ⊎ (done ≡ left)
+  pub moves : 0 < left → done ≡ 0 → hold ≡ 0
+
+-- blocks that are guarded before the next try
+unfoldable pub holdAfter : ℕ → ℕ → ℕ
+holdAfter hold zero = 16
+holdAfter hold (suc n) = hold - 1
