@@ -133,10 +133,10 @@ module _ (ns : List ℕ) (ss : List ℤ) where
     unfolding traversalOf traversalAt
     at-total = ap (traversalAt ns ss) e ∙ ap (λ (b : Bool). cond b (some emptyLayout) (elim (fusedOf ns ss) [ none ↦ none | some xs ↦ some (layoutOf t xs) ])) (ne-eqb t 0 n)
 
-    unfused : fusedOf ns ss ≡ none → traversalOf ns ss ≡ none
+    pub unfused : fusedOf ns ss ≡ none → traversalOf ns ss ≡ none
     unfused f = at-total ∙ ap (λ (o : Option (List ReduceOuterAxis)). elim o [ none ↦ none | some xs ↦ some (layoutOf t xs) ]) f
 
-    fused-is : (xs : List ReduceOuterAxis) → fusedOf ns ss ≡ some xs → traversalOf ns ss ≡ some (layoutOf t xs)
+    pub fused-is : (xs : List ReduceOuterAxis) → fusedOf ns ss ≡ some xs → traversalOf ns ss ≡ some (layoutOf t xs)
     fused-is xs f = at-total ∙ ap (λ (o : Option (List ReduceOuterAxis)). elim o [ none ↦ none | some xs ↦ some (layoutOf t xs) ]) f
 
     -- where rule 3 fails

@@ -4,3 +4,4 @@ pub mod Ordering
 pub mod Sorting
 pub mod Fusing
 pub mod Compiling
+pub mod Line

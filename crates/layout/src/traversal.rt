@@ -1,7 +1,8 @@
 // FullTraversal: rules 1 and 5, and the whole compile.
 ghost use mathlib.Core.Path.{_≡_};
+ghost use mathlib.Core.List.{[], _∷_};
 ghost use lib.ListN.{drop};
-ghost use Rattle.layout.specs.Axes.{Table, tableOf, held};
+ghost use Rattle.layout.specs.Axes.{Table, axisOf, tableOf, held};
 ghost use Rattle.layout.specs.Compile.{totalOf, checkedOr, emptyLayout, layoutOf, compileOf};
 use crate::axis::AxisTable;
 use crate::axis::PLACES;
@@ -111,12 +112,52 @@ pub fn refused(code: u32) -> Compiled
     }
 }
 
+// The layout that is one run.
+fn one_run(len: u64, stride: i64) -> Compiled
+    ensures { λ r. ⌜ r ≡ record { code = 0; traversal = layoutOf len (axisOf len stride ∷ []) } ⌝ }
+{
+    let z = crate::axis::no_axis();
+    Compiled {
+        code: 0,
+        traversal: FullTraversal {
+            total: len,
+            run_len: len,
+            run_stride: stride,
+            axis_count: 0,
+            run_axes: [z; PLACES],
+        },
+    }
+}
+
+// One axis needs no order and no fusing.
+fn compile_line(size: u64, stride: i64) -> Compiled
+    ensures { λ r. ⌜ r ≡ compileOf (size ∷ []) (stride ∷ []) ⌝ }
+{
+    if size == 0 {
+        return refused(0);
+    }
+    if size == 1 {
+        return one_run(1, 1);
+    }
+    let reset = crate::axis::checked_reduce_reset(size, stride);
+    if !reset.ok {
+        return refused(3);
+    }
+    if MOST < size {
+        return refused(4);
+    }
+    one_run(size, stride)
+}
+
 impl FullTraversal {
     pub fn compile(sizes: &[u64], strides: &[i64]) -> Compiled
         ensures { λ r. ⌜ r ≡ compileOf (now (sizes .entry)) (now (strides .entry)) ⌝ }
     {
         if sizes.len() != strides.len() {
             return refused(1);
+        }
+        if sizes.len() == 1 {
+            return compile_line(sizes[0], strides[0]);
         }
         if PLACES < sizes.len() {
             return refused(2);
