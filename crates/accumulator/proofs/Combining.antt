@@ -13,7 +13,7 @@ use Rattle.accumulator.specs.declared.StableProductFloatAcc.{StableProdu
 use Rattle.accumulator.specs.Joining.{half, multiplied, combined}
 use Rattle.accumulator.proofs.Exponents.{held, sum, sum-held, more-held}
 
-acc-same : (m m' : Float) (e e' : ℤ) (q q' : Bool) → m ≡ m' → e ≡ e' → q ≡ q' → _≡_ {A = StableProductFloatAcc} (record { m = m; e = e; bad = q }) (record { m = m'; e = e'; bad = q' })
+pub acc-same : (m m' : Float) (e e' : ℤ) (q q' : Bool) → m ≡ m' → e ≡ e' → q ≡ q' → _≡_ {A = StableProductFloatAcc} (record { m = m; e = e; bad = q }) (record { m = m'; e = e'; bad = q' })
 acc-same m m' e e' q q' a b c = cc
 
 -- ---- the cases of `combined`

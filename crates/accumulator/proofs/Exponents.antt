@@ -28,8 +28,8 @@ module _ (x y : ℤ) (hx : natAbs x ≤ 2 ^ 61) (hy : natAbs y ≤ 2 ^ 61) where
   sum-size : natAbs (x +ℤ y) ≤ 2 ^ 62
   sum-size = le-trans (add-size x y) (le-trans (add-le-add hx hy) (lit≤ tt))
 
-  more-size : natAbs (x +ℤ y +ℤ pos 1) ≤ 2 ^ 62 + 1
-  more-size = le-trans (add-size (x +ℤ y) (pos 1)) (add-le-add sum-size (le-refl 1))
+  more-size : (c : ℕ) → c ≤ 1 → natAbs (x +ℤ y +ℤ pos c) ≤ 2 ^ 62 + 1
+  more-size c h = le-trans (add-size (x +ℤ y) (pos c)) (add-le-add sum-size h)
 
   -- x + y, as the machine has it
   abbrev pub sum : ℤ
@@ -44,11 +44,18 @@ module _ (x y : ℤ) (hx : natAbs x ≤ 2 ^ 61) (hy : natAbs y ≤ 2 ^ 61) where
   pub sum-held : toZ w64 (ofZ w64 sum) ≡ x +ℤ y
   sum-held = toZ-ofZ w64 sum sum-fits ∙ sum-is
 
+  -- x + y + c with c of 0 or 1, where z is the machine's c
+  pub near-fits : (c : ℕ) (z : ℤ) → c ≤ 1 → z ≡ pos c → SFits w64 (toZ w64 (ofZ w64 sum) +ℤ z)
+  near-fits c z h e = subst (SFits w64) (sym (ap (λ (u : ℤ). u +ℤ z) sum-held ∙ ap (λ (u : ℤ). x +ℤ y +ℤ u) e)) (size-fits (x +ℤ y +ℤ pos c) (more-size c h))
+
+  pub near-held : (c : ℕ) (z : ℤ) → c ≤ 1 → z ≡ pos c → toZ w64 (ofZ w64 (toZ w64 (ofZ w64 sum) +ℤ z)) ≡ x +ℤ y +ℤ pos c
+  near-held c z h e = toZ-ofZ w64 (toZ w64 (ofZ w64 sum) +ℤ z) (near-fits c z h e) ∙ ap (λ (u : ℤ). u +ℤ z) sum-held ∙ ap (λ (u : ℤ). x +ℤ y +ℤ u) e
+
   pub more-fits : SFits w64 (toZ w64 (ofZ w64 sum) +ℤ pos 1)
-  more-fits = subst (λ (z : ℤ). SFits w64 (z +ℤ pos 1)) (sym sum-held) (size-fits (x +ℤ y +ℤ pos 1) more-size)
+  more-fits = near-fits 1 (pos 1) (le-refl 1) refl
 
   pub more-held : toZ w64 (ofZ w64 (toZ w64 (ofZ w64 sum) +ℤ pos 1)) ≡ x +ℤ y +ℤ pos 1
-  more-held = toZ-ofZ w64 (toZ w64 (ofZ w64 sum) +ℤ pos 1) more-fits ∙ ap (λ (z : ℤ). z +ℤ pos 1) sum-held
+  more-held = near-held 1 (pos 1) (le-refl 1) refl
 
 -- ---- -(k + 1) ≤ e ≤ k + 1
 pub limits : (k : ℕ) (e : ℤ) → (leZ (negsuc k) e && leZ e (pos (suc k))) ≡ leb (natAbs e) (suc k)

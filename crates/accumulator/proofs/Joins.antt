@@ -22,16 +22,16 @@ use Rattle.accumulator.proofs.Answers.{stands-unit, refused-left, refus
 
 -- ---- joining two that are not bad
 -- m is the float of `times` at the exponent 0, and e the sum of the exponents with the carry
-record Settled (h : Factor) (c : ℕ) (e d : ℤ) (r : StableProductFloatAcc) : Type 0 where
-  m-is : r .m ≡ floatOf 11 52 (moved h (pos 0))
-  e-is : r .e ≡ e +ℤ d +ℤ pos c
-  mark : r .bad ≡ false
+pub record Settled (h : Factor) (c : ℕ) (e d : ℤ) (r : StableProductFloatAcc) : Type 0 where
+  pub m-is : r .m ≡ floatOf 11 52 (moved h (pos 0))
+  pub e-is : r .e ≡ e +ℤ d +ℤ pos c
+  pub mark : r .bad ≡ false
 
 module _ (a b : StableProductFloatAcc) (fa : T (fits binary64 (a .m))) (fb : T (fits binary64 (b .m))) (ua : inUnit (a .m) ≡ true) (ub : inUnit (b .m) ≡ true) where
   N : Normal 52 (both (a .m) (b .m) fa fb ua ub)
   N = both-normal (a .m) (b .m) fa fb ua ub
 
-  settled : Settled (both (a .m) (b .m) fa fb ua ub) (up (a .m) (b .m) fa fb ua ub) (a .e) (b .e) (multiplied a b)
+  pub settled : Settled (both (a .m) (b .m) fa fb ua ub) (up (a .m) (b .m) fa fb ua ub) (a .e) (b .e) (multiplied a b)
   settled = go (up (a .m) (b .m) fa fb ua ub) (up-le (a .m) (b .m) fa fb ua ub) (unit-product (a .m) (b .m) fa fb ua ub)
     where
       k : Factor

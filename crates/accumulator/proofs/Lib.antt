@@ -4,3 +4,4 @@ pub mod Comparing
 pub mod Combining
 pub mod Answers
 pub mod Joins
+pub mod Units

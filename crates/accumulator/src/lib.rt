@@ -1,5 +1,6 @@
 // The accumulator of a stable product, and joining two of them.
 ghost use mathlib.Core.Path.{_≡_};
+ghost use mathlib.Core.Bool.{true};
 ghost use Prim.Native.Nat.{_^_, _≤_};
 ghost use lib.IntN.{natAbs};
 ghost use Rattle.binary64.specs.Magnitude.{inUnit, twoOrMore};
@@ -101,6 +102,29 @@ pub fn stable_float_combine(
         }
     } else {
         StableProductFloatAcc { m, e, bad: false }
+    }
+}
+
+// The same join of two whose m lies in [1, 2): the product is split, so that no branch waits for it.
+pub fn combine_units(
+    lhs: StableProductFloatAcc,
+    rhs: StableProductFloatAcc,
+) -> StableProductFloatAcc
+    requires { ⌜ (natAbs (lhs .e) ≤ 2 ^ 61) × (natAbs (rhs .e) ≤ 2 ^ 61) × (inUnit (lhs .m) ≡ true) × (inUnit (rhs .m) ≡ true) ⌝ }
+    ensures { λ r. ⌜ r ≡ combined lhs rhs ⌝ }
+{
+    if lhs.bad | rhs.bad {
+        let mut kept = lhs;
+        kept.bad = true;
+        return kept;
+    }
+    let p = binary64::split_f64(lhs.m * rhs.m);
+    let e = lhs.e + rhs.e;
+    let raised = e + p.e;
+    StableProductFloatAcc {
+        m: p.m,
+        e: raised,
+        bad: false,
     }
 }
 

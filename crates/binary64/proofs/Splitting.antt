@@ -72,6 +72,10 @@ split-factor x =
     let e = split x .e in
     ap (λ (m : Float). factorAt 52 m e) (split-m x) ∙ factor-at-float binary64 11 52 refl refl (lit< tt) (rate x) e (rate-normal x)
 
+pub split-e : (x : Float) → split x .e ≡ rate x .exp
+unfolding factorAt
+split-e x = ap (λ (f : Factor). f .exp) (split-factor x)
+
 pub split-bad : (x : Float) → split x .bad ≡ isBad x
 unfolding split
 split-bad x = refl

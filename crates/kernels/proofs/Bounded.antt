@@ -18,7 +18,7 @@ use Rattle.binary64.specs.Splitting.{rate}
 use Rattle.binary64.proofs.Factor.{unit-normal, times-normal, times-size}
 use Rattle.binary64.proofs.Bridge.{floatOf-fits}
 use Rattle.binary64.proofs.Magnitude.{unit-float}
-use Rattle.binary64.proofs.Splitting.{rate-normal, split-m, split-unit}
+use Rattle.binary64.proofs.Splitting.{rate-normal, split-m, split-e, split-unit}
 use Rattle.accumulator.specs.declared.StableProductFloatAcc.{StableProductFloatAcc}
 use Rattle.accumulator.specs.Joining.{identityAcc, combined}
 use Rattle.accumulator.proofs.Combining.{combined-bad, combined-good}
@@ -30,7 +30,6 @@ use Rattle.kernels.specs.Blocks.{contiguous}
 use Rattle.kernels.specs.Pieces.{Piece, worked, workedPiece, joinedPieces, rateCount}
 use Rattle.kernels.proofs.Feeding.{feed-keeps, order-keeps, each-of}
 use Rattle.kernels.proofs.Factors.{lane-lt, set-cases, NormalLanes, units-normal, lane-normal, piece-normal}
-use Rattle.kernels.proofs.Standing.{split-e}
 use Rattle.kernels.proofs.Sizes.{split-size, rate-size, combined-size}
 use Rattle.kernels.proofs.Blocking.{contiguous-is}
 

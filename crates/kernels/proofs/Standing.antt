@@ -10,12 +10,12 @@ use lib.Ieee.{Float, fin, binary64, fits}
 use Rattle.integers.proofs.Difference.{ints, atoms, is-diff, at-pos}
 use Rattle.binary64.specs.Product.{productOf}
 use Rattle.binary64.specs.Factor.{Factor, Normal, InRange, unit, carry, times, floatOf}
-use Rattle.binary64.specs.Magnitude.{factorAt, moved}
+use Rattle.binary64.specs.Magnitude.{moved}
 use Rattle.binary64.specs.Splitting.{isBad, rate, split}
 use Rattle.binary64.proofs.Factor.{factor-same, unit-normal, times-normal, carry-le, add-size}
 use Rattle.binary64.proofs.Bridge.{product-times}
 use Rattle.binary64.proofs.Magnitude.{moved-normal}
-use Rattle.binary64.proofs.Splitting.{split-m, split-factor, rate-normal, rate-float, float-rate}
+use Rattle.binary64.proofs.Splitting.{split-m, split-e, rate-normal, rate-float, float-rate}
 use Rattle.accumulator.specs.declared.StableProductFloatAcc.{StableProductFloatAcc}
 use Rattle.kernels.specs.Pieces.{accOf}
 use Rattle.kernels.specs.Standing.{Stands}
@@ -63,10 +63,6 @@ module _ (B C : ℕ) (m x : Float) (e d : ℤ) (f g : Factor) (F : Stands B m e 
   }
 
 -- ---- bringing back
-pub split-e : (x : Float) → split x .e ≡ rate x .exp
-unfolding factorAt
-split-e x = ap (λ (f : Factor). f .exp) (split-factor x)
-
 -- a lane whose m is normal, split, stands for the same factor with m in [1, 2)
 pub range-split : (m : Float) (e : ℤ) (f : Factor) (off : ℤ) → InRange 11 (moved f off) → m ≡ floatOf 11 52 (moved f off) → f .exp ≡ e +ℤ off → Normal 52 f → Stands 0 (split m .m) (e +ℤ split m .e) f
 range-split m e f off R is at N =
