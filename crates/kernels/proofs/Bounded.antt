@@ -23,9 +23,9 @@ use Rattle.accumulator.specs.declared.StableProductFloatAcc.{StableProductFloat
 use Rattle.accumulator.specs.Joining.{identityAcc, combined}
 use Rattle.accumulator.proofs.Combining.{combined-bad, combined-good}
 use Rattle.accumulator.proofs.Joins.{multiplied-unit, multiplied-fits}
-use Rattle.kernels.specs.Lanes.{Each, none, more, feed, laneOf}
+use Rattle.kernels.specs.Lanes.{Each, none, more, feed, laneOf, inOrder}
 use Rattle.kernels.specs.Plain.{laneTimes, lanes, pieceProduct}
-use Rattle.kernels.specs.Stepped.{rateAcc, accAt, laneJoined, steppedLanes, lanesJoined, stepped}
+use Rattle.kernels.specs.Stepped.{rateAcc, accAt, laneJoined, steppedLanes, lanesJoined, stepped, Sound, SmallAccs, UnitAccs}
 use Rattle.kernels.specs.Blocks.{contiguous}
 use Rattle.kernels.specs.Pieces.{Piece, worked, workedPiece, joinedPieces, rateCount}
 use Rattle.kernels.proofs.Feeding.{feed-keeps, order-keeps, each-of}
@@ -110,11 +110,6 @@ module _ (t E : ℕ) where
           (times-normal t p g (r .0) N, le-trans s (let z = r .1 in omega arith))
 
 -- ---- accumulators
--- m is a value of binary64 with 1 <= |m| < 2
-pub record Sound (a : StableProductFloatAcc) : Type 0 where
-  pub value : T (fits binary64 (a .m))
-  pub in-unit : inUnit (a .m) ≡ true
-
 pub identity-sound : Sound identityAcc
 unfolding inUnit fits
 identity-sound = record { value = tt; in-unit = refl }
@@ -134,16 +129,20 @@ combined-sound a b A C = go (a .bad || b .bad) refl
 abbrev accSize : StableProductFloatAcc → ℕ
 accSize a = natAbs (a .e)
 
-record Joined (i : ℕ) (ls : List StableProductFloatAcc) : Type 0 where
-  long : length ls ≡ 8
-  near : total accSize ls ≤ 1025 * i
-  sound : (k : ℕ) → k < 8 → Sound (accAt ls k)
+-- i values are in the lanes ls
+pub record Joined (i : ℕ) (ls : List StableProductFloatAcc) : Type 0 where
+  pub long : length ls ≡ 8
+  pub near : total accSize ls ≤ 1025 * i
+  pub sound : UnitAccs ls
 
-joined-start : Joined 0 (replicate 8 identityAcc)
+pub joined-small : (i : ℕ) (ls : List StableProductFloatAcc) → Joined i ls → SmallAccs (1025 * i) ls
+joined-small i ls h = record { at = λ k. le-trans (total-at accSize ls k (accAt [] 0)) (let w = h .near in omega arith) }
+
+pub joined-start : Joined 0 (replicate 8 identityAcc)
 unfolding total
-joined-start = record { long = length-replicate 8 identityAcc; near = zero-le; sound = λ k h. subst Sound (sym (getD-replicate 8 k identityAcc (accAt [] 0) h)) identity-sound }
+joined-start = record { long = length-replicate 8 identityAcc; near = zero-le; sound = record { at = λ k h. subst Sound (sym (getD-replicate 8 k identityAcc (accAt [] 0) h)) identity-sound } }
 
-joined-more : (i : ℕ) (ls : List StableProductFloatAcc) (x : Float) → Joined i ls → Joined (suc i) (laneJoined i ls x)
+pub joined-more : (i : ℕ) (ls : List StableProductFloatAcc) (x : Float) → Joined i ls → Joined (suc i) (laneJoined i ls x)
 unfolding laneJoined
 joined-more i ls x h =
     let j = laneOf i in
@@ -153,7 +152,7 @@ joined-more i ls x h =
     record {
       long = length-set ls j a ∙ h .long;
       near = le-trans z (let w = h .near in omega arith);
-      sound = λ k l. set-cases Sound ls j k a (accAt [] 0) inside (λ e. combined-sound (accAt ls j) (rateAcc x) (h .sound j (lane-lt i)) (rate-sound x)) (λ n. h .sound k l);
+      sound = record { at = λ k l. set-cases Sound ls j k a (accAt [] 0) inside (λ e. combined-sound (accAt ls j) (rateAcc x) (h .sound .at j (lane-lt i)) (rate-sound x)) (λ n. h .sound .at k l) };
     }
 
 joined-feed : (i : ℕ) (ls : List StableProductFloatAcc) (xs : List Float) → Joined i ls → Joined (i + length xs) (feed laneJoined i ls xs)
@@ -161,16 +160,20 @@ unfolding feed
 joined-feed i ls [] h = subst (λ (n : ℕ). Joined n ls) (sym (add-zero i)) h
 joined-feed i ls (x ∷ xs) h = subst (λ (n : ℕ). Joined n (feed laneJoined (suc i) (laneJoined i ls x) xs)) (omega arith) (joined-feed (suc i) (laneJoined i ls x) xs (joined-more i ls x h))
 
+-- k lanes joined in order
+pub order-sound : (ls : List StableProductFloatAcc) (k : ℕ) → k ≤ 8 → UnitAccs ls → Sound (inOrder (λ (k : ℕ) (a : StableProductFloatAcc). combined a (accAt ls k)) k identityAcc)
+order-sound ls k h u =
+    order-keeps (λ (k : ℕ) (a : StableProductFloatAcc). combined a (accAt ls k)) (λ (k : ℕ). Sound) k
+    (λ j a l s. combined-sound a (accAt ls j) s (u .at j (le-trans l h))) identityAcc identity-sound
+
 module _ (xs : List Float) where
-  joined-all : Joined (length xs) (steppedLanes xs)
+  pub joined-all : Joined (length xs) (steppedLanes xs)
   unfolding steppedLanes
   joined-all = subst (λ (n : ℕ). Joined n (feed laneJoined 0 (replicate 8 identityAcc) xs)) (omega arith) (joined-feed 0 (replicate 8 identityAcc) xs joined-start)
 
   pub stepped-sound : Sound (stepped xs)
   unfolding stepped lanesJoined
-  stepped-sound =
-      order-keeps (λ (k : ℕ) (a : StableProductFloatAcc). combined a (accAt (steppedLanes xs) k)) (λ (k : ℕ). Sound) 8
-      (λ k a h s. combined-sound a (accAt (steppedLanes xs) k) s (joined-all .sound k h)) identityAcc identity-sound
+  stepped-sound = order-sound (steppedLanes xs) 8 (le-refl 8) (joined-all .sound)
 
   pub stepped-size : natAbs (stepped xs .e) ≤ 1025 * length xs + 8
   unfolding stepped lanesJoined total

@@ -5,7 +5,7 @@ use mathlib.Core.Bool.{Bool, true, false, cond, _||_}
 use mathlib.Core.List.{List, [], _∷_}
 use native.Mathlib.Nat.{le-refl, le-trans, add-le-add}
 use native.Mathlib.Omega.{arith}
-use lib.ListN.{length, getD, set, replicate}
+use lib.ListN.{getD, set, replicate}
 use lib.IntN.{ℤ, pos, negsuc, natAbs, _+ℤ_, _-ℤ_}
 use lib.Dec.{ltb}
 use lib.Ieee.{Float}
@@ -18,8 +18,8 @@ use Rattle.binary64.proofs.Factor.{add-size}
 use Rattle.accumulator.specs.declared.StableProductFloatAcc.{StableProductFloatAcc}
 use Rattle.accumulator.specs.Joining.{identityAcc, combined, multiplied}
 use Rattle.accumulator.proofs.Combining.{combined-bad, combined-good, multiplied-two, multiplied-less}
-use Rattle.kernels.specs.Lanes.{feed, laneOf, inOrder}
-use Rattle.kernels.specs.Stepped.{rateAcc, accAt, laneJoined, steppedLanes, SmallAccs}
+use Rattle.kernels.specs.Lanes.{inOrder}
+use Rattle.kernels.specs.Stepped.{rateAcc, accAt, SmallAccs}
 use Rattle.kernels.proofs.Feeding.{order-keeps}
 
 -- a place of a list after a store: what was stored, or what was there
@@ -72,27 +72,6 @@ combined-size a b = go (a .bad || b .bad) refl
 -- ---- stepped lanes
 pub accs-le : (n m : ℕ) (ls : List StableProductFloatAcc) → n ≤ m → SmallAccs n ls → SmallAccs m ls
 accs-le n m ls h s = record { at = λ k. le-trans (s .at k) h }
-
-pub accs-start : SmallAccs 0 (replicate 8 identityAcc)
-accs-start = record { at = λ k. replicate-either (λ (a : StableProductFloatAcc). natAbs (a .e) ≤ 0) 8 k identityAcc (accAt [] 0) (le-refl 0) (le-refl 0) }
-
--- a value joined to lane j
-pub accs-set : (n : ℕ) (ls : List StableProductFloatAcc) (j : ℕ) (x : Float) → SmallAccs n ls → SmallAccs (n + 1025) (set ls j (combined (accAt ls j) (rateAcc x)))
-accs-set n ls j x h = record {
-  at = λ k.
-      set-either (λ (a : StableProductFloatAcc). natAbs (a .e) ≤ n + 1025) ls j k (combined (accAt ls j) (rateAcc x)) (accAt [] 0)
-      (le-trans (combined-size (accAt ls j) (rateAcc x)) (omega (arith, h .at j, rate-size x))) (le-trans (h .at k) (omega arith));
-}
-
-accs-feed : (n i : ℕ) (ls : List StableProductFloatAcc) (xs : List Float) → SmallAccs n ls → SmallAccs (n + 1025 * length xs) (feed laneJoined i ls xs)
-unfolding feed laneJoined
-accs-feed n i ls [] h = record { at = λ k. le-trans (h .at k) (omega arith) }
-accs-feed n i ls (x ∷ xs) h =
-    subst (λ (m : ℕ). SmallAccs m (feed laneJoined (suc i) (laneJoined i ls x) xs)) (omega arith) (accs-feed (n + 1025) (suc i) (laneJoined i ls x) xs (accs-set n ls (laneOf i) x h))
-
-pub accs-all : (xs : List Float) → SmallAccs (1025 * length xs) (steppedLanes xs)
-unfolding steppedLanes
-accs-all xs = subst (λ (m : ℕ). SmallAccs m (feed laneJoined 0 (replicate 8 identityAcc) xs)) (omega arith) (accs-feed 0 0 (replicate 8 identityAcc) xs accs-start)
 
 -- k lanes joined in order
 pub joined-size : (n : ℕ) (ls : List StableProductFloatAcc) (k : ℕ) → SmallAccs n ls → natAbs (inOrder (λ (k : ℕ) (a : StableProductFloatAcc). combined a (accAt ls k)) k identityAcc .e) ≤ suc n * k

@@ -19,7 +19,8 @@ use Rattle.accumulator.specs.Joining.{identityAcc, combined}
 use Rattle.kernels.specs.Lanes.{feed, laneOf}
 use Rattle.kernels.specs.Strided.{strided, Inside}
 use Rattle.kernels.specs.Stepped.{rateAcc, accAt, laneJoined, steppedLanes, SmallAccs}
-use Rattle.kernels.proofs.Sizes.{accs-start, accs-le, accs-set, accs-all}
+use Rattle.kernels.proofs.Sizes.{accs-le}
+use Rattle.kernels.proofs.Bounded.{Joined, joined-small, joined-start, joined-more, joined-all}
 
 -- ---- places
 inside-next : (len : ℕ) (at stride : ℤ) (n : ℕ) → Inside len at stride (suc n) → Inside len (at +ℤ stride) stride n
@@ -116,14 +117,16 @@ module _ (len at : ℕ) (z : ℤ) (n : ℕ) (i : Inside len z (pos 1) n) (some :
 
 -- the lanes of at most 2^40 values are far from the ends of i64
 pub strided-small : (xs : List Float) (start stride : ℤ) (n : ℕ) → n ≤ 2 ^ 40 → SmallAccs (2 ^ 52) (steppedLanes (strided xs start stride n))
-strided-small xs start stride n h = accs-le (1025 * length (strided xs start stride n)) (2 ^ 52) (steppedLanes (strided xs start stride n)) (rw (length-strided xs start stride n) (omega arith)) (accs-all (strided xs start stride n))
+strided-small xs start stride n h =
+    let ys = strided xs start stride n in
+    accs-le (1025 * length ys) (2 ^ 52) (steppedLanes ys) (rw (length-strided xs start stride n) (omega arith)) (joined-small (length ys) (steppedLanes ys) (joined-all ys))
 
 -- ---- the loop: i values are in the lanes ls, and the next is at `at`
 pub record Passed (xs : List Float) (start stride : ℤ) (n : ℕ) (ls : List StableProductFloatAcc) (at : ℤ) (i : ℕ) : Type 0 where
   pub short : i ≤ n
   pub inside : Inside (length xs) at stride (n - i)
   pub same : feed laneJoined i ls (strided xs at stride (n - i)) ≡ steppedLanes (strided xs start stride n)
-  pub small : SmallAccs (1025 * i) ls
+  pub joined : Joined i ls
 
 module _ (xs : List Float) (start stride : ℤ) (n : ℕ) where
   pub passed-none : (ls : List StableProductFloatAcc) → ls ≡ replicate 8 identityAcc → Inside (length xs) start stride n → Passed xs start stride n ls start 0
@@ -132,7 +135,7 @@ module _ (xs : List Float) (start stride : ℤ) (n : ℕ) where
     short = omega arith;
     inside = subst (Inside (length xs) start stride) (sym all) h;
     same = ap (λ (k : ℕ). feed laneJoined 0 ls (strided xs start stride k)) all ∙ ap (λ (l : List StableProductFloatAcc). feed laneJoined 0 l (strided xs start stride n)) e;
-    small = subst (SmallAccs 0) (sym e) accs-start;
+    joined = subst (Joined 0) (sym e) joined-start;
   }
     where
       all : n - 0 ≡ n
@@ -156,11 +159,12 @@ module _ (xs : List Float) (start stride : ℤ) (n : ℕ) where
           ∙ ap (λ (k : ℕ). feed laneJoined i ls (strided xs at stride k)) (sym one-less)
           ∙ p .same
 
-      smaller : SmallAccs (1025 * (i + 1)) us
-      smaller = subst (SmallAccs (1025 * (i + 1))) (sym e) (subst (λ (m : ℕ). SmallAccs m (set ls (laneOf i) (combined (accAt ls (laneOf i)) (rateAcc (getD xs (natAbs at) nan))))) (omega arith) (accs-set (1025 * i) ls (laneOf i) (getD xs (natAbs at) nan) (p .small)))
+      longer : Joined (i + 1) us
+      unfolding laneJoined
+      longer = subst (Joined (i + 1)) (sym e) (subst (λ (k : ℕ). Joined k (laneJoined i ls (getD xs (natAbs at) nan))) (sym (add-one i)) (joined-more i ls (getD xs (natAbs at) nan) (p .joined)))
 
       pub passed-more : i + 1 < n → Passed xs start stride n us (at +ℤ stride) (i + 1)
-      passed-more h = record { short = omega arith; inside = inside-next (length xs) at stride (n - (i + 1)) (subst (Inside (length xs) at stride) one-less (p .inside)); same = turned; small = smaller }
+      passed-more h = record { short = omega arith; inside = inside-next (length xs) at stride (n - (i + 1)) (subst (Inside (length xs) at stride) one-less (p .inside)); same = turned; joined = longer }
 
       -- the last value: no further place is formed
       pub passed-last : n ≤ i + 1 → Passed xs start stride n us at (i + 1)
@@ -169,7 +173,7 @@ module _ (xs : List Float) (start stride : ℤ) (n : ℕ) where
         short = omega arith;
         inside = subst (Inside (length xs) at stride) (sym none) (inside-none (length xs) at stride);
         same = ap (λ (k : ℕ). feed laneJoined (i + 1) us (strided xs at stride k)) none ∙ sym (ap (λ (k : ℕ). feed laneJoined (i + 1) us (strided xs (at +ℤ stride) stride k)) none) ∙ turned;
-        small = smaller;
+        joined = longer;
       }
         where
           none : n - (i + 1) ≡ 0

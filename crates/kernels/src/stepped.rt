@@ -4,7 +4,7 @@ ghost use Prim.Native.Nat.{_<_, _≤_, _^_};
 ghost use lib.ListN.{length, set, replicate};
 ghost use Rattle.accumulator.specs.Joining.{identityAcc, combined};
 ghost use Rattle.kernels.specs.Strided.{strided, Inside};
-ghost use Rattle.kernels.specs.Stepped.{rateAcc, accAt, steppedLanes, lanesJoined, stepped, SmallAccs};
+ghost use Rattle.kernels.specs.Stepped.{rateAcc, accAt, steppedLanes, lanesJoined, stepped, SmallAccs, UnitAccs};
 use accumulator::StableProductFloatAcc;
 
 const LANES: usize = StableProductFloatAcc::LANES;
@@ -34,13 +34,13 @@ fn from_value(value: f64) -> StableProductFloatAcc
 
 // One value joined to its lane, the lane on the left. The lanes' exponents are far from the ends of i64.
 fn join_lane(t: AccLanes, lane: usize, value: f64) -> AccLanes
-    requires { ⌜ (lane < 8) × SmallAccs (2 ^ 60) (t .lanes) ⌝ }
+    requires { ⌜ (lane < 8) × SmallAccs (2 ^ 60) (t .lanes) × UnitAccs (t .lanes) ⌝ }
     ensures { λ r. ⌜ r .lanes ≡ set (t .lanes) lane (combined (accAt (t .lanes) lane) (rateAcc value)) ⌝ }
 {
     let mut u = t;
     let a = u.lanes[lane];
     let b = from_value(value);
-    let j = accumulator::stable_float_combine(a, b);
+    let j = accumulator::combine_units(a, b);
     u.lanes[lane] = j;
     u
 }
@@ -66,14 +66,14 @@ fn stepped_lanes(values: &[f64], start: i64, stride: i64, len: usize) -> AccLane
 
 // The lanes joined in lane order, from the identity on the left.
 fn joined_lanes(t: AccLanes) -> StableProductFloatAcc
-    requires { ⌜ SmallAccs (2 ^ 52) (t .lanes) ⌝ }
+    requires { ⌜ SmallAccs (2 ^ 52) (t .lanes) × UnitAccs (t .lanes) ⌝ }
     ensures { λ r. ⌜ r ≡ lanesJoined (t .lanes) ⌝ }
 {
     let mut a = StableProductFloatAcc::identity();
     let mut k: usize = 0;
     while k < LANES {
         let b = t.lanes[k];
-        a = accumulator::stable_float_combine(a, b);
+        a = accumulator::combine_units(a, b);
         k += 1;
     }
     a

@@ -10,9 +10,10 @@ use borrow.Author.Needs.{needs}
 use Rattle.accumulator.specs.declared.StableProductFloatAcc.{StableProductFloatAcc}
 use Rattle.accumulator.specs.Joining.{identityAcc, combined}
 use Rattle.kernels.specs.Lanes.{inOrder}
-use Rattle.kernels.specs.Stepped.{accAt, lanesJoined}
+use Rattle.kernels.specs.Stepped.{accAt, lanesJoined, Sound}
 use Rattle.kernels.proofs.Feeding.{order-more, order-all}
 use Rattle.kernels.proofs.Sizes.{joined-size}
+use Rattle.kernels.proofs.Bounded.{order-sound}
 use Rattle.kernels.proofs.stepped.joined_lanes.Statement.{statement}
 use Rattle.kernels.proofs.stepped.joined_lanes.Tie as tie
 
@@ -39,13 +40,17 @@ mul-b c = search needs
 element-copy-out-b : tie.Need-element-copy-out-b Inv-loop μ-loop
 element-copy-out-b c = search needs
 
-stable-float-combine-requires : tie.Need-stable-float-combine-requires Inv-loop μ-loop
-stable-float-combine-requires c κs =
+combine-units-requires : tie.Need-combine-units-requires Inv-loop μ-loop
+combine-units-requires c κs =
     let t = c .before .before in
     let s = t .before .before in
-    let ls = s .args .t1 .lanes in (
-      subst (λ (a : StableProductFloatAcc). natAbs (a .e) ≤ 2 ^ 61) (sym (t .loop .inv .1)) (le-trans (joined-size (2 ^ 52) ls (t .loop .k) (s .pre)) (omega (arith, t .loop .inv .0))),
-      le-trans (s .pre .at (t .loop .k)) (lit≤ tt),
+    let ls = s .args .t1 .lanes in
+    let k = t .loop .k in
+    let is = sym (t .loop .inv .1) in (
+      subst (λ (a : StableProductFloatAcc). natAbs (a .e) ≤ 2 ^ 61) is (le-trans (joined-size (2 ^ 52) ls k (s .pre .0)) (omega (arith, t .loop .inv .0))),
+      le-trans (s .pre .0 .at k) (lit≤ tt),
+      subst Sound is (order-sound ls k (t .loop .inv .0) (s .pre .1)) .in-unit,
+      s .pre .1 .at k (c .before .loop-test .taken) .in-unit,
     )
 
 add-k : tie.Need-add-k Inv-loop μ-loop
@@ -57,7 +62,7 @@ loop-less c = omega arith
 loop-again : tie.Need-loop-again Inv-loop μ-loop
 loop-again c =
     let t = c .before .before .before in
-    (omega arith, order-more (step (t .before .before .args .t1 .lanes)) identityAcc (t .loop .a) (c .stable-float-combine .result) (t .loop .k) (t .loop .inv .1) (c .stable-float-combine .ensures))
+    (omega arith, order-more (step (t .before .before .args .t1 .lanes)) identityAcc (t .loop .a) (c .combine-units .result) (t .loop .k) (t .loop .inv .1) (c .combine-units .ensures))
 
 returns : tie.Need-returns Inv-loop μ-loop
 unfolding lanesJoined
@@ -66,4 +71,4 @@ returns c =
     order-all (step (t .before .before .args .t1 .lanes)) 8 identityAcc (t .loop .a) (t .loop .k) (t .loop .inv .0) (c .loop-test .left) (t .loop .inv .1)
 
 pub joined-lanes-spec : {M : Type 1} → statement M
-joined-lanes-spec = tie.close (tie.spec Inv-loop μ-loop identity-requires loop-holds mul-b element-copy-out-b stable-float-combine-requires add-k loop-less loop-again returns)
+joined-lanes-spec = tie.close (tie.spec Inv-loop μ-loop identity-requires loop-holds mul-b element-copy-out-b combine-units-requires add-k loop-less loop-again returns)

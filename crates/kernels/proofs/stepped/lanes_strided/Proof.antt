@@ -4,7 +4,8 @@ use mathlib.Core.Path.{_≡_, sym, ap, _∙_, subst}
 use mir.Syntax.{w64}
 use mir.ValLaws.{toZ-ofZ}
 use Rattle.kernels.specs.Strided.{strided}
-use Rattle.kernels.specs.Stepped.{steppedLanes, lanesJoined, stepped, SmallAccs}
+use Rattle.kernels.specs.Stepped.{steppedLanes, lanesJoined, stepped, SmallAccs, UnitAccs}
+use Rattle.kernels.proofs.Bounded.{joined-all}
 use Rattle.kernels.proofs.Striding.{strided-small}
 use Rattle.kernels.proofs.stepped.lanes_strided.Statement.{statement}
 use Rattle.kernels.proofs.stepped.lanes_strided.Tie as tie
@@ -24,7 +25,10 @@ held c =
 joined-lanes-requires : tie.Need-joined-lanes-requires
 joined-lanes-requires c κs =
     let s = c .before .before in
-    subst (SmallAccs (2 ^ 52)) (sym (held c)) (strided-small (s .args .values .now) (s .args .start) (s .args .stride) (s .args .len) (s .pre .1))
+    let xs = strided (s .args .values .now) (s .args .start) (s .args .stride) (s .args .len) in (
+      subst (SmallAccs (2 ^ 52)) (sym (held c)) (strided-small (s .args .values .now) (s .args .start) (s .args .stride) (s .args .len) (s .pre .1)),
+      subst UnitAccs (sym (held c)) (joined-all xs .sound),
+    )
 
 returns : tie.Need-returns
 unfolding stepped

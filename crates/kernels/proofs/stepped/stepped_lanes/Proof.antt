@@ -9,6 +9,7 @@ use mir.Syntax.{w64}
 use mir.ValLaws.{toZ-ofZ}
 use borrow.Author.Needs.{needs}
 use Rattle.kernels.proofs.Sizes.{accs-le}
+use Rattle.kernels.proofs.Bounded.{joined-small}
 use Rattle.kernels.proofs.Striding.{Passed, passed-none, passed-more, passed-last, passed-all, first-natural, first-below, next-fits}
 use Rattle.kernels.proofs.stepped.stepped_lanes.Statement.{statement}
 use Rattle.kernels.proofs.stepped.stepped_lanes.Tie as tie
@@ -52,7 +53,9 @@ shared-slice-read-join-lane c = here (c .before)
 join-lane-requires : tie.Need-join-lane-requires Inv-loop μ-loop
 join-lane-requires c κs =
     let t = c .before .before in
-    (omega arith, accs-le (1025 * t .loop .i) (2 ^ 60) (t .loop .t .lanes) (omega (arith, t .before .before .before .pre .1)) (t .loop .inv .small))
+    let ls = t .loop .t .lanes in
+    let h = t .loop .inv .joined in
+    (omega arith, accs-le (1025 * t .loop .i) (2 ^ 60) ls (omega (arith, t .before .before .before .pre .1)) (joined-small (t .loop .i) ls h), h .sound)
 
 add-i : tie.Need-add-i Inv-loop μ-loop
 add-i c = omega arith
