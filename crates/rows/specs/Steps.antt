@@ -21,5 +21,5 @@ pub record Progress (left hold done : ℕ) : Type 0 where
 
 -- blocks that are guarded before the next try
 unfoldable pub holdAfter : ℕ → ℕ → ℕ
-holdAfter hold zero = 16
+holdAfter hold zero = 64
 holdAfter hold (suc n) = hold - 1

@@ -1,9 +1,9 @@
 // The lanes of a piece, many rows at a time.
 ghost use mathlib.Core.Path.{_≡_};
 ghost use mathlib.Core.Logic.{_⊎_};
-ghost use Prim.Native.Nat.{_*_, _^_, _≤_, min};
+ghost use Prim.Native.Nat.{_+_, _*_, _^_, _≤_, min};
 ghost use lib.ListN.{length};
-ghost use Rattle.kernels.specs.Lanes.{feed};
+ghost use Rattle.kernels.specs.Lanes.{feed, window};
 ghost use Rattle.kernels.specs.Strided.{strided, Inside};
 ghost use Rattle.kernels.specs.Blocks.{startLanes, SmallLanes};
 ghost use Rattle.kernels.specs.Standing.{Fed};
@@ -21,7 +21,7 @@ const MOST_ROWS: usize = 64;
 
 const BLOCK: usize = StableProductFloatAcc::BLOCK;
 
-const HOLD: usize = 16;
+const HOLD: usize = 64;
 
 // Lanes that wait to be brought back, and how many values went to them.
 pub struct Step {
@@ -39,7 +39,23 @@ pub fn start_waiting(s: Lanes) -> Waiting
     }
 }
 
-pub fn wait_rows(w: Waiting, values: &[f64], start: i64, stride: i64, rows: usize) -> Waiting
+// Rows that lie side by side.
+fn wait_beside(w: Waiting, values: &[f64], at: usize, rows: usize) -> Waiting
+    requires { ⌜ (length (w .m) ≡ 8) × (length (w .least) ≡ 8) × (at + 8 * rows ≤ length (now values)) ⌝ }
+    ensures { λ r. ⌜ r ≡ feed waitStep 0 w (window (now (values .entry)) at (8 * rows)) ⌝ }
+{
+    let mut t = w;
+    let mut i: usize = 0;
+    while i < rows {
+        let row = crate::row::row_at(values, at + i * LANES);
+        t = crate::row::wait_row(t, row);
+        i += 1;
+    }
+    t
+}
+
+// Rows a stride apart.
+fn wait_apart(w: Waiting, values: &[f64], start: i64, stride: i64, rows: usize) -> Waiting
     requires { ⌜ (length (w .m) ≡ 8) × (length (w .least) ≡ 8) × (rows ≤ 2 ^ 40) × Inside (length (now values)) start stride (8 * rows) ⌝ }
     ensures { λ r. ⌜ r ≡ feed waitStep 0 w (strided (now (values .entry)) start stride (8 * rows)) ⌝ }
 {
@@ -47,7 +63,7 @@ pub fn wait_rows(w: Waiting, values: &[f64], start: i64, stride: i64, rows: usiz
     let mut at = start;
     let mut i: usize = 0;
     while i < rows {
-        let row = crate::row::full_row(values, at, stride);
+        let row = crate::row::row_of(values, at, stride, LANES);
         t = crate::row::wait_row(t, row);
         i += 1;
         if i < rows {
@@ -55,6 +71,19 @@ pub fn wait_rows(w: Waiting, values: &[f64], start: i64, stride: i64, rows: usiz
         }
     }
     t
+}
+
+pub fn wait_rows(w: Waiting, values: &[f64], start: i64, stride: i64, rows: usize) -> Waiting
+    requires { ⌜ (length (w .m) ≡ 8) × (length (w .least) ≡ 8) × (rows ≤ 2 ^ 40) × Inside (length (now values)) start stride (8 * rows) ⌝ }
+    ensures { λ r. ⌜ r ≡ feed waitStep 0 w (strided (now (values .entry)) start stride (8 * rows)) ⌝ }
+{
+    if rows == 0 {
+        return w;
+    }
+    if stride == 1 {
+        return wait_beside(w, values, start as usize, rows);
+    }
+    wait_apart(w, values, start, stride, rows)
 }
 
 // Up to 64 rows that wait. They count only if no square was below 2^-29 and no lane is infinite or a NaN; else nothing is done.

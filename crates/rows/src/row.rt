@@ -62,7 +62,7 @@ pub fn row_of(values: &[f64], at: i64, stride: i64, n: usize) -> Row
 }
 
 // Eight values that lie side by side.
-fn row_at(values: &[f64], at: usize) -> Row
+pub fn row_at(values: &[f64], at: usize) -> Row
     requires { ⌜ at + 8 ≤ length (now values) ⌝ }
     ensures { λ r. ⌜ r .v ≡ window (now (values .entry)) at 8 ⌝ }
 {

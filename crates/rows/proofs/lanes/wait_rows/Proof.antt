@@ -1,131 +1,84 @@
--- `rows::lanes::wait_rows` meets its contract. The loop's invariant: i rows are in, and the next, if there is one, begins at `at`. Assumes nothing.
-use Prim.Native.Nat.{ℕ, _+_, _-_, _*_, _≤_, _<_}
+-- `rows::lanes::wait_rows` meets its contract, side by side or a stride apart. Assumes nothing.
+use Prim.Native.Nat.{ℕ, _+_, _*_, _≤_, _<_}
 use mathlib.Core.Path.{_≡_, refl, sym, ap, _∙_, subst}
 use native.Mathlib.Omega.{arith}
 use lib.ListN.{length}
-use lib.IntN.{ℤ, pos, _+ℤ_, _*ℤ_}
-use mir.Val.{SFits, toZ, ofZ}
-use mir.Syntax.{w64}
+use lib.IntN.{ℤ, pos, natAbs}
+use mir.Val.{toZ, ofZ}
 use mir.ValLaws.{toZ-ofZ}
-use Rattle.kernels.specs.Lanes.{feed}
+use mir.Syntax.{w64}
+use borrow.Author.Needs.{needs}
+use Rattle.integers.proofs.Machine.{same-bits, pos-fits}
+use Rattle.kernels.specs.Lanes.{feed, window}
 use Rattle.kernels.specs.Strided.{strided, Inside}
-use Rattle.rows.specs.declared.row.Waiting.{Waiting}
+use Rattle.kernels.proofs.Striding.{first-natural, strided-window, at-first, at-last}
 use Rattle.rows.specs.Waiting.{waitStep}
-use Rattle.rows.proofs.Rowwise.{place-first, inside-part, place-fits, step-fits}
-use Rattle.kernels.proofs.Striding.{length-strided}
-use Rattle.rows.proofs.Rows.{place-row, rows-more, wait-again, wait-m-long, wait-least-long}
 use Rattle.rows.proofs.lanes.wait_rows.Statement.{statement}
 use Rattle.rows.proofs.lanes.wait_rows.Tie as tie
 
-abbrev Inv-loop : tie.InvT-loop
-Inv-loop values start stride rows t₀ at₀ i₀ t at i =
-    (i ≤ rows)
-    × (t ≡ feed waitStep 0 t₀ (strided values (toZ w64 start) (toZ w64 stride) (8 * i)))
-    × (i < rows → toZ w64 at ≡ toZ w64 start +ℤ toZ w64 stride *ℤ pos (8 * i))
-
-abbrev μ-loop : tie.MeasureT-loop
-μ-loop values start stride rows t₀ at₀ i₀ t at i = rows - i
-
-loop-holds : tie.Need-loop-holds Inv-loop μ-loop
+returns : tie.Need-returns
 unfolding feed strided
-loop-holds c = (omega arith, refl, λ h. place-first (toZ w64 (ofZ w64 (c .before .args .start))) (toZ w64 (ofZ w64 (c .before .args .stride))))
-
--- what is required, of the numbers as the code holds them
-inside : (c : tie.In-loop Inv-loop μ-loop) → let s = c .before .before .before in Inside (length (s .args .values .now)) (toZ w64 (ofZ w64 (s .args .start))) (toZ w64 (ofZ w64 (s .args .stride))) (8 * s .args .rows)
-inside c = let s = c .before .before .before in simp (toZ-ofZ w64 (s .args .start) (s .fits .start), toZ-ofZ w64 (s .args .stride) (s .fits .stride)) (s .pre .3)
-
--- the next row
-full-row-requires : tie.Need-full-row-requires Inv-loop μ-loop
-full-row-requires c κs =
-    let s = c .before .before .before in
-    let i = c .before .loop .i in
-    subst (λ (z : ℤ). Inside (length (s .args .values .now)) z (toZ w64 (ofZ w64 (s .args .stride))) 8) (sym (c .before .loop .inv .2 (c .loop-test .taken)))
-    (inside-part (length (s .args .values .now)) (toZ w64 (ofZ w64 (s .args .start))) (toZ w64 (ofZ w64 (s .args .stride))) (8 * s .args .rows) (8 * i) 8 (inside c) (omega (arith, c .loop-test .taken)))
-
-wait-row-requires : tie.Need-wait-row-requires Inv-loop μ-loop
-wait-row-requires c κs =
-    let t = c .before .before in
-    let s = t .before .before in (
-      ap (λ (w : Waiting). length (w .m)) (t .loop .inv .1) ∙ wait-m-long 0 (s .args .w) _ ∙ s .pre .0,
-      ap (λ (w : Waiting). length (w .least)) (t .loop .inv .1) ∙ wait-least-long 0 (s .args .w) _ ∙ s .pre .1,
-      ap length (c .full-row .ensures) ∙ length-strided _ _ _ 8,
-    )
-
-add-i : tie.Need-add-i Inv-loop μ-loop
-add-i c = omega arith
-
-mul-at : tie.Need-mul-at Inv-loop μ-loop
-mul-at c =
-    let t = c .before .before .before .before in
-    let s = t .before .before in
-    step-fits (length (s .args .values .now)) (toZ w64 (ofZ w64 (s .args .start))) (toZ w64 (ofZ w64 (s .args .stride))) (8 * s .args .rows) (inside (c .before .before .before)) 8 (omega (arith, c .if1 .taken)) (omega (arith, s .good .1 .1))
-
--- the place a row further
-next : (c : tie.Then1 Inv-loop μ-loop) → let t = c .before .before .before .before in let s = t .before .before in toZ w64 (t .loop .at) +ℤ toZ w64 (ofZ w64 (toZ w64 (ofZ w64 (s .args .stride)) *ℤ pos 8)) ≡ toZ w64 (ofZ w64 (s .args .start)) +ℤ toZ w64 (ofZ w64 (s .args .stride)) *ℤ pos (8 * (t .loop .i + 1))
-next c =
-    let t = c .before .before .before .before in
-    let s = t .before .before in
-    let d = toZ w64 (ofZ w64 (s .args .stride)) in
-    ap (λ (z : ℤ). toZ w64 (t .loop .at) +ℤ z) (toZ-ofZ w64 (d *ℤ pos 8) (mul-at c))
-    ∙ ap (λ (z : ℤ). z +ℤ d *ℤ pos 8) (t .loop .inv .2 (c .before .before .before .loop-test .taken))
-    ∙ place-row (toZ w64 (ofZ w64 (s .args .start))) d (t .loop .i)
-
-add-at : tie.Need-add-at Inv-loop μ-loop
-add-at c =
-    let t = c .before .before .before .before in
-    let s = t .before .before in
-    subst (SFits w64) (sym (next c))
-    (place-fits (length (s .args .values .now)) (toZ w64 (ofZ w64 (s .args .start))) (toZ w64 (ofZ w64 (s .args .stride))) (8 * s .args .rows) (inside (c .before .before .before)) (8 * (t .loop .i + 1)) (omega (arith, c .if1 .taken)) (omega (arith, s .good .1 .1)))
-
--- the row is in
-more : (c : tie.After-wait-row Inv-loop μ-loop) → let t = c .before .before .before in let s = t .before .before in c .wait-row .result ≡ feed waitStep 0 (s .args .w) (strided (s .args .values .now) (toZ w64 (ofZ w64 (s .args .start))) (toZ w64 (ofZ w64 (s .args .stride))) (8 * (t .loop .i + 1)))
-more c =
-    let t = c .before .before .before in
-    let s = t .before .before in
-    let xs = s .args .values .now in
-    let b = toZ w64 (ofZ w64 (s .args .start)) in
-    let d = toZ w64 (ofZ w64 (s .args .stride)) in
-    rows-more waitStep wait-again (s .args .w) (t .loop .t) (c .wait-row .result) xs b d (t .loop .i) (t .loop .inv .1)
-    (c .wait-row .ensures
-    ∙ ap (feed waitStep 0 (t .loop .t)) (c .before .full-row .ensures)
-    ∙ ap (λ (z : ℤ). feed waitStep 0 (t .loop .t) (strided xs z d 8)) (t .loop .inv .2 (c .before .before .loop-test .taken)))
-
-loop-less : tie.Need-loop-less Inv-loop μ-loop
-loop-less c = omega arith
-
-loop-again : tie.Need-loop-again Inv-loop μ-loop
-loop-again c =
-    let t = c .before .before .before .before in
-    let s = t .before .before in
-    (omega arith, more (c .before), λ h. toZ-ofZ w64 (toZ w64 (t .loop .at) +ℤ toZ w64 (ofZ w64 (toZ w64 (ofZ w64 (s .args .stride)) *ℤ pos 8))) (add-at c) ∙ next c)
-
-loop-less-2 : tie.Need-loop-less-2 Inv-loop μ-loop
-loop-less-2 c = omega arith
-
--- the last row: no further place is formed
-loop-again-2 : tie.Need-loop-again-2 Inv-loop μ-loop
-loop-again-2 c = (omega arith, more (c .before), λ h. absurd (omega arith))
-
-returns : tie.Need-returns Inv-loop μ-loop
 returns c =
+    let s = c .before .before in
+    sym (ap (λ (n : ℕ). feed waitStep 0 (s .args .w) (strided (s .args .values .now) (s .args .start) (s .args .stride) (8 * n))) (c .if1 .taken))
+
+one : (c : tie.Then2) → c .before .before .before .args .stride ≡ pos 1
+one c = same-bits _ (pos 1) (c .before .before .before .fits .stride) (pos-fits 1 (omega arith)) (c .if2 .taken)
+
+some : (c : tie.Then2) → 1 ≤ 8 * c .before .before .before .args .rows
+some c = positive _ (c .before .if1 .left)
+  where
+    positive : (n : ℕ) → (n ≡ 0 → ⊥) → 1 ≤ 8 * n
+    positive n h = omega arith
+
+inside : (c : tie.Then2) → Inside (length (c .before .before .before .args .values .now)) (c .before .before .before .args .start) (pos 1) (8 * c .before .before .before .args .rows)
+inside c =
     let s = c .before .before .before in
-    let e = c .before .loop .inv .1 ∙ ap (λ (i : ℕ). feed waitStep 0 (s .args .w) (strided (s .args .values .now) (toZ w64 (ofZ w64 (s .args .start))) (toZ w64 (ofZ w64 (s .args .stride))) (8 * i))) (let z : c .before .loop .i ≡ s .args .rows = omega arith in z) in
-    simp (toZ-ofZ w64 (s .args .start) (s .fits .start), toZ-ofZ w64 (s .args .stride) (s .fits .stride)) at e
+    subst (λ (z : ℤ). Inside (length (s .args .values .now)) (s .args .start) z (8 * s .args .rows)) (one c) (s .pre .3)
+
+held : (c : tie.Then2) → natAbs (c .before .before .before .args .start) ≡ natAbs (toZ w64 (ofZ w64 (c .before .before .before .args .start)))
+held c = let s = c .before .before .before in sym (ap natAbs (toZ-ofZ w64 (s .args .start) (s .fits .start)))
+
+ends : (c : tie.Then2) → natAbs (toZ w64 (ofZ w64 (c .before .before .before .args .start))) + 8 * c .before .before .before .args .rows ≤ length (c .before .before .before .args .values .now)
+ends c = let s = c .before .before .before in at-last _ _ (s .args .start) (8 * s .args .rows) (inside c) (some c) (held c)
+
+cast-wait-beside : tie.Need-cast-wait-beside
+cast-wait-beside c =
+    let s = c .before .before .before in
+    (rw (toZ-ofZ w64 (s .args .start) (s .fits .start)) (first-natural _ _ _ _ (inside c) (some c)), omega (arith, ends c, s .good .1 .1))
+
+wait-beside-requires : tie.Need-wait-beside-requires
+wait-beside-requires c κs = let s = c .before .before .before in (s .pre .0, s .pre .1, ends c)
+
+returns-2 : tie.Need-returns-2
+returns-2 c =
+    let t = c .before in
+    let s = t .before .before .before in
+    let at = natAbs (toZ w64 (ofZ w64 (s .args .start))) in
+    let n = 8 * s .args .rows in
+    c .wait-beside .ensures
+    ∙ ap (feed waitStep 0 (s .args .w))
+    (strided-window (s .args .values .now) at n (ends t)
+    ∙ ap (λ (z : ℤ). strided (s .args .values .now) z (pos 1) n) (sym (at-first _ at (s .args .start) n (inside t) (some t) (held t)))
+    ∙ ap (λ (z : ℤ). strided (s .args .values .now) (s .args .start) z n) (sym (one t)))
+
+wait-apart-requires : tie.Need-wait-apart-requires
+wait-apart-requires c κs =
+    let s = c .before .before .before in
+    simp (toZ-ofZ w64 (s .args .start) (s .fits .start), toZ-ofZ w64 (s .args .stride) (s .fits .stride)) (s .pre .0, s .pre .1, s .pre .2, s .pre .3)
+
+returns-3 : tie.Need-returns-3
+returns-3 c =
+    let s = c .before .before .before .before in
+    simp (toZ-ofZ w64 (s .args .start) (s .fits .start), toZ-ofZ w64 (s .args .stride) (s .fits .stride)) at (c .wait-apart .ensures)
 
 pub wait-rows-spec : {M : Type 1} → statement M
 wait-rows-spec =
     tie.close
     (tie.spec
-    Inv-loop
-    μ-loop
-    loop-holds
-    full-row-requires
-    wait-row-requires
-    add-i
-    mul-at
-    add-at
-    loop-less
-    loop-again
-    loop-less-2
-    loop-again-2
-    returns)
+    returns
+    cast-wait-beside
+    wait-beside-requires
+    returns-2
+    wait-apart-requires
+    returns-3)
