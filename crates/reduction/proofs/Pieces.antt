@@ -19,7 +19,8 @@ use Rattle.offsets.specs.Lists.{steps}
 use Rattle.offsets.specs.Pieces.{pieceLength}
 use Rattle.kernels.specs.Pieces.{Piece, worked}
 use Rattle.kernels.specs.Strided.{strided, Inside}
-use Rattle.kernels.proofs.Striding.{first-natural}
+use Rattle.kernels.proofs.Striding.{first-natural, length-strided}
+use Rattle.integers.specs.Checked.{eqZ}
 use Rattle.integers.proofs.Difference.{ints, atoms}
 use Rattle.kernels.specs.Blocks.{contiguous, blocks, lanesIn, startLanes, SmallLanes}
 use Rattle.kernels.proofs.Bounded.{stepped-size}
@@ -98,6 +99,11 @@ contiguous-near xs =
     lanes-in-size (73728 * (length xs / 64 + 1)) (blocks (length xs / 64) startLanes xs) 8 _ refl
     (subst (λ (n : ℕ). SmallLanes n (blocks (length xs / 64) startLanes xs)) (zero-add (73728 * (length xs / 64 + 1))) (blocks-small 0 (length xs / 64) startLanes xs (omega arith) lanes-start))
 
-pub worked-near : (b : Bool) (xs : List Float) → 1 ≤ length xs → natAbs (worked b xs .e) ≤ 1048575 * length xs
+worked-near : (b : Bool) (xs : List Float) → 1 ≤ length xs → natAbs (worked b xs .e) ≤ 1048575 * length xs
 worked-near true xs h = le-trans (contiguous-near xs) (omega arith)
 worked-near false xs h = le-trans (stepped-size xs) (omega arith)
+
+pub strided-near : (values : List Float) (z s : ℤ) (n : ℕ) → 1 ≤ n → natAbs (worked (eqZ s (pos 1)) (strided values z s n) .e) ≤ 1048575 * n
+strided-near values z s n h =
+    subst (λ (m : ℕ). natAbs (worked (eqZ s (pos 1)) (strided values z s n) .e) ≤ 1048575 * m) (length-strided values z s n)
+    (worked-near (eqZ s (pos 1)) (strided values z s n) (rw (length-strided values z s n) h))

@@ -25,9 +25,8 @@ use Rattle.offsets.proofs.Writing.{piece-steps}
 use Rattle.kernels.specs.Pieces.{Piece, worked, workedPiece, joinedPieces}
 use Rattle.kernels.specs.Strided.{strided, Inside}
 use Rattle.kernels.proofs.Sizes.{combined-size}
-use Rattle.kernels.proofs.Striding.{length-strided}
 use Rattle.reduction.specs.Ranges.{valueAt, ratesFrom, pieceAt, piecesOf}
-use Rattle.reduction.proofs.Pieces.{pieces-none, pieces-more, strided-steps, worked-near}
+use Rattle.reduction.proofs.Pieces.{pieces-none, pieces-more, strided-steps, strided-near}
 
 -- what the piece p at a cursor gives the loop
 pub record Taken (l : FullTraversal) (base : ℤ) (values : List Float) (end : ℕ) (c : RangeCursor) (p : RangePiece) : Type 0 where
@@ -80,10 +79,7 @@ pub record Reducing (l : FullTraversal) (base : ℤ) (values : List Float) (star
 module _ (l : FullTraversal) (base : ℤ) (values : List Float) (start end : ℕ) (c : RangeCursor) (p : RangePiece) (t : Taken l base values end c p) (b : StableProductFloatAcc)
     (e : b ≡ worked (eqZ (l .«run_stride») (pos 1)) (strided values (p .first) (l .«run_stride») (p .len))) where
   pub near : natAbs (b .e) ≤ 1048575 * p .len
-  near =
-      subst (λ (a : StableProductFloatAcc). natAbs (a .e) ≤ 1048575 * p .len) (sym e)
-      (subst (λ (n : ℕ). natAbs (worked (eqZ (l .«run_stride») (pos 1)) (strided values (p .first) (l .«run_stride») (p .len)) .e) ≤ 1048575 * n) (length-strided values (p .first) (l .«run_stride») (p .len))
-      (worked-near (eqZ (l .«run_stride») (pos 1)) (strided values (p .first) (l .«run_stride») (p .len)) (rw (length-strided values (p .first) (l .«run_stride») (p .len)) (t .some-len))))
+  near = subst (λ (a : StableProductFloatAcc). natAbs (a .e) ≤ 1048575 * p .len) (sym e) (strided-near values (p .first) (l .«run_stride») (p .len) (t .some-len))
 
   is-piece : b ≡ workedPiece (pieceAt l base values end (c .at))
   is-piece = e ∙ t .worked-is

@@ -4,7 +4,7 @@ use mathlib.Core.Bool.{cond}
 use mathlib.Core.List.{List, [], _∷_, _++_, map}
 use lib.ListN.{length, getD}
 use lib.Dec.{ltb, eqb}
-use lib.IntN.{ℤ, pos, natAbs}
+use lib.IntN.{ℤ, pos, natAbs, _+ℤ_}
 use lib.Ieee.{Float, nan}
 use Rattle.integers.specs.Checked.{eqZ}
 use Rattle.layout.specs.declared.traversal.FullTraversal.{FullTraversal}
@@ -14,8 +14,9 @@ use Rattle.layout.specs.Compile.{compileOf}
 use Rattle.offsets.specs.Lists.{offsetsFrom, rangeCode}
 use Rattle.offsets.specs.Pieces.{pieceLength}
 use Rattle.accumulator.specs.declared.StableProductFloatAcc.{StableProductFloatAcc}
-use Rattle.accumulator.specs.Joining.{Told, accumulator, refusal}
-use Rattle.kernels.specs.Pieces.{Piece, joinedPieces}
+use Rattle.accumulator.specs.Joining.{Told, accumulator, refusal, combined}
+use Rattle.kernels.specs.Strided.{strided}
+use Rattle.kernels.specs.Pieces.{Piece, worked, joinedPieces}
 
 -- the value at an offset
 abbrev pub valueAt : List Float → ℤ → Float
@@ -38,6 +39,12 @@ piecesFrom l base values end (suc n) k =
 -- the pieces of a range: it has no more of them than elements
 abbrev pub piecesOf : FullTraversal → ℤ → List Float → ℕ → ℕ → List Piece
 piecesOf l base values end start = piecesFrom l base values end (end - start) start
+
+-- n whole runs of len values that begin a step apart, the first at z: each worked and joined from the right
+unfoldable pub strip : List Float → ℤ → ℤ → ℕ → ℕ → ℤ → StableProductFloatAcc → StableProductFloatAcc
+strip values step stride len zero z acc = acc
+strip values step stride len (suc n) z acc =
+    strip values step stride len n (z +ℤ step) (combined acc (worked (eqZ stride (pos 1)) (strided values z stride len)))
 
 -- the pieces' rates, one after another
 unfoldable pub ratesOf : List Piece → List Float

@@ -2,20 +2,23 @@
 ghost use mathlib.Core.Path.{_≡_};
 ghost use mathlib.Core.Bool.{true};
 ghost use mathlib.Core.List.{_∷_};
-ghost use Prim.Native.Nat.{_^_, _≤_, _<_};
-ghost use lib.ListN.{length};
-ghost use lib.IntN.{pos};
+ghost use Prim.Native.Nat.{ℕ, _+_, _*_, _/_, _%_, _^_, _≤_, _<_};
+ghost use lib.ListN.{length, getD};
+ghost use lib.IntN.{pos, natAbs, _+ℤ_, _*ℤ_};
 ghost use Rattle.integers.specs.Checked.{eqZ};
+ghost use Rattle.layout.specs.Axes.{noAxis};
 ghost use Rattle.offsets.specs.Elements.{allWithin};
 ghost use Rattle.offsets.specs.Cursors.{Bounded};
 ghost use Rattle.offsets.specs.Traversals.{runOf, outerOf, Traversal};
+ghost use Rattle.offsets.specs.Pieces.{OnRange};
 ghost use Rattle.kernels.specs.Strided.{strided, Inside};
 ghost use Rattle.kernels.specs.Pieces.{worked, joinedPieces};
 ghost use Rattle.accumulator.specs.Joining.{told};
-ghost use Rattle.reduction.specs.Ranges.{piecesOf, reduceOf};
+ghost use Rattle.reduction.specs.Ranges.{strip, piecesOf, reduceOf};
 use accumulator::Reduced;
 use accumulator::StableProductFloatAcc;
 use layout::traversal::FullTraversal;
+use offsets::pieces::RangeCursor;
 
 // One piece: in blocks of 64 at stride 1, in stepped lanes at any other.
 fn reduce_piece(values: &[f64], first: i64, stride: i64, len: usize) -> StableProductFloatAcc
@@ -30,7 +33,54 @@ fn reduce_piece(values: &[f64], first: i64, stride: i64, len: usize) -> StablePr
     rows::piece::lanes_strided(values, first, stride, len)
 }
 
-// The pieces from start to end - 1: the first as it is, each later one joined from the right.
+// How many whole runs lie ahead of a cursor within the range, a step of the first outer axis apart: 0 within a run, and 0 without outer axes.
+fn whole_runs(l: FullTraversal, c: RangeCursor, end: u64) -> u64
+    requires { ⌜ Traversal l × (c .at < end) × OnRange l c ⌝ }
+    ensures { λ r. ⌜ (0 < r → (0 < l .«axis_count») × (c .at % l .«run_len» ≡ 0) × (c .at / l .«run_len» % (getD (l .«run_axes») 0 noAxis) .extent + r ≤ (getD (l .«run_axes») 0 noAxis) .extent) × (c .at + r * l .«run_len» ≤ end)) ⌝ }
+{
+    if l.axis_count == 0 {
+        return 0;
+    }
+    if c.col != 0 {
+        return 0;
+    }
+    let axes = l.run_axes;
+    let a = axes[0];
+    let runs = c.runs;
+    let digits = runs.digits;
+    let left = a.extent - digits[0];
+    let room = (end - c.at) / l.run_len;
+    if left < room { left } else { room }
+}
+
+// `count` runs of `len` values that begin `step` apart, each joined from the right. No place past the last run's is formed.
+fn reduce_strip(
+    values: &[f64],
+    first: i64,
+    step: i64,
+    stride: i64,
+    len: usize,
+    count: u64,
+    acc: StableProductFloatAcc,
+) -> StableProductFloatAcc
+    requires { ⌜ (1 ≤ len) × (len ≤ 2 ^ 40) × (count * len ≤ 2 ^ 40) × (natAbs (acc .e) ≤ 2 ^ 60) × ((j : ℕ) → j < count → Inside (length (now values)) (first +ℤ step *ℤ pos j) stride len) ⌝ }
+    ensures { λ r. ⌜ r ≡ strip (now (values .entry)) step stride len count first acc ⌝ }
+{
+    let mut a = acc;
+    let mut at = first;
+    let mut j: u64 = 0;
+    while j < count {
+        let b = reduce_piece(values, at, stride, len);
+        a = accumulator::stable_float_combine(a, b);
+        j += 1;
+        if j < count {
+            at += step;
+        }
+    }
+    a
+}
+
+// The pieces from start to end - 1: the first as it is, each later one joined from the right. Whole runs along the first outer axis go in a strip.
 pub fn reduce_full_range(
     l: FullTraversal,
     base: i64,
@@ -42,14 +92,24 @@ pub fn reduce_full_range(
     ensures { λ r. ⌜ r ≡ joinedPieces (piecesOf l base (now (values .entry)) end start) ⌝ }
 {
     let stride = l.run_stride;
+    let axes = l.run_axes;
+    let outer = axes[0];
     let p = offsets::pieces::next_piece(l, end, offsets::pieces::begin(l, base, start));
     let mut acc = reduce_piece(values, p.first, stride, p.len as usize);
     let mut c = p.next;
     while c.at < end {
-        let q = offsets::pieces::next_piece(l, end, c);
-        let b = reduce_piece(values, q.first, stride, q.len as usize);
-        acc = accumulator::stable_float_combine(acc, b);
-        c = q.next;
+        let n = whole_runs(l, c, end);
+        if n < 2 {
+            let q = offsets::pieces::next_piece(l, end, c);
+            let b = reduce_piece(values, q.first, stride, q.len as usize);
+            acc = accumulator::stable_float_combine(acc, b);
+            c = q.next;
+        } else {
+            let len = l.run_len;
+            let at = c.runs.source_offset;
+            acc = reduce_strip(values, at, outer.source_step, stride, len as usize, n, acc);
+            c = offsets::pieces::begin(l, base, c.at + n * len);
+        }
     }
     acc
 }

@@ -1,18 +1,23 @@
 -- `reduction::full::reduce_full_range` meets its contract. The loop's invariant: what is left joins to the range's product (`Reducing`).
 -- Assumes nothing.
-use Prim.Native.Nat.{_-_, _<_}
+use Prim.Native.Nat.{_+_, _-_, _*_, _/_, _%_, _≤_, _<_}
 use mathlib.Core.Path.{_≡_, sym, _∙_, ap}
 use native.Mathlib.Omega.{arith}
+use native.Mathlib.Nat.{mul-le-mul-right}
 use lib.IntN.{pos}
 use mir.Val.{toZ, SFits}
 use mir.Facts.{toZ-ofZ}
 use mir.Syntax.{w64}
 use Rattle.offsets.specs.declared.pieces.RangeCursor.{RangeCursor}
-use Rattle.offsets.specs.Pieces.{rangeAt}
+use Rattle.offsets.specs.Pieces.{rangeAt, OnRange}
+use Rattle.offsets.proofs.Stepping.{small-fits}
+use Rattle.offsets.proofs.Walking.{on-run}
 use Rattle.integers.specs.Checked.{eqZ}
 use Rattle.kernels.specs.Strided.{strided}
 use Rattle.kernels.specs.Pieces.{worked}
+use Rattle.reduction.specs.Ranges.{strip}
 use Rattle.reduction.proofs.Ranges.{Taken, taken, Reducing, near, reducing-first, reducing-more, reducing-all}
+use Rattle.reduction.proofs.Strips.{run-some, firstAxis, runs-inside, reducing-strip}
 use Rattle.reduction.proofs.full.reduce_full_range.Statement.{statement}
 use Rattle.reduction.proofs.full.reduce_full_range.Tie as tie
 use Rattle.reduction.proofs.full.reduce_full_range.Reads as reads
@@ -21,131 +26,234 @@ use Rattle.accumulator.proofs.stable_float_combine.Reads as stable-float-combin
 use Rattle.offsets.proofs.pieces.begin.Reads as begin-reads
 use Rattle.offsets.proofs.pieces.next_piece.Reads as next-piece-reads
 use Rattle.reduction.proofs.full.reduce_piece.Reads as reduce-piece-reads
+use Rattle.reduction.proofs.full.reduce_strip.Reads as reduce-strip-reads
+use Rattle.reduction.proofs.full.whole_runs.Reads as whole-runs-reads
 
 abbrev Inv-loop : tie.InvT-loop
-Inv-loop l base start end values stride acc₀ c₀ acc c = Reducing l (toZ w64 base) values start end acc c
+Inv-loop l base start end values stride outer acc₀ c₀ acc c = Reducing l (toZ w64 base) values start end acc c
 
 abbrev μ-loop : tie.MeasureT-loop
-μ-loop l base start end values stride acc₀ c₀ acc c = end - c .at
+μ-loop l base start end values stride outer acc₀ c₀ acc c = end - c .at
 
--- src/full.rt:43:49
+-- the entry, from places further on
+abbrev from-outer : tie.After-outer Inv-loop μ-loop → tie.Start Inv-loop μ-loop
+from-outer c = c .before .before .before .before
+
+abbrev from-loop : tie.At-loop Inv-loop μ-loop → tie.Start Inv-loop μ-loop
+from-loop c = from-outer (c .before .before .before .before .before .before)
+
+array-copy-out-outer : tie.Need-array-copy-out-outer Inv-loop μ-loop
+array-copy-out-outer c = omega arith
+
 begin-requires : tie.Need-begin-requires Inv-loop μ-loop
-begin-requires c κs = let s = c .before .before in simp (toZ-ofZ (s .fits .base)) (s .pre .0, s .pre .1)
+begin-requires c κs = let s = from-outer c in simp (toZ-ofZ (s .fits .base)) (s .pre .0, s .pre .1)
 
-stride-fits : (c : tie.After-struct-told Inv-loop μ-loop) → SFits w64 (c .before .before .args .l .«run_stride»)
-stride-fits c = record { sfits = c .struct-told .given .1 .1 .0 .1 }
+stride-fits : (c : tie.After-outer Inv-loop μ-loop) → SFits w64 (from-outer c .args .l .«run_stride»)
+stride-fits c = record { sfits = c .before .before .struct-told .given .1 .1 .0 .1 }
 
 -- the first piece
-began : (c : tie.After-begin Inv-loop μ-loop) → c .begin .result ≡ rangeAt (c .before .before .before .args .l) (c .before .before .before .args .base) (c .before .before .before .args .start)
-began c = let s = c .before .before .before in simp (toZ-ofZ (s .fits .base)) at (c .begin .ensures)
+began : (c : tie.After-begin Inv-loop μ-loop) → let s = from-outer (c .before) in c .begin .result ≡ rangeAt (s .args .l) (s .args .base) (s .args .start)
+began c = let s = from-outer (c .before) in simp (toZ-ofZ (s .fits .base)) at (c .begin .ensures)
 
-start-is : (c : tie.After-begin Inv-loop μ-loop) → c .begin .result .at ≡ c .before .before .before .args .start
+start-is : (c : tie.After-begin Inv-loop μ-loop) → c .begin .result .at ≡ from-outer (c .before) .args .start
 unfolding rangeAt
 start-is c = ap (λ (x : RangeCursor). x .at) (began c)
 
-stands : (c : tie.After-begin Inv-loop μ-loop) → c .begin .result ≡ rangeAt (c .before .before .before .args .l) (c .before .before .before .args .base) (c .begin .result .at)
-stands c = let s = c .before .before .before in began c ∙ ap (rangeAt (s .args .l) (s .args .base)) (sym (start-is c))
+stands : (c : tie.After-begin Inv-loop μ-loop) → let s = from-outer (c .before) in c .begin .result ≡ rangeAt (s .args .l) (s .args .base) (c .begin .result .at)
+stands c = let s = from-outer (c .before) in began c ∙ ap (rangeAt (s .args .l) (s .args .base)) (sym (start-is c))
 
-before-end : (c : tie.After-begin Inv-loop μ-loop) → c .begin .result .at < c .before .before .before .args .end
-before-end c = let s = c .before .before .before in omega (arith, start-is c, s .pre .2)
+before-end : (c : tie.After-begin Inv-loop μ-loop) → c .begin .result .at < from-outer (c .before) .args .end
+before-end c = let s = from-outer (c .before) in omega (arith, start-is c, s .pre .2)
 
--- src/full.rt:43:9
 next-piece-requires : tie.Need-next-piece-requires Inv-loop μ-loop
 next-piece-requires c κs =
-    let s = c .before .before .before in
+    let s = from-outer (c .before) in
     (s .pre .0, before-end c, record { base = s .args .base; bounded = s .pre .1; stands = stands c })
 
-first-taken : (c : tie.After-next-piece Inv-loop μ-loop) → Taken (c .before .before .before .before .args .l) (c .before .before .before .before .args .base) (c .before .before .before .before .args .values .now) (c .before .before .before .before .args .end) (c .before .begin .result) (c .next-piece .result)
+first-taken : (c : tie.After-next-piece Inv-loop μ-loop) → let s = from-outer (c .before .before) in Taken (s .args .l) (s .args .base) (s .args .values .now) (s .args .end) (c .before .begin .result) (c .next-piece .result)
 first-taken c =
-    let s = c .before .before .before .before in
+    let s = from-outer (c .before .before) in
     taken (s .args .l) (s .pre .0) (s .args .base) (s .pre .1) (s .args .values .now) (s .pre .5) (s .args .end) (s .pre .3) (c .before .begin .result) (stands (c .before)) (before-end (c .before)) (c .next-piece .result) (c .next-piece .ensures)
 
 first-fits : (c : tie.After-struct-told2 Inv-loop μ-loop) → SFits w64 (c .before .next-piece .result .first)
 first-fits c = record { sfits = c .struct-told2 .given .0 .1 }
 
--- src/full.rt:44:9
 reduce-piece-requires : tie.Need-reduce-piece-requires Inv-loop μ-loop
 reduce-piece-requires c κs =
-    let s = c .before .before .before .before .before in
+    let s = from-outer (c .before .before .before) in
     let p = first-taken (c .before) in
     simp (toZ-ofZ (first-fits c), toZ-ofZ (stride-fits (c .before .before .before))) (p .some-len, p .inside, omega (arith, p .ends, s .pre .3, s .pre .4))
 
--- src/full.rt:46:5
 loop-holds : tie.Need-loop-holds Inv-loop μ-loop
 loop-holds c =
     let r = c .before in
     let n = r .before .before in
-    let s = n .before .before .before .before in
+    let s = from-outer (n .before .before) in
     let w = simp (toZ-ofZ (first-fits (r .before)), toZ-ofZ (stride-fits (n .before .before))) at (r .reduce-piece .ensures) in
     simp (toZ-ofZ (s .fits .base))
     (reducing-first (s .args .l) (s .args .base) (s .args .values .now) (s .args .start) (s .args .end) (n .before .begin .result) (n .next-piece .result) (first-taken n) (r .reduce-piece .result) w (start-is (n .before)))
 
 -- the invariant, over the base itself
-reducing : (c : tie.At-loop Inv-loop μ-loop) → Reducing (c .before .before .before .before .before .before .before .before .args .l) (c .before .before .before .before .before .before .before .before .args .base) (c .before .before .before .before .before .before .before .before .args .values .now) (c .before .before .before .before .before .before .before .before .args .start) (c .before .before .before .before .before .before .before .before .args .end) (c .loop .acc) (c .loop .c)
-reducing c = let s = c .before .before .before .before .before .before .before .before in simp (toZ-ofZ (s .fits .base)) at (c .loop .inv)
+reducing : (c : tie.At-loop Inv-loop μ-loop) → let s = from-loop c in Reducing (s .args .l) (s .args .base) (s .args .values .now) (s .args .start) (s .args .end) (c .loop .acc) (c .loop .c)
+reducing c = let s = from-loop c in simp (toZ-ofZ (s .fits .base)) at (c .loop .inv)
 
--- src/full.rt:47:13
+stride-kept : (c : tie.At-loop Inv-loop μ-loop) → SFits w64 (from-loop c .args .l .«run_stride»)
+stride-kept c = stride-fits (c .before .before .before .before .before .before)
+
+on-range : (c : tie.Then1 Inv-loop μ-loop) → OnRange (from-loop (c .before .before) .args .l) (c .before .before .loop .c)
+on-range c =
+    let k = c .before .before in
+    let s = from-loop k in
+    record { base = s .args .base; bounded = s .pre .1; stands = reducing k .stands (c .if1 .taken) }
+
+whole-runs-requires : tie.Need-whole-runs-requires Inv-loop μ-loop
+whole-runs-requires c κs = (from-loop (c .before .before) .pre .0, c .if1 .taken, on-range c)
+
+-- ---- one piece
 next-piece-requires-2 : tie.Need-next-piece-requires-2 Inv-loop μ-loop
 next-piece-requires-2 c κs =
-    let k = c .before .before in
-    let s = k .before .before .before .before .before .before .before .before in
-    (s .pre .0, c .if1 .taken, record { base = s .args .base; bounded = s .pre .1; stands = reducing k .stands (c .if1 .taken) })
+    let t = c .before .before in
+    (from-loop (t .before .before) .pre .0, t .if1 .taken, on-range t)
 
-next-taken : (c : tie.After-next-piece2 Inv-loop μ-loop) → Taken (c .before .before .before .before .before .before .before .before .before .before .before .args .l) (c .before .before .before .before .before .before .before .before .before .before .before .args .base) (c .before .before .before .before .before .before .before .before .before .before .before .args .values .now) (c .before .before .before .before .before .before .before .before .before .before .before .args .end) (c .before .before .before .loop .c) (c .next-piece2 .result)
+next-taken : (c : tie.After-next-piece2 Inv-loop μ-loop) → let k = c .before .before .before .before .before in let s = from-loop k in Taken (s .args .l) (s .args .base) (s .args .values .now) (s .args .end) (k .loop .c) (c .next-piece2 .result)
 next-taken c =
-    let k = c .before .before .before in
-    let s = k .before .before .before .before .before .before .before .before in
-    taken (s .args .l) (s .pre .0) (s .args .base) (s .pre .1) (s .args .values .now) (s .pre .5) (s .args .end) (s .pre .3) (k .loop .c) (reducing k .stands (c .before .if1 .taken)) (c .before .if1 .taken) (c .next-piece2 .result) (c .next-piece2 .ensures)
+    let t = c .before .before .before in
+    let k = t .before .before in
+    let s = from-loop k in
+    taken (s .args .l) (s .pre .0) (s .args .base) (s .pre .1) (s .args .values .now) (s .pre .5) (s .args .end) (s .pre .3) (k .loop .c) (reducing k .stands (t .if1 .taken)) (t .if1 .taken) (c .next-piece2 .result) (c .next-piece2 .ensures)
 
 next-fits : (c : tie.After-struct-told3 Inv-loop μ-loop) → SFits w64 (c .before .next-piece2 .result .first)
 next-fits c = record { sfits = c .struct-told3 .given .0 .1 }
 
--- src/full.rt:48:13
 reduce-piece-requires-2 : tie.Need-reduce-piece-requires-2 Inv-loop μ-loop
 reduce-piece-requires-2 c κs =
-    let k = c .before .before .before .before in
-    let t = k .before .before .before .before .before .before in
-    let s = t .before .before in
+    let k = c .before .before .before .before .before .before in
+    let s = from-loop k in
     let p = next-taken (c .before) in
-    simp (toZ-ofZ (next-fits c), toZ-ofZ (stride-fits t)) (p .some-len, p .inside, omega (arith, p .ends, s .pre .3, s .pre .4))
+    simp (toZ-ofZ (next-fits c), toZ-ofZ (stride-kept k)) (p .some-len, p .inside, omega (arith, p .ends, s .pre .3, s .pre .4))
 
 -- what the next piece gave
-next-worked : (c : tie.After-reduce-piece2 Inv-loop μ-loop)
-    → c .reduce-piece2 .result ≡ worked (eqZ (c .before .before .before .before .before .before .before .before .before .before .before .before .before .args .l .«run_stride») (pos 1)) (strided (c .before .before .before .before .before .before .before .before .before .before .before .before .before .args .values .now) (c .before .before .next-piece2 .result .first) (c .before .before .before .before .before .before .before .before .before .before .before .before .before .args .l .«run_stride») (c .before .before .next-piece2 .result .len))
+next-worked : (c : tie.After-reduce-piece2 Inv-loop μ-loop) → let p = c .before .before .next-piece2 .result in let s = from-loop (c .before .before .before .before .before .before .before) in
+    c .reduce-piece2 .result ≡ worked (eqZ (s .args .l .«run_stride») (pos 1)) (strided (s .args .values .now) (p .first) (s .args .l .«run_stride») (p .len))
 next-worked c =
-    let k = c .before .before .before .before .before in
-    let t = k .before .before .before .before .before .before in
-    simp (toZ-ofZ (next-fits (c .before)), toZ-ofZ (stride-fits t)) at (c .reduce-piece2 .ensures)
+    let k = c .before .before .before .before .before .before .before in
+    simp (toZ-ofZ (next-fits (c .before)), toZ-ofZ (stride-kept k)) at (c .reduce-piece2 .ensures)
 
--- src/full.rt:49:9
 stable-float-combine-requires : tie.Need-stable-float-combine-requires Inv-loop μ-loop
 stable-float-combine-requires c κs =
     let n = c .before .before in
-    let k = n .before .before .before in
-    let s = k .before .before .before .before .before .before .before .before in
+    let k = n .before .before .before .before .before in
+    let s = from-loop k in
     let p = next-taken n in
     let r = reducing k in
     let m = near _ _ _ (s .args .start) (s .args .end) _ _ p (c .reduce-piece2 .result) (next-worked c) in
     (omega (arith, r .small, r .upto, m, p .ends, s .pre .3, s .pre .4), omega (arith, r .small, r .upto, m, p .ends, s .pre .3, s .pre .4))
 
--- src/full.rt:46:5
 loop-less : tie.Need-loop-less Inv-loop μ-loop
 loop-less c =
     let n = c .before .before .before .before in
     let p = next-taken n in
-    omega (arith, n .before .if1 .taken, p .next-at, p .some-len)
+    omega (arith, n .before .before .before .if1 .taken, p .next-at, p .some-len)
 
--- src/full.rt:46:5
 loop-again : tie.Need-loop-again Inv-loop μ-loop
 loop-again c =
     let w = c .before .before in
     let n = w .before .before in
-    let k = n .before .before .before in
-    let s = k .before .before .before .before .before .before .before .before in
+    let k = n .before .before .before .before .before in
+    let s = from-loop k in
     simp (toZ-ofZ (s .fits .base))
     (reducing-more (s .args .l) (s .args .base) (s .args .values .now) (s .args .start) (s .args .end) (k .loop .c) (n .next-piece2 .result) (next-taken n) (w .reduce-piece2 .result) (next-worked w) (k .loop .acc) (reducing k) (c .before .stable-float-combine .result) (c .before .stable-float-combine .ensures))
 
--- src/full.rt:32:1
+-- ---- a strip
+abbrev strip-loop : tie.Else2 Inv-loop μ-loop → tie.At-loop Inv-loop μ-loop
+strip-loop c = c .before .before .before .before
+
+-- what lies ahead of the cursor
+ahead : (c : tie.Else2 Inv-loop μ-loop) → let k = strip-loop c in let l = from-loop k .args .l in let n = c .before .whole-runs .result in
+    (0 < l .«axis_count») × (k .loop .c .at % l .«run_len» ≡ 0) × (k .loop .c .at / l .«run_len» % firstAxis l .extent + n ≤ firstAxis l .extent) × (k .loop .c .at + n * l .«run_len» ≤ from-loop k .args .end)
+ahead c = c .before .whole-runs .ensures (omega (arith, c .if2 .left))
+
+strip-stands : (c : tie.Else2 Inv-loop μ-loop) → let k = strip-loop c in let s = from-loop k in k .loop .c ≡ rangeAt (s .args .l) (s .args .base) (k .loop .c .at)
+strip-stands c = reducing (strip-loop c) .stands (c .before .before .if1 .taken)
+
+at-fits : (c : tie.Else2 Inv-loop μ-loop) → SFits w64 (strip-loop c .loop .c .runs .«source_offset»)
+at-fits c =
+    let k = strip-loop c in
+    let s = from-loop k in
+    small-fits _ (on-run (s .args .l) (s .pre .0) (k .loop .c) (on-range (c .before .before)))
+
+step-fits : (c : tie.After-struct-told5 Inv-loop μ-loop) → SFits w64 (firstAxis (from-loop (strip-loop (c .before .before)) .args .l) .«source_step»)
+step-fits c = record { sfits = c .struct-told5 .given .1 .0 .1 }
+
+reduce-strip-requires : tie.Need-reduce-strip-requires Inv-loop μ-loop
+reduce-strip-requires c κs =
+    let e = c .before .before in
+    let k = strip-loop e in
+    let s = from-loop k in
+    let n = e .before .whole-runs .result in
+    let r = reducing k in
+    let a = ahead e in
+    let len = s .args .l .«run_len» in
+    let one : 1 ≤ n = omega (arith, e .if2 .left) in
+    let m : 1 * len ≤ n * len = mul-le-mul-right len one in
+    simp (toZ-ofZ (at-fits e), toZ-ofZ (step-fits c), toZ-ofZ (stride-kept k)) (
+      run-some (s .args .l) (s .pre .0) (s .args .base) (s .pre .1) (s .args .values .now) (s .pre .5) (s .args .end) (s .pre .3),
+      omega (arith, m, a .3, s .pre .3, s .pre .4),
+      omega (arith, a .3, s .pre .3, s .pre .4),
+      omega (arith, r .small, r .upto, s .pre .3, s .pre .4),
+      runs-inside (s .args .l) (s .pre .0) (s .args .base) (s .pre .1) (s .args .values .now) (s .pre .5) (s .args .end) (s .pre .3) (k .loop .c) (strip-stands e) n (a .0) (a .1) (a .2) (a .3),
+    )
+
+mul-begin : tie.Need-mul-begin Inv-loop μ-loop
+mul-begin c =
+    let e = c .before .before .before in
+    let s = from-loop (strip-loop e) in
+    omega (arith, ahead e .3, s .pre .3, s .pre .4)
+
+add-begin : tie.Need-add-begin Inv-loop μ-loop
+add-begin c =
+    let e = c .before .before .before .before in
+    let s = from-loop (strip-loop e) in
+    omega (arith, ahead e .3, s .pre .3, s .pre .4)
+
+begin-requires-2 : tie.Need-begin-requires-2 Inv-loop μ-loop
+begin-requires-2 c κs = let s = from-loop (strip-loop (c .before .before .before .before)) in simp (toZ-ofZ (s .fits .base)) (s .pre .0, s .pre .1)
+
+-- the strip's product, and the cursor behind it
+strip-is : (c : tie.After-reduce-strip Inv-loop μ-loop) → let e = c .before .before .before in let k = strip-loop e in let s = from-loop k in
+    c .reduce-strip .result ≡ strip (s .args .values .now) (firstAxis (s .args .l) .«source_step») (s .args .l .«run_stride») (s .args .l .«run_len») (e .before .whole-runs .result) (k .loop .c .runs .«source_offset») (k .loop .acc)
+strip-is c = simp (toZ-ofZ (at-fits (c .before .before .before)), toZ-ofZ (step-fits (c .before)), toZ-ofZ (stride-kept (strip-loop (c .before .before .before)))) at (c .reduce-strip .ensures)
+
+behind : (c : tie.After-begin2 Inv-loop μ-loop) → let e = c .before .before .before .before .before in let k = strip-loop e in let s = from-loop k in
+    c .begin2 .result ≡ rangeAt (s .args .l) (s .args .base) (k .loop .c .at + e .before .whole-runs .result * s .args .l .«run_len»)
+behind c = let s = from-loop (strip-loop (c .before .before .before .before .before)) in simp (toZ-ofZ (s .fits .base)) at (c .begin2 .ensures)
+
+behind-at : (c : tie.After-begin2 Inv-loop μ-loop) → let e = c .before .before .before .before .before in let k = strip-loop e in let s = from-loop k in
+    c .begin2 .result .at ≡ k .loop .c .at + e .before .whole-runs .result * s .args .l .«run_len»
+unfolding rangeAt
+behind-at c = ap (λ (x : RangeCursor). x .at) (behind c)
+
+loop-less-2 : tie.Need-loop-less-2 Inv-loop μ-loop
+loop-less-2 c =
+    let e = c .before .before .before .before .before in
+    let k = strip-loop e in
+    let s = from-loop k in
+    let n = e .before .whole-runs .result in
+    let len = s .args .l .«run_len» in
+    let one : 1 ≤ n = omega (arith, e .if2 .left) in
+    let m : 1 * len ≤ n * len = mul-le-mul-right len one in
+    omega (arith, e .before .before .if1 .taken, behind-at c, m, run-some (s .args .l) (s .pre .0) (s .args .base) (s .pre .1) (s .args .values .now) (s .pre .5) (s .args .end) (s .pre .3))
+
+loop-again-2 : tie.Need-loop-again-2 Inv-loop μ-loop
+loop-again-2 c =
+    let r = c .before .before in
+    let e = r .before .before .before in
+    let k = strip-loop e in
+    let s = from-loop k in
+    let a = ahead e in
+    simp (toZ-ofZ (s .fits .base))
+    (reducing-strip (s .args .l) (s .pre .0) (s .args .base) (s .pre .1) (s .args .values .now) (s .pre .5) (s .args .end) (s .pre .3) (k .loop .c) (strip-stands e) (e .before .whole-runs .result) (a .0) (a .1) (a .2) (a .3) (s .args .start) (k .loop .acc) (reducing k) (r .reduce-strip .result) (strip-is r) (c .begin2 .result) (behind c))
+
 returns : tie.Need-returns Inv-loop μ-loop
 returns c =
     let k = c .before .before in
@@ -157,13 +265,21 @@ reduce-full-range-spec =
     (tie.spec
     Inv-loop
     μ-loop
+    array-copy-out-outer
     begin-requires
     next-piece-requires
     reduce-piece-requires
     loop-holds
+    whole-runs-requires
     next-piece-requires-2
     reduce-piece-requires-2
     stable-float-combine-requires
     loop-less
     loop-again
+    reduce-strip-requires
+    mul-begin
+    add-begin
+    begin-requires-2
+    loop-less-2
+    loop-again-2
     returns)

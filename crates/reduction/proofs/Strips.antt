@@ -1,0 +1,240 @@
+-- Whole runs a step apart: a strip joins them as the pieces of the range are joined.
+-- Assumes nothing.
+use Prim.Native.Nat.{ℕ, zero, suc, _+_, _-_, _*_, _/_, _%_, _^_, _≤_, _<_}
+use mathlib.Core.Path.{_≡_, refl, sym, _∙_, ap, subst}
+use mathlib.Core.Bool.{true}
+use mathlib.Core.List.{List, _∷_, _++_, map, foldl}
+use native.Mathlib.Omega.{arith}
+use native.Mathlib.Nat.{le-trans, mul-le-mul-right, div-add-mod', mod-lt, le-div-iff-mul-le, add-zero, sub-zero}
+use lib.ListN.{length, getD, drop, replicate}
+use lib.Arith.{digits-div, digits-mod}
+use lib.IntN.{ℤ, pos, natAbs, _+ℤ_, _*ℤ_}
+use lib.Signed.{_≤ℤ_, _<ℤ_}
+use lib.Ieee.{Float}
+use mir.Val.{SFits}
+use mir.Syntax.{w64}
+use Rattle.integers.specs.Checked.{eqZ}
+use Rattle.integers.proofs.Difference.{ints, atoms}
+use Rattle.layout.specs.declared.axis.ReduceOuterAxis.{ReduceOuterAxis}
+use Rattle.layout.specs.declared.traversal.FullTraversal.{FullTraversal}
+use Rattle.layout.specs.Axes.{PLACES, noAxis}
+use Rattle.layout.proofs.Tables.{take-from}
+use Rattle.accumulator.specs.declared.StableProductFloatAcc.{StableProductFloatAcc}
+use Rattle.accumulator.specs.Joining.{combined}
+use Rattle.offsets.specs.declared.pieces.RangeCursor.{RangeCursor}
+use Rattle.offsets.specs.Elements.{digits, offset, allWithin}
+use Rattle.offsets.specs.Cursors.{Axis, Bounded, cursorAt}
+use Rattle.offsets.specs.Traversals.{runOf, outerOf, Traversal}
+use Rattle.offsets.specs.Pieces.{rangeAt, pieceOf, OnRange}
+use Rattle.offsets.proofs.Stepping.{axes-at}
+use Rattle.offsets.proofs.Walking.{some, along, outer-axes, piece-len, piece-at}
+use Rattle.kernels.specs.Pieces.{Piece, worked, workedPiece}
+use Rattle.kernels.specs.Strided.{strided, Inside}
+use Rattle.kernels.proofs.Sizes.{combined-size}
+use Rattle.reduction.specs.Ranges.{pieceAt, piecesOf, strip}
+use Rattle.reduction.proofs.Pieces.{strided-near}
+use Rattle.reduction.proofs.Ranges.{Taken, taken, Reducing}
+
+-- ---- places a step apart
+pub place-zero : (z s : ℤ) → z +ℤ s *ℤ pos 0 ≡ z
+place-zero z s = simp ints (simp atoms (omega arith))
+
+pub place-next : (z s : ℤ) (j : ℕ) → z +ℤ s *ℤ pos j +ℤ s ≡ z +ℤ s *ℤ pos (j + 1)
+place-next z s j = simp ints (simp atoms (omega arith))
+
+place-later : (z s : ℤ) (j : ℕ) → (z +ℤ s) +ℤ s *ℤ pos j ≡ z +ℤ s *ℤ pos (suc j)
+place-later z s j = simp ints (simp atoms (omega arith))
+
+-- a place of a run, in i64
+pub place-fits : (size : ℕ) (z stride : ℤ) (len : ℕ) → Inside size z stride len → 1 ≤ len → size < 2 ^ 63 → SFits w64 z
+place-fits size z stride len i h m = go (i .least 0 h) (i .most 0 h) m
+  where
+    go : pos 0 ≤ℤ (z +ℤ stride *ℤ pos 0) → (z +ℤ stride *ℤ pos 0) <ℤ pos size → size < 2 ^ 63 → SFits w64 z
+    go = simp ints (simp atoms (omega arith))
+
+-- before the first run, all of the strip is left
+pub strip-first : (values : List Float) (step stride : ℤ) (len count : ℕ) (z : ℤ) (a : StableProductFloatAcc) → strip values step stride len (count - 0) (z +ℤ step *ℤ pos 0) a ≡ strip values step stride len count z a
+strip-first values step stride len count z a =
+    ap (λ (n : ℕ). strip values step stride len n (z +ℤ step *ℤ pos 0) a) (sub-zero count) ∙ ap (λ (y : ℤ). strip values step stride len count y a) (place-zero z step)
+
+-- run j of count is in: what is left begins a step further
+pub strip-next : (values : List Float) (step stride : ℤ) (len count j : ℕ) (z : ℤ) (a r : StableProductFloatAcc) → j < count → r ≡ combined a (worked (eqZ stride (pos 1)) (strided values (z +ℤ step *ℤ pos j) stride len))
+    → strip values step stride len (count - (j + 1)) (z +ℤ step *ℤ pos (j + 1)) r ≡ strip values step stride len (count - j) (z +ℤ step *ℤ pos j) a
+unfolding strip
+strip-next values step stride len count j z a r h e =
+    ap (strip values step stride len (count - (j + 1)) (z +ℤ step *ℤ pos (j + 1))) e
+    ∙ ap (λ (y : ℤ). strip values step stride len (count - (j + 1)) y (combined a (worked (eqZ stride (pos 1)) (strided values (z +ℤ step *ℤ pos j) stride len)))) (sym (place-next z step j))
+    ∙ ap (λ (n : ℕ). strip values step stride len n (z +ℤ step *ℤ pos j) a) one
+  where
+    one : suc (count - (j + 1)) ≡ count - j
+    one = omega arith
+
+-- ---- exponents: at most 2^20 more for each value
+pub strip-small : (values : List Float) (step stride : ℤ) (len : ℕ) → 1 ≤ len → (n : ℕ) (z : ℤ) (acc : StableProductFloatAcc) → natAbs (strip values step stride len n z acc .e) ≤ natAbs (acc .e) + 1048576 * (n * len)
+unfolding strip
+strip-small values step stride len h zero z acc = omega arith
+strip-small values step stride len h (suc n) z acc =
+    let b = worked (eqZ stride (pos 1)) (strided values z stride len) in
+    le-trans (strip-small values step stride len h n (z +ℤ step) (combined acc b)) (omega (arith, combined-size acc b, strided-near values z stride len h))
+
+-- ---- run q of a range
+pub record Run (l : FullTraversal) (base : ℤ) (values : List Float) (end q : ℕ) : Type 0 where
+  pub inside : Inside (length values) (offset (outerOf l) base q) (l .«run_stride») (l .«run_len»)
+  pub worked-is : worked (eqZ (l .«run_stride») (pos 1)) (strided values (offset (outerOf l) base q) (l .«run_stride») (l .«run_len»)) ≡ workedPiece (pieceAt l base values end (q * l .«run_len»))
+  pub pieces : piecesOf l base values end (q * l .«run_len») ≡ pieceAt l base values end (q * l .«run_len») ∷ piecesOf l base values end ((q + 1) * l .«run_len»)
+
+module _ (l : FullTraversal) (t : Traversal l) (base : ℤ) (b : Bounded (runOf l ∷ outerOf l) base) (values : List Float)
+    (w : allWithin (runOf l ∷ outerOf l) (l .total) base (length values) ≡ true) (end : ℕ) (few : end ≤ l .total) where
+  pub run-some : 1 ≤ l .«run_len»
+  run-some = some l t base b 0
+
+  module _ (q : ℕ) (h : q * l .«run_len» + l .«run_len» ≤ end) where
+    run-div : q * l .«run_len» / l .«run_len» ≡ q
+    run-div = ap (λ (k : ℕ). k / l .«run_len») (sym (add-zero (q * l .«run_len»))) ∙ digits-div q run-some
+
+    run-mod : q * l .«run_len» % l .«run_len» ≡ 0
+    run-mod = ap (λ (k : ℕ). k % l .«run_len») (sym (add-zero (q * l .«run_len»))) ∙ digits-mod q run-some
+
+    before-end : q * l .«run_len» < end
+    before-end = omega (arith, run-some)
+
+    run-taken : Taken l base values end (rangeAt l base (q * l .«run_len»)) (pieceOf l end (rangeAt l base (q * l .«run_len»)))
+    unfolding rangeAt
+    run-taken = taken l t base b values w end few (rangeAt l base (q * l .«run_len»)) refl before-end (pieceOf l end (rangeAt l base (q * l .«run_len»))) refl
+
+    at-is : (rangeAt l base (q * l .«run_len»)) .at ≡ q * l .«run_len»
+    unfolding rangeAt
+    at-is = refl
+
+    len-is : pieceOf l end (rangeAt l base (q * l .«run_len»)) .len ≡ l .«run_len»
+    len-is = piece-len l t base b (q * l .«run_len») end before-end ∙ omega (arith, run-mod)
+
+    first-is : pieceOf l end (rangeAt l base (q * l .«run_len»)) .first ≡ offset (outerOf l) base q
+    unfolding pieceOf rangeAt cursorAt
+    first-is =
+        ap (λ (n : ℕ). offset (outerOf l) base (q * l .«run_len» / l .«run_len») +ℤ l .«run_stride» *ℤ pos n) run-mod
+        ∙ place-zero (offset (outerOf l) base (q * l .«run_len» / l .«run_len»)) (l .«run_stride»)
+        ∙ ap (offset (outerOf l) base) run-div
+
+    next-is : pieceOf l end (rangeAt l base (q * l .«run_len»)) .next .at ≡ (q + 1) * l .«run_len»
+    next-is = run-taken .next-at ∙ omega (arith, at-is, len-is)
+
+    pub run : Run l base values end q
+    run =
+        record {
+          inside = rw (len-is, first-is) at (run-taken .inside);
+          worked-is = (rw (len-is, first-is) at (run-taken .worked-is)) ∙ ap (λ (k : ℕ). workedPiece (pieceAt l base values end k)) at-is;
+          pieces = rw (next-is, at-is) at (run-taken .pieces);
+        }
+
+  -- ---- n runs from q on, whose places lie a step apart
+  module _ (step : ℤ) where
+    pub strip-inside : (n q : ℕ) (z : ℤ) → (q + n) * l .«run_len» ≤ end → ((j : ℕ) → j < n → z +ℤ step *ℤ pos j ≡ offset (outerOf l) base (q + j))
+        → (j : ℕ) → j < n → Inside (length values) (z +ℤ step *ℤ pos j) (l .«run_stride») (l .«run_len»)
+    strip-inside n q z h lies j k =
+        let m : q + j + 1 ≤ q + n = omega arith in
+        rw (lies j k) (run (q + j) (omega (arith, mul-le-mul-right (l .«run_len») m)) .inside)
+
+    pub strip-joins : (n q : ℕ) (z : ℤ) (acc : StableProductFloatAcc) → (q + n) * l .«run_len» ≤ end → ((j : ℕ) → j < n → z +ℤ step *ℤ pos j ≡ offset (outerOf l) base (q + j))
+        → foldl combined (strip values step (l .«run_stride») (l .«run_len») n z acc) (map workedPiece (piecesOf l base values end ((q + n) * l .«run_len»))) ≡ foldl combined acc (map workedPiece (piecesOf l base values end (q * l .«run_len»)))
+    unfolding strip
+    strip-joins zero q z acc h lies = ap (λ (m : ℕ). foldl combined acc (map workedPiece (piecesOf l base values end (m * l .«run_len»)))) (add-zero q)
+    strip-joins (suc n) q z acc h lies =
+        let r = run q (omega arith) in
+        let c = combined acc (worked (eqZ (l .«run_stride») (pos 1)) (strided values z (l .«run_stride») (l .«run_len»))) in
+        let e : q + suc n ≡ q + 1 + n = omega arith in
+        ap (λ (m : ℕ). foldl combined (strip values step (l .«run_stride») (l .«run_len») n (z +ℤ step) c) (map workedPiece (piecesOf l base values end (m * l .«run_len»)))) e
+        ∙ strip-joins n (q + 1) (z +ℤ step) c (omega arith) (λ j k. place-later z step j ∙ lies (suc j) (omega arith) ∙ ap (offset (outerOf l) base) (one j))
+        ∙ ap (λ (y : ℤ). foldl combined (combined acc (worked (eqZ (l .«run_stride») (pos 1)) (strided values y (l .«run_stride») (l .«run_len»)))) (map workedPiece (piecesOf l base values end ((q + 1) * l .«run_len»)))) (sym (place-zero z step) ∙ lies 0 (omega arith) ∙ ap (offset (outerOf l) base) (add-zero q))
+        ∙ ap (λ (a : StableProductFloatAcc). foldl combined (combined acc a) (map workedPiece (piecesOf l base values end ((q + 1) * l .«run_len»)))) (r .worked-is)
+        ∙ ap (λ (ps : List Piece). foldl combined acc (map workedPiece ps)) (sym (r .pieces))
+      where
+        one : (j : ℕ) → q + suc j ≡ q + 1 + j
+        one j = omega arith
+
+-- ---- the first outer axis
+abbrev pub firstAxis : FullTraversal → ReduceOuterAxis
+firstAxis l = getD (l .«run_axes») 0 noAxis
+
+module _ (l : FullTraversal) (t : Traversal l) (base : ℤ) (b : Bounded (runOf l ∷ outerOf l) base) (some-axis : 0 < l .«axis_count») where
+  outer-is : outerOf l ≡ firstAxis l ∷ drop 1 (outerOf l)
+  unfolding outerOf
+  outer-is = take-from (l .«run_axes») (l .«axis_count») 0 some-axis (omega (arith, t .few, t .places))
+
+  pub first-axis : Axis (firstAxis l)
+  first-axis = axes-at (firstAxis l) (drop 1 (outerOf l)) (outerOf l) outer-is (outer-axes l t base b 0) .0
+
+  -- the runs' places along it
+  pub runs-lie : (q n : ℕ) → q % firstAxis l .extent + n ≤ firstAxis l .extent → (j : ℕ) → j < n → offset (outerOf l) base q +ℤ firstAxis l .«source_step» *ℤ pos j ≡ offset (outerOf l) base (q + j)
+  runs-lie q n h j k =
+      subst (λ (ys : List ReduceOuterAxis). offset ys base q +ℤ firstAxis l .«source_step» *ℤ pos j ≡ offset ys base (q + j)) (sym outer-is)
+      (sym (along (firstAxis l) (drop 1 (outerOf l)) base q (first-axis .1) j (omega arith)))
+
+  -- the first digit of a cursor
+  pub first-digit : (c : RangeCursor) → c ≡ rangeAt l base (c .at) → getD (c .runs .digits) 0 0 ≡ c .at / l .«run_len» % firstAxis l .extent
+  unfolding rangeAt cursorAt digits
+  first-digit c e =
+      ap (λ (x : RangeCursor). getD (x .runs .digits) 0 0) e
+      ∙ ap (λ (ys : List ReduceOuterAxis). getD (digits ys (c .at / l .«run_len») ++ replicate (PLACES - length ys) 0) 0 0) outer-is
+
+-- ---- how many whole runs a cursor has ahead
+module _ (l : FullTraversal) (t : Traversal l) (c : RangeCursor) (o : OnRange l c) where
+  pub cursor-some : 1 ≤ l .«run_len»
+  cursor-some = some l t (o .base) (o .bounded) 0
+
+  column : c .col ≡ c .at % l .«run_len»
+  unfolding rangeAt
+  column = ap (λ (x : RangeCursor). x .col) (o .stands)
+
+  module _ (some-axis : 0 < l .«axis_count») where
+    digit-is : getD (c .runs .digits) 0 0 ≡ c .at / l .«run_len» % firstAxis l .extent
+    digit-is = first-digit l t (o .base) (o .bounded) some-axis c (o .stands)
+
+    pub digit-below : getD (c .runs .digits) 0 0 < firstAxis l .extent
+    digit-below = rw digit-is (mod-lt (c .at / l .«run_len») (first-axis l t (o .base) (o .bounded) some-axis .1))
+
+    pub runs-ahead : (end r : ℕ) → c .at < end → c .col ≡ 0 → r ≤ firstAxis l .extent - getD (c .runs .digits) 0 0 → r ≤ (end - c .at) / l .«run_len»
+        → (0 < l .«axis_count») × (c .at % l .«run_len» ≡ 0) × (c .at / l .«run_len» % firstAxis l .extent + r ≤ firstAxis l .extent) × (c .at + r * l .«run_len» ≤ end)
+    runs-ahead end r h z a k =
+        let m = le-div-iff-mul-le cursor-some .0 k in
+        (some-axis, sym column ∙ z, omega (arith, digit-is, digit-below), omega arith)
+
+-- ---- n whole runs from a cursor on
+module _ (l : FullTraversal) (t : Traversal l) (base : ℤ) (b : Bounded (runOf l ∷ outerOf l) base) (values : List Float)
+    (w : allWithin (runOf l ∷ outerOf l) (l .total) base (length values) ≡ true) (end : ℕ) (few : end ≤ l .total)
+    (c : RangeCursor) (stands : c ≡ rangeAt l base (c .at)) (n : ℕ)
+    (some-axis : 0 < l .«axis_count») (at-run : c .at % l .«run_len» ≡ 0) (left : c .at / l .«run_len» % firstAxis l .extent + n ≤ firstAxis l .extent) (room : c .at + n * l .«run_len» ≤ end) where
+  whole : c .at ≡ c .at / l .«run_len» * l .«run_len»
+  whole = omega (arith, div-add-mod' (c .at) (l .«run_len»))
+
+  ends : (c .at / l .«run_len» + n) * l .«run_len» ≡ c .at + n * l .«run_len»
+  ends = omega (arith, whole)
+
+  from-is : c .runs .«source_offset» ≡ offset (outerOf l) base (c .at / l .«run_len»)
+  unfolding rangeAt cursorAt
+  from-is = ap (λ (x : RangeCursor). x .runs .«source_offset») stands
+
+  lie : (j : ℕ) → j < n → c .runs .«source_offset» +ℤ firstAxis l .«source_step» *ℤ pos j ≡ offset (outerOf l) base (c .at / l .«run_len» + j)
+  lie j k = ap (λ (z : ℤ). z +ℤ firstAxis l .«source_step» *ℤ pos j) from-is ∙ runs-lie l t base b some-axis (c .at / l .«run_len») n left j k
+
+  pub runs-inside : (j : ℕ) → j < n → Inside (length values) (c .runs .«source_offset» +ℤ firstAxis l .«source_step» *ℤ pos j) (l .«run_stride») (l .«run_len»)
+  runs-inside = strip-inside l t base b values w end few (firstAxis l .«source_step») n (c .at / l .«run_len») (c .runs .«source_offset») (omega (arith, ends)) lie
+
+  next-at : (d : RangeCursor) → d ≡ rangeAt l base (c .at + n * l .«run_len») → d .at ≡ c .at + n * l .«run_len»
+  unfolding rangeAt
+  next-at d e = ap (λ (x : RangeCursor). x .at) e
+
+  pub reducing-strip : (start : ℕ) (acc : StableProductFloatAcc) → Reducing l base values start end acc c → (r : StableProductFloatAcc) → r ≡ strip values (firstAxis l .«source_step») (l .«run_stride») (l .«run_len») n (c .runs .«source_offset») acc
+      → (d : RangeCursor) → d ≡ rangeAt l base (c .at + n * l .«run_len») → Reducing l base values start end r d
+  reducing-strip start acc s r g d e =
+      record {
+        upto = omega (arith, next-at d e);
+        stands = λ k. e ∙ ap (rangeAt l base) (sym (next-at d e));
+        small = subst (λ (a : StableProductFloatAcc). natAbs (a .e) ≤ 1048576 * d .at) (sym g) (le-trans (strip-small values _ _ _ (run-some l t base b values w end few) n _ acc) (omega (arith, next-at d e, s .small)));
+        rest =
+            ap (λ (a : StableProductFloatAcc). foldl combined a (map workedPiece (piecesOf l base values end (d .at)))) g
+            ∙ ap (λ (k : ℕ). foldl combined (strip values (firstAxis l .«source_step») (l .«run_stride») (l .«run_len») n (c .runs .«source_offset») acc) (map workedPiece (piecesOf l base values end k))) (next-at d e ∙ sym ends)
+            ∙ strip-joins l t base b values w end few (firstAxis l .«source_step») n (c .at / l .«run_len») (c .runs .«source_offset») acc (omega (arith, ends)) lie
+            ∙ ap (λ (k : ℕ). foldl combined acc (map workedPiece (piecesOf l base values end k))) (sym whole)
+            ∙ s .rest;
+      }

@@ -1,0 +1,157 @@
+-- `reduction::full::reduce_strip` meets its contract. The loop's invariant: what is left of the strip joins to the whole, and its next run, if there is one, begins at `at`.
+-- Assumes nothing.
+use Prim.Native.Nat.{ℕ, suc, _+_, _-_, _*_, _^_, _≤_, _<_}
+use mathlib.Core.Path.{_≡_, refl, sym, _∙_, ap, subst}
+use native.Mathlib.Omega.{arith}
+use native.Mathlib.Nat.{le-trans, mul-le-mul-right}
+use lib.ListN.{length}
+use lib.IntN.{ℤ, pos, natAbs, _+ℤ_, _*ℤ_}
+use mir.Val.{SFits, toZ, ofZ}
+use mir.Syntax.{w64}
+use mir.ValLaws.{toZ-ofZ}
+use Rattle.accumulator.specs.declared.StableProductFloatAcc.{StableProductFloatAcc}
+use Rattle.accumulator.specs.Joining.{combined}
+use Rattle.integers.specs.Checked.{eqZ}
+use Rattle.kernels.specs.Pieces.{worked}
+use Rattle.kernels.specs.Strided.{strided, Inside}
+use Rattle.kernels.proofs.Sizes.{combined-size}
+use Rattle.reduction.specs.Ranges.{strip}
+use Rattle.reduction.proofs.Pieces.{strided-near}
+use Rattle.reduction.proofs.Strips.{place-zero, place-next, place-fits, strip-first, strip-next}
+use Rattle.reduction.proofs.full.reduce_strip.Statement.{statement}
+use Rattle.reduction.proofs.full.reduce_strip.Tie as tie
+
+abbrev Inv-loop : tie.InvT-loop
+Inv-loop values first step stride len count a₀ at₀ j₀ a at j =
+    (j ≤ count)
+    × (j < count → toZ w64 at ≡ toZ w64 first +ℤ toZ w64 step *ℤ pos j)
+    × (natAbs (a .e) ≤ 2 ^ 60 + 1048576 * (j * len))
+    × (strip values (toZ w64 step) (toZ w64 stride) len (count - j) (toZ w64 first +ℤ toZ w64 step *ℤ pos j) a ≡ strip values (toZ w64 step) (toZ w64 stride) len count (toZ w64 first) a₀)
+
+abbrev μ-loop : tie.MeasureT-loop
+μ-loop values first step stride len count a₀ at₀ j₀ a at j = count - j
+
+loop-holds : tie.Need-loop-holds Inv-loop μ-loop
+loop-holds c =
+    let s = c .before in
+    let f = toZ w64 (ofZ w64 (s .args .first)) in
+    let d = toZ w64 (ofZ w64 (s .args .step)) in (
+      omega arith,
+      λ h. sym (place-zero f d),
+      omega (arith, s .pre .3),
+      strip-first (s .args .values .now) d (toZ w64 (ofZ w64 (s .args .stride))) (s .args .len) (s .args .count) f (s .args .acc),
+    )
+
+-- what is required, of the numbers as the code holds them
+inside : (c : tie.In-loop Inv-loop μ-loop) → let s = c .before .before .before in (j : ℕ) → j < s .args .count → Inside (length (s .args .values .now)) (toZ w64 (ofZ w64 (s .args .first)) +ℤ toZ w64 (ofZ w64 (s .args .step)) *ℤ pos j) (toZ w64 (ofZ w64 (s .args .stride))) (s .args .len)
+inside c =
+    let s = c .before .before .before in
+    simp (toZ-ofZ w64 (s .args .first) (s .fits .first), toZ-ofZ w64 (s .args .step) (s .fits .step), toZ-ofZ w64 (s .args .stride) (s .fits .stride)) (s .pre .4)
+
+-- the next run
+reduce-piece-requires : tie.Need-reduce-piece-requires Inv-loop μ-loop
+reduce-piece-requires c κs =
+    let t = c .before in
+    let s = t .before .before in (
+      s .pre .0,
+      subst (λ (z : ℤ). Inside (length (s .args .values .now)) z (toZ w64 (ofZ w64 (s .args .stride))) (s .args .len)) (sym (t .loop .inv .1 (c .loop-test .taken))) (inside c (t .loop .j) (c .loop-test .taken)),
+      s .pre .1,
+    )
+
+-- its product, at the place of run j
+run-is : (c : tie.After-reduce-piece Inv-loop μ-loop) → let t = c .before .before in let s = t .before .before in c .reduce-piece .result ≡ worked (eqZ (toZ w64 (ofZ w64 (s .args .stride))) (pos 1)) (strided (s .args .values .now) (toZ w64 (ofZ w64 (s .args .first)) +ℤ toZ w64 (ofZ w64 (s .args .step)) *ℤ pos (t .loop .j)) (toZ w64 (ofZ w64 (s .args .stride))) (s .args .len))
+run-is c =
+    let t = c .before .before in
+    let s = t .before .before in
+    c .reduce-piece .ensures
+    ∙ ap (λ (z : ℤ). worked (eqZ (toZ w64 (ofZ w64 (s .args .stride))) (pos 1)) (strided (s .args .values .now) z (toZ w64 (ofZ w64 (s .args .stride))) (s .args .len))) (t .loop .inv .1 (c .before .loop-test .taken))
+
+near : (c : tie.After-reduce-piece Inv-loop μ-loop) → natAbs (c .reduce-piece .result .e) ≤ 1048575 * c .before .before .before .before .args .len
+near c =
+    let s = c .before .before .before .before in
+    subst (λ (a : StableProductFloatAcc). natAbs (a .e) ≤ 1048575 * s .args .len) (sym (run-is c)) (strided-near _ _ _ (s .args .len) (s .pre .0))
+
+-- the values so far are at most those of the strip
+so-far : (c : tie.In-loop Inv-loop μ-loop) → c .before .loop .j * c .before .before .before .args .len ≤ 2 ^ 40
+so-far c = let s = c .before .before .before in le-trans (mul-le-mul-right (s .args .len) (c .before .loop .inv .0)) (s .pre .2)
+
+stable-float-combine-requires : tie.Need-stable-float-combine-requires Inv-loop μ-loop
+stable-float-combine-requires c κs =
+    let t = c .before .before in
+    let s = t .before .before in
+    (omega (arith, t .loop .inv .2, so-far (c .before)), omega (arith, near c, s .pre .1))
+
+add-j : tie.Need-add-j Inv-loop μ-loop
+add-j c = omega arith
+
+-- the place a step further
+next : (c : tie.Then1 Inv-loop μ-loop) → let t = c .before .before .before .before in let s = t .before .before in toZ w64 (t .loop .at) +ℤ toZ w64 (ofZ w64 (s .args .step)) ≡ toZ w64 (ofZ w64 (s .args .first)) +ℤ toZ w64 (ofZ w64 (s .args .step)) *ℤ pos (t .loop .j + 1)
+next c =
+    let t = c .before .before .before .before in
+    let s = t .before .before in
+    ap (λ (z : ℤ). z +ℤ toZ w64 (ofZ w64 (s .args .step))) (t .loop .inv .1 (c .before .before .before .loop-test .taken))
+    ∙ place-next (toZ w64 (ofZ w64 (s .args .first))) (toZ w64 (ofZ w64 (s .args .step))) (t .loop .j)
+
+add-at : tie.Need-add-at Inv-loop μ-loop
+add-at c =
+    let t = c .before .before .before .before in
+    let s = t .before .before in
+    subst (SFits w64) (sym (next c)) (place-fits (length (s .args .values .now)) _ (toZ w64 (ofZ w64 (s .args .stride))) (s .args .len) (inside (c .before .before .before) (t .loop .j + 1) (c .if1 .taken)) (s .pre .0) (omega (arith, s .good .0 .1)))
+
+-- the run is in
+more : (c : tie.After-stable-float-combine Inv-loop μ-loop) → let t = c .before .before .before in let s = t .before .before in
+    (natAbs (c .stable-float-combine .result .e) ≤ 2 ^ 60 + 1048576 * ((t .loop .j + 1) * s .args .len))
+    × (strip (s .args .values .now) (toZ w64 (ofZ w64 (s .args .step))) (toZ w64 (ofZ w64 (s .args .stride))) (s .args .len) (s .args .count - (t .loop .j + 1)) (toZ w64 (ofZ w64 (s .args .first)) +ℤ toZ w64 (ofZ w64 (s .args .step)) *ℤ pos (t .loop .j + 1)) (c .stable-float-combine .result)
+    ≡ strip (s .args .values .now) (toZ w64 (ofZ w64 (s .args .step))) (toZ w64 (ofZ w64 (s .args .stride))) (s .args .len) (s .args .count) (toZ w64 (ofZ w64 (s .args .first))) (s .args .acc))
+more c =
+    let t = c .before .before .before in
+    let s = t .before .before in
+    let b = c .before .reduce-piece .result in
+    let e = c .stable-float-combine .ensures in (
+      subst (λ (a : StableProductFloatAcc). natAbs (a .e) ≤ 2 ^ 60 + 1048576 * ((t .loop .j + 1) * s .args .len)) (sym e) (le-trans (combined-size (t .loop .a) b) (omega (arith, t .loop .inv .2, near (c .before), s .pre .0))),
+      strip-next (s .args .values .now) _ _ (s .args .len) (s .args .count) (t .loop .j) (toZ w64 (ofZ w64 (s .args .first))) (t .loop .a) (c .stable-float-combine .result) (c .before .before .loop-test .taken) (e ∙ ap (combined (t .loop .a)) (run-is (c .before))) ∙ t .loop .inv .3,
+    )
+
+loop-less : tie.Need-loop-less Inv-loop μ-loop
+loop-less c = omega arith
+
+loop-again : tie.Need-loop-again Inv-loop μ-loop
+loop-again c =
+    let t = c .before .before .before .before in
+    let s = t .before .before in
+    let m = more (c .before) in
+    (omega arith, λ h. toZ-ofZ w64 (toZ w64 (t .loop .at) +ℤ toZ w64 (ofZ w64 (s .args .step))) (add-at c) ∙ next c, m .0, m .1)
+
+loop-less-2 : tie.Need-loop-less-2 Inv-loop μ-loop
+loop-less-2 c = omega arith
+
+-- the last run: no further place is formed
+loop-again-2 : tie.Need-loop-again-2 Inv-loop μ-loop
+loop-again-2 c = let m = more (c .before) in (omega arith, λ h. absurd (omega arith), m .0, m .1)
+
+returns : tie.Need-returns Inv-loop μ-loop
+unfolding strip
+returns c =
+    let t = c .before in
+    let s = t .before .before in
+    let f = toZ w64 (ofZ w64 (s .args .first)) in
+    let d = toZ w64 (ofZ w64 (s .args .step)) in
+    let e = sym (ap (λ (n : ℕ). strip (s .args .values .now) d (toZ w64 (ofZ w64 (s .args .stride))) (s .args .len) n (f +ℤ d *ℤ pos (t .loop .j)) (t .loop .a)) (let z : s .args .count - t .loop .j ≡ 0 = omega (arith, c .loop-test .left) in z)) ∙ t .loop .inv .3 in
+    simp (toZ-ofZ w64 (s .args .first) (s .fits .first), toZ-ofZ w64 (s .args .step) (s .fits .step), toZ-ofZ w64 (s .args .stride) (s .fits .stride)) at e
+
+pub reduce-strip-spec : {M : Type 1} → statement M
+reduce-strip-spec =
+    tie.close
+    (tie.spec
+    Inv-loop
+    μ-loop
+    loop-holds
+    reduce-piece-requires
+    stable-float-combine-requires
+    add-j
+    add-at
+    loop-less
+    loop-again
+    loop-less-2
+    loop-again-2
+    returns)
