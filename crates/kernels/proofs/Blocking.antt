@@ -20,11 +20,11 @@ use Rattle.binary64.proofs.Splitting.{split-bad}
 use Rattle.accumulator.specs.declared.StableProductFloatAcc.{StableProductFloatAcc}
 use Rattle.accumulator.specs.Joining.{identityAcc}
 use Rattle.kernels.specs.declared.blocks.Lanes.{Lanes}
-use Rattle.kernels.specs.Lanes.{Each, feed, laneOf, inOrder, every, some}
+use Rattle.kernels.specs.Lanes.{Each, none, more, feed, laneOf, inOrder, every, some}
 use Rattle.kernels.specs.Plain.{laneTimes, lanes, pieceProduct}
 use Rattle.kernels.specs.Blocks.{startLanes, mOf, eOf, unsplitStep, splitStep, inBounds, renormLane, renorm, unsplit, block, blocks, laneIn, lanesIn, contiguous}
 use Rattle.kernels.specs.Pieces.{Rate, accOf}
-use Rattle.kernels.proofs.Feeding.{feed-related, feed-append, feed-eights, feed-mark, order-keeps, order-related, and-both, every-each, each-map, each-both, each-take, each-drop, some-append, some-none, or-none, or-assoc}
+use Rattle.kernels.proofs.Feeding.{feed-related, feed-append, feed-eights, feed-mark, order-keeps, order-related, and-both, every-each, each-map, each-both, each-take, each-drop, some-append, some-none, or-none, or-assoc, neither}
 use Rattle.kernels.proofs.Factors.{lane-lt, set-cases, times-again}
 use Rattle.kernels.specs.Standing.{Stands, Held}
 use Rattle.kernels.proofs.Standing.{stands-more, stands-times, stands-split, stands-rate, stands-whole, stands-one, stands-acc}
@@ -33,6 +33,12 @@ use Rattle.kernels.proofs.Bounds.{within-good, within-exponent}
 -- values of binary64, as all f64 are
 abbrev pub Value : Float → Type 0
 Value x = T (fits binary64 x)
+
+-- values of which none is bad
+pub each-rate : {xs : List Float} → Each Value xs → some isBad xs ≡ false → Each Rate xs
+unfolding some
+each-rate none e = none
+each-rate (more {x = x} {xs = xs} v vs) e = let p = neither (isBad x) (some isBad xs) e in more (record { value = v; good = p .0 }) (each-rate vs (p .1))
 
 -- ---- eight lanes
 pub held-same : (b b' : ℕ → ℕ) (s s' : Lanes) (fs fs' : List Factor) → s .m ≡ s' .m → s .e ≡ s' .e → fs ≡ fs' → ((k : ℕ) → k < 8 → b k ≤ b' k) → Held b s fs → Held b' s' fs'

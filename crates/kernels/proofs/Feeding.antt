@@ -122,6 +122,10 @@ pub or-assoc : (p q r : Bool) → ((p || q) || r) ≡ (p || (q || r))
 or-assoc true q r = refl
 or-assoc false q r = refl
 
+pub neither : (p q : Bool) → (p || q) ≡ false → (p ≡ false) × (q ≡ false)
+neither false q e = (refl, e)
+neither true q e = absurd (true≢false e)
+
 or-swap : (p q r : Bool) → ((p || q) || r) ≡ ((p || r) || q)
 or-swap true q r = refl
 or-swap false true true = refl

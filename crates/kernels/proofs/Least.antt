@@ -134,20 +134,6 @@ le-from k (fin true m e) =
     let t = eqb (1 * down e) (m * up e * 2 ^ suc k) in
     ap (λ (u : Bool). t && u) (not-nought (1 * down e) (lt-of-lt-of-le (down-pos e) (le-of-eq (sym (one-mul (down e)))))) ∙ and-no t
 
--- a value from 2^-(k + 1) on is plus infinity, or it is not bad and its exponent is at least -(k + 1)
-pub least-good : (k : ℕ) → suc k ≤ 1021 → (x : Float) → T (fits binary64 x) → le (fin false 1 (negsuc k)) x ≡ true
-    → (x ≡ inf false) ⊎ ((isBad x ≡ false) × (leZ (negsuc k) (rate x .exp) ≡ true))
-least-good k small x f h = go x f (sym (le-from k x) ∙ h)
-  where
-    go : (x : Float) → T (fits binary64 x) → from (suc k) x ≡ true → (x ≡ inf false) ⊎ ((isBad x ≡ false) × (leZ (negsuc k) (rate x .exp) ≡ true))
-    go nan f h = absurd (true≢false (sym h))
-    go (inf true) f h = absurd (true≢false (sym h))
-    go (inf false) f h = inl refl
-    go (fin true m e) f h = absurd (true≢false (sym h))
-    go (fin false m e) f h =
-        let good = reaching-good (suc k) small (fin false m e) f h in
-        inr (good, reaching-exponent k (fin false m e) f good h)
-
 -- ---- the lesser of two
 -- 1 ≤ a / d × p, and a / d ≤ b / c
 reaches-on : (p a d b c : ℕ) → 0 < d → leb d (a * p) ≡ true → a * c ≤ b * d → leb c (b * p) ≡ true

@@ -16,4 +16,3 @@ pub mod Comparing
 pub mod Windows
 pub mod LaneSizes
 pub mod Stepwise
-pub mod Piecewise

@@ -29,29 +29,6 @@ module _ {X : Type 0} (xs : List X) (at n : ℕ) (inside : at + n ≤ length xs)
     pub fed-all : n ≤ i → t ≡ w
     fed-all h = sym (feed-all step t (window xs at n) i (subst (λ (m : ℕ). m ≤ i) (sym window-length) h)) ∙ p
 
-  -- a test of every value
-  pub every-more : (q : X → Bool) (ok b : Bool) (i : ℕ) (d : X) → i < n → (ok && every q (drop i (window xs at n))) ≡ every q (window xs at n) → b ≡ q (getD xs (at + i) d)
-      → ((ok && b) && every q (drop (i + 1) (window xs at n))) ≡ every q (window xs at n)
-  unfolding every
-  every-more q ok b i d h p e =
-      and-assoc ok b (every q (drop (i + 1) (window xs at n)))
-      ∙ ap (λ (t : Bool). ok && (t && every q (drop (i + 1) (window xs at n)))) (e ∙ ap q (sym (window-at i d h)))
-      ∙ ap (λ (m : ℕ). ok && (q (getD (window xs at n) i d) && every q (drop m (window xs at n)))) (add-one i)
-      ∙ ap (λ (l : List X). ok && every q l) (sym (drop-cons (window xs at n) i d (subst (λ (m : ℕ). i < m) (sym window-length) h)))
-      ∙ p
-    where
-      and-assoc : (a b c : Bool) → ((a && b) && c) ≡ (a && (b && c))
-      and-assoc true b c = refl
-      and-assoc false b c = refl
-
-  pub every-all : (q : X → Bool) (ok : Bool) (i : ℕ) → n ≤ i → (ok && every q (drop i (window xs at n))) ≡ every q (window xs at n) → ok ≡ every q (window xs at n)
-  unfolding every
-  every-all q ok i h p = sym (ap (λ (l : List X). ok && every q l) (drop-of-length-le (window xs at n) (subst (λ (m : ℕ). m ≤ i) (sym window-length) h)) ∙ and-yes ok) ∙ p
-    where
-      and-yes : (a : Bool) → (a && true) ≡ a
-      and-yes true = refl
-      and-yes false = refl
-
 -- a part of a part
 pub window-window : {X : Type 0} (d : X) (xs : List X) (at n i k : ℕ) → at + n ≤ length xs → i + k ≤ n → take k (drop i (window xs at n)) ≡ window xs (at + i) k
 window-window d xs at n i k h l =
@@ -96,18 +73,3 @@ module _ {S X : Type 0} (step : ℕ → S → X → S) (same : (i : ℕ) (s : S)
           ap (feed step 0 t) (sym (window-window d xs at n (r * 8) 8 inside h))
           ∙ sym (feed-eights step same r t ys)
           ∙ ap (λ (m : ℕ). feed step m t ys) (let z : 8 * r ≡ r * 8 = omega arith in z)
-
--- ---- some value of eight
-pub some-more : {X : Type 0} (q : X → Bool) (xs : List X) (found b : Bool) (k : ℕ) (d : X) → k < length xs → (found || some q (drop k xs)) ≡ some q xs → b ≡ q (getD xs k d)
-    → ((found || b) || some q (drop (k + 1) xs)) ≡ some q xs
-unfolding some
-some-more {X} q xs found b k d h p e =
-    or-assoc found b (some q (drop (k + 1) xs))
-    ∙ ap (λ (t : Bool). found || (t || some q (drop (k + 1) xs))) e
-    ∙ ap (λ (m : ℕ). found || (q (getD xs k d) || some q (drop m xs))) (add-one k)
-    ∙ ap (λ (l : List X). found || some q l) (sym (drop-cons xs k d h))
-    ∙ p
-
-pub some-all : {X : Type 0} (q : X → Bool) (xs : List X) (found : Bool) (k : ℕ) → length xs ≤ k → (found || some q (drop k xs)) ≡ some q xs → found ≡ some q xs
-unfolding some
-some-all {X} q xs found k h p = sym (ap (λ (l : List X). found || some q l) (drop-of-length-le xs h) ∙ or-none found) ∙ p

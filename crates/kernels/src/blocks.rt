@@ -1,15 +1,10 @@
 // The lanes of a piece: a value split into its lane, and lanes brought back to [1, 2).
 ghost use mathlib.Core.Path.{_≡_};
 ghost use Prim.Native.Nat.{_^_, _<_};
-ghost use Rattle.kernels.specs.Blocks.{startLanes, splitStep, inBounds, renormLane, renorm, SmallLanes};
+ghost use Rattle.kernels.specs.Blocks.{startLanes, splitStep, renormLane, renorm, SmallLanes};
 use accumulator::StableProductFloatAcc;
 
 const LANES: usize = StableProductFloatAcc::LANES;
-
-// The bounds of a value that a block may multiply unsplit: 2^-120 and 2^120. Eight of them times a lane in [1, 2) stay normal.
-const LO: f64 = 7.52316384526264e-37;
-
-const HI: f64 = 1.329227995784916e36;
 
 // The lanes of a piece worked in blocks: each lane's m and e, and whether a bad value entered.
 pub struct Lanes {
@@ -26,13 +21,6 @@ pub fn start_lanes() -> Lanes
         e: [0; LANES],
         bad: false,
     }
-}
-
-// Whether a magnitude lies in the bounds, by comparisons, all of which are false of a NaN.
-pub fn in_bounds(x: f64) -> bool
-    ensures { λ r. ⌜ r ≡ inBounds x ⌝ }
-{
-    ((LO <= x) & (x <= HI)) | ((-HI <= x) & (x <= -LO))
 }
 
 // Value i of a block or a rest, split into its lane.

@@ -23,35 +23,19 @@ use Rattle.offsets.proofs.Writing.{offsets-append, length-offsets}
 use Rattle.kernels.specs.Lanes.{Each, none, more, some}
 use Rattle.kernels.specs.Plain.{plainProduct}
 use Rattle.kernels.specs.Pieces.{Rate, Piece, joinedPieces, rateCount, GoodPiece, patternsOf, accOf}
-use Rattle.kernels.proofs.Feeding.{or-assoc, each-map}
+use Rattle.kernels.proofs.Feeding.{each-map, some-append, neither}
+use Rattle.kernels.proofs.Blocking.{each-rate}
 use Rattle.kernels.proofs.Bounded.{ValuePiece, FullPiece, joined-within}
 use Rattle.kernels.proofs.Agreement.{agreement, badPiece, joined-mark}
 use Rattle.reduction.specs.Ranges.{valueAt, ratesFrom, pieceAt, piecesFrom, piecesOf, ratesOf}
 
 -- ---- lists of rates
-neither : (a b : Bool) → (a || b) ≡ false → (a ≡ false) × (b ≡ false)
-neither false b e = (refl, e)
-neither true b e = absurd (no e)
-  where
-    no : _≡_ {A = Bool} true false → ⊥
-    no p = subst (λ (x : Bool). T x) p tt
-
-some-append : {X : Type 0} (p : X → Bool) (xs ys : List X) → some p (xs ++ ys) ≡ (some p xs || some p ys)
-unfolding some
-some-append p [] ys = refl
-some-append p (x ∷ xs) ys = ap (λ (b : Bool). p x || b) (some-append p xs ys) ∙ sym (or-assoc (p x) (some p xs) (some p ys))
-
-each-good : {xs : List Float} → Each (λ (x : Float). T (fits binary64 x)) xs → some isBad xs ≡ false → Each Rate xs
-unfolding some
-each-good none e = none
-each-good (more {x = x} {xs = xs} v vs) e = let p = neither (isBad x) (some isBad xs) e in more (record { value = v; good = p .0 }) (each-good vs (p .1))
-
 good-pieces : {ps : List Piece} → Each FullPiece ps → some badPiece ps ≡ false → Each GoodPiece ps
 unfolding some
 good-pieces none e = none
 good-pieces (more {x = p} {xs = ps} f fs) e =
     let q = neither (badPiece p) (some badPiece ps) e in
-    more (record { some-rate = f .some-rate; good = each-good (f .values) (q .0) }) (good-pieces fs (q .1))
+    more (record { some-rate = f .some-rate; good = each-rate (f .values) (q .0) }) (good-pieces fs (q .1))
 
 -- some piece is bad exactly if some rate of all together is
 bad-rates : (ps : List Piece) → some badPiece ps ≡ some isBad (ratesOf ps)

@@ -67,31 +67,6 @@ unfolding strided steps
 strided-steps values z s zero = refl
 strided-steps values z s (suc n) = ap (λ (xs : List Float). valueAt values z ∷ xs) (strided-steps values (z +ℤ s) s n)
 
--- at stride 1 they lie side by side
-pub strided-window : (values : List Float) (at n : ℕ) → at + n ≤ length values → take n (drop at values) ≡ strided values (pos at) (pos 1) n
-unfolding strided
-strided-window values at zero h = refl
-strided-window values at (suc n) h =
-    ap (take (suc n)) (drop-cons values at nan (omega arith))
-    ∙ ap (λ (xs : List Float). getD values at nan ∷ xs) (strided-window values (suc at) n (omega arith) ∙ ap (λ (k : ℕ). strided values (pos k) (pos 1) n) next)
-  where
-    next : suc at ≡ at + 1
-    next = omega arith
-
-module _ (len at : ℕ) (z : ℤ) (n : ℕ) (i : Inside len z (pos 1) n) (some : 1 ≤ n) (e : natAbs z ≡ at) where
-  pub at-first : z ≡ pos at
-  at-first = go z (first-natural len z (pos 1) n i some) e
-    where
-      go : (y : ℤ) → T (nonNeg y) → natAbs y ≡ at → y ≡ pos at
-      go (pos k) t q = ap pos q
-      go (negsuc k) t q = absurd t
-
-  pub at-last : at + n ≤ len
-  at-last = go (subst (λ (y : ℤ). (y +ℤ pos 1 *ℤ pos (n - 1)) <ℤ pos len) at-first (i .most (n - 1) (omega arith))) some
-    where
-      go : (pos at +ℤ pos 1 *ℤ pos (n - 1)) <ℤ pos len → 1 ≤ n → at + n ≤ len
-      go = simp ints (simp atoms (omega arith))
-
 -- ---- exponents: at most 2^20 - 1 for each value of a piece, either way
 contiguous-near : (xs : List Float) → natAbs (contiguous xs .e) ≤ (73728 * (length xs / 64 + 1) + 1024) * 8
 unfolding contiguous lanesIn

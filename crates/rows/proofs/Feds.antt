@@ -1,7 +1,7 @@
 -- What values make of lanes: one list after another, whole rows, and the product at the end. Assumes nothing.
 use Prim.Native.Nat.{ℕ, zero, suc, _+_, _-_, _*_, _%_, _^_, _≤_, _<_, zero-le}
 use mathlib.Core.Path.{_≡_, refl, sym, ap, _∙_, subst}
-use mathlib.Core.Bool.{Bool, true, false, _||_, true≢false}
+use mathlib.Core.Bool.{Bool, true, false, _||_}
 use mathlib.Core.List.{List, [], _∷_, _++_, map, map-append}
 use mathlib.Core.Logic.{_⊎_, inl, inr}
 use native.Mathlib.Nat.{le-trans, zero-add}
@@ -29,17 +29,13 @@ use Rattle.kernels.proofs.Feeding.{feed-append, feed-eights, each-map, each-of,
 use Rattle.kernels.proofs.Factors.{NormalLanes, lane-normal, lane-lt, times-again}
 use Rattle.kernels.proofs.Standing.{stands-split, stands-acc}
 use Rattle.kernels.proofs.Stepping.{stepped-agrees}
-use Rattle.kernels.proofs.Blocking.{Value, held-start, contiguous-is, contiguous-mark, contiguous-agrees}
+use Rattle.kernels.proofs.Blocking.{Value, each-rate, held-start, contiguous-is, contiguous-mark, contiguous-agrees}
 use Rattle.kernels.proofs.Striding.{length-strided}
 use Rattle.kernels.proofs.Bounded.{Short, lane-size, rate-short}
 use Rattle.rows.specs.declared.row.Waiting.{Waiting}
 use Rattle.rows.specs.Waiting.{one, padded, waitStep, notBelow, notPast, startWaiting, chained, exponentsOf, lanesProduct}
 use Rattle.rows.proofs.Rowwise.{strided-append}
 use Rattle.rows.proofs.Chaining.{chain-stands}
-
-neither : (a b : Bool) → (a || b) ≡ false → (a ≡ false) × (b ≡ false)
-neither false b e = (refl, e)
-neither true b e = absurd (true≢false e)
 
 getD-past : {A : Type 0} (l : List A) (k : ℕ) (d : A) → length l ≤ k → getD l k d ≡ d
 getD-past [] k d h = refl
@@ -48,12 +44,6 @@ getD-past (x ∷ l) (suc k) d h = getD-past l k d (omega arith)
 
 abbrev zeros : ℕ → ℕ
 zeros k = 0
-
--- values of which none is bad
-pub each-rate : {xs : List Float} → Each Value xs → some isBad xs ≡ false → Each Rate xs
-unfolding some
-each-rate none e = none
-each-rate (more {x = x} {xs = xs} v vs) e = let p = neither (isBad x) (some isBad xs) e in more (record { value = v; good = p .0 }) (each-rate vs (p .1))
 
 -- ---- one list after another
 pub fed-append : (s r q : Lanes) (xs ys : List Float) (n : ℕ) → length xs ≡ 8 * n → Fed s xs r → Fed r ys q → Fed s (xs ++ ys) q
@@ -184,12 +174,6 @@ pub strided-values : (xs : List Float) → ((i : ℕ) → T (fits binary64 (getD
 unfolding strided
 strided-values xs v s d zero = none
 strided-values xs v s d (suc n) = more (v (natAbs s)) (strided-values xs v (s +ℤ d) d n)
-
--- n rows more
-pub fed-rows : (xs : List Float) (b d : ℤ) (i n : ℕ) (s r : Lanes) → Fed startLanes (strided xs b d (8 * i)) s → Fed s (strided xs (b +ℤ d *ℤ pos (8 * i)) d (8 * n)) r → Fed startLanes (strided xs b d (8 * (i + n))) r
-fed-rows xs b d i n s r F G =
-    subst (λ (ys : List Float). Fed startLanes ys r) (sym (strided-append xs b d (8 * i) (8 * n)) ∙ ap (strided xs b d) (let z : 8 * i + 8 * n ≡ 8 * (i + n) = omega arith in z))
-    (fed-append startLanes s r (strided xs b d (8 * i)) (strided xs (b +ℤ d *ℤ pos (8 * i)) d (8 * n)) i (length-strided xs b d (8 * i)) F G)
 
 -- the lanes of at most 2^40 values are far from the ends of i64
 pub rows-small : (xs : List Float) (b d : ℤ) (n : ℕ) (s : Lanes) → n ≤ 2 ^ 40 → Fed startLanes (strided xs b d n) s → SmallLanes (2 ^ 56) s

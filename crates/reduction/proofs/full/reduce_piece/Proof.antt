@@ -14,8 +14,7 @@ use Rattle.integers.proofs.Machine.{same-bits, ne-eqZ, pos-fits}
 use Rattle.kernels.specs.Strided.{strided, Inside}
 use Rattle.kernels.specs.Blocks.{contiguous}
 use Rattle.kernels.specs.Pieces.{worked}
-use Rattle.kernels.proofs.Striding.{first-natural}
-use Rattle.reduction.proofs.Pieces.{strided-window, at-first, at-last}
+use Rattle.kernels.proofs.Striding.{first-natural, strided-window, at-first, at-last}
 use borrow.Author.Needs.{needs}
 use Rattle.reduction.proofs.full.reduce_piece.Statement.{statement}
 use Rattle.reduction.proofs.full.reduce_piece.Tie as tie
