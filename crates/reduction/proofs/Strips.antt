@@ -3,10 +3,10 @@
 use Prim.Native.Nat.{ℕ, zero, suc, _+_, _-_, _*_, _/_, _%_, _^_, _≤_, _<_}
 use mathlib.Core.Path.{_≡_, refl, sym, _∙_, ap, subst}
 use mathlib.Core.Bool.{true}
-use mathlib.Core.List.{List, _∷_, _++_, map, foldl}
+use mathlib.Core.List.{List, _∷_, map, foldl}
 use native.Mathlib.Omega.{arith}
 use native.Mathlib.Nat.{le-trans, mul-le-mul-right, div-add-mod', mod-lt, le-div-iff-mul-le, add-zero, sub-zero}
-use lib.ListN.{length, getD, drop, replicate}
+use lib.ListN.{length, getD, drop}
 use lib.Arith.{digits-div, digits-mod}
 use lib.IntN.{ℤ, pos, natAbs, _+ℤ_, _*ℤ_}
 use lib.Signed.{_≤ℤ_, _<ℤ_}
@@ -17,17 +17,17 @@ use Rattle.integers.specs.Checked.{eqZ}
 use Rattle.integers.proofs.Difference.{ints, atoms}
 use Rattle.layout.specs.declared.axis.ReduceOuterAxis.{ReduceOuterAxis}
 use Rattle.layout.specs.declared.traversal.FullTraversal.{FullTraversal}
-use Rattle.layout.specs.Axes.{PLACES, noAxis}
+use Rattle.layout.specs.Axes.{noAxis, axisOf}
 use Rattle.layout.proofs.Tables.{take-from}
 use Rattle.accumulator.specs.declared.StableProductFloatAcc.{StableProductFloatAcc}
 use Rattle.accumulator.specs.Joining.{combined}
 use Rattle.offsets.specs.declared.pieces.RangeCursor.{RangeCursor}
-use Rattle.offsets.specs.Elements.{digits, offset, allWithin}
+use Rattle.offsets.specs.Elements.{offset, allWithin}
 use Rattle.offsets.specs.Cursors.{Axis, Bounded, cursorAt}
 use Rattle.offsets.specs.Traversals.{runOf, outerOf, Traversal}
-use Rattle.offsets.specs.Pieces.{rangeAt, pieceOf, OnRange}
+use Rattle.offsets.specs.Pieces.{rangeAt, pieceOf}
 use Rattle.offsets.proofs.Stepping.{axes-at}
-use Rattle.offsets.proofs.Walking.{some, along, outer-axes, piece-len, piece-at}
+use Rattle.offsets.proofs.Walking.{along, outer-axes, piece-len}
 use Rattle.kernels.specs.Pieces.{Piece, worked, workedPiece}
 use Rattle.kernels.specs.Strided.{strided, Inside}
 use Rattle.kernels.proofs.Sizes.{combined-size}
@@ -77,6 +77,10 @@ strip-small values step stride len h (suc n) z acc =
     let b = worked (eqZ stride (pos 1)) (strided values z stride len) in
     le-trans (strip-small values step stride len h n (z +ℤ step) (combined acc b)) (omega (arith, combined-size acc b, strided-near values z stride len h))
 
+pub run-some : (l : FullTraversal) → Traversal l → 1 ≤ l .«run_len»
+unfolding runOf axisOf
+run-some l t = axes-at (runOf l) (outerOf l) (runOf l ∷ outerOf l) refl (t .axes) .0 .1
+
 -- ---- run q of a range
 pub record Run (l : FullTraversal) (base : ℤ) (values : List Float) (end q : ℕ) : Type 0 where
   pub inside : Inside (length values) (offset (outerOf l) base q) (l .«run_stride») (l .«run_len»)
@@ -85,18 +89,15 @@ pub record Run (l : FullTraversal) (base : ℤ) (values : List Float) (end q : �
 
 module _ (l : FullTraversal) (t : Traversal l) (base : ℤ) (b : Bounded (runOf l ∷ outerOf l) base) (values : List Float)
     (w : allWithin (runOf l ∷ outerOf l) (l .total) base (length values) ≡ true) (end : ℕ) (few : end ≤ l .total) where
-  pub run-some : 1 ≤ l .«run_len»
-  run-some = some l t base b 0
-
   module _ (q : ℕ) (h : q * l .«run_len» + l .«run_len» ≤ end) where
     run-div : q * l .«run_len» / l .«run_len» ≡ q
-    run-div = ap (λ (k : ℕ). k / l .«run_len») (sym (add-zero (q * l .«run_len»))) ∙ digits-div q run-some
+    run-div = ap (λ (k : ℕ). k / l .«run_len») (sym (add-zero (q * l .«run_len»))) ∙ digits-div q (run-some l t)
 
     run-mod : q * l .«run_len» % l .«run_len» ≡ 0
-    run-mod = ap (λ (k : ℕ). k % l .«run_len») (sym (add-zero (q * l .«run_len»))) ∙ digits-mod q run-some
+    run-mod = ap (λ (k : ℕ). k % l .«run_len») (sym (add-zero (q * l .«run_len»))) ∙ digits-mod q (run-some l t)
 
     before-end : q * l .«run_len» < end
-    before-end = omega (arith, run-some)
+    before-end = omega (arith, run-some l t)
 
     run-taken : Taken l base values end (rangeAt l base (q * l .«run_len»)) (pieceOf l end (rangeAt l base (q * l .«run_len»)))
     unfolding rangeAt
@@ -170,34 +171,12 @@ module _ (l : FullTraversal) (t : Traversal l) (base : ℤ) (b : Bounded (runOf 
       subst (λ (ys : List ReduceOuterAxis). offset ys base q +ℤ firstAxis l .«source_step» *ℤ pos j ≡ offset ys base (q + j)) (sym outer-is)
       (sym (along (firstAxis l) (drop 1 (outerOf l)) base q (first-axis .1) j (omega arith)))
 
-  -- the first digit of a cursor
-  pub first-digit : (c : RangeCursor) → c ≡ rangeAt l base (c .at) → getD (c .runs .digits) 0 0 ≡ c .at / l .«run_len» % firstAxis l .extent
-  unfolding rangeAt cursorAt digits
-  first-digit c e =
-      ap (λ (x : RangeCursor). getD (x .runs .digits) 0 0) e
-      ∙ ap (λ (ys : List ReduceOuterAxis). getD (digits ys (c .at / l .«run_len») ++ replicate (PLACES - length ys) 0) 0 0) outer-is
-
--- ---- how many whole runs a cursor has ahead
-module _ (l : FullTraversal) (t : Traversal l) (c : RangeCursor) (o : OnRange l c) where
-  pub cursor-some : 1 ≤ l .«run_len»
-  cursor-some = some l t (o .base) (o .bounded) 0
-
-  column : c .col ≡ c .at % l .«run_len»
-  unfolding rangeAt
-  column = ap (λ (x : RangeCursor). x .col) (o .stands)
-
-  module _ (some-axis : 0 < l .«axis_count») where
-    digit-is : getD (c .runs .digits) 0 0 ≡ c .at / l .«run_len» % firstAxis l .extent
-    digit-is = first-digit l t (o .base) (o .bounded) some-axis c (o .stands)
-
-    pub digit-below : getD (c .runs .digits) 0 0 < firstAxis l .extent
-    digit-below = rw digit-is (mod-lt (c .at / l .«run_len») (first-axis l t (o .base) (o .bounded) some-axis .1))
-
-    pub runs-ahead : (end r : ℕ) → c .at < end → c .col ≡ 0 → r ≤ firstAxis l .extent - getD (c .runs .digits) 0 0 → r ≤ (end - c .at) / l .«run_len»
-        → (0 < l .«axis_count») × (c .at % l .«run_len» ≡ 0) × (c .at / l .«run_len» % firstAxis l .extent + r ≤ firstAxis l .extent) × (c .at + r * l .«run_len» ≤ end)
-    runs-ahead end r h z a k =
-        let m = le-div-iff-mul-le cursor-some .0 k in
-        (some-axis, sym column ∙ z, omega (arith, digit-is, digit-below), omega arith)
+-- ---- how many whole runs lie ahead of an element: to the end of the axis, and of the range
+pub runs-ahead : (l : FullTraversal) → Traversal l → (at end r : ℕ) → at < end → 0 < l .«axis_count» → 0 < firstAxis l .extent → at % l .«run_len» ≡ 0 → r ≤ firstAxis l .extent - at / l .«run_len» % firstAxis l .extent → r ≤ (end - at) / l .«run_len»
+    → (0 < l .«axis_count») × (at % l .«run_len» ≡ 0) × (at / l .«run_len» % firstAxis l .extent + r ≤ firstAxis l .extent) × (at + r * l .«run_len» ≤ end)
+runs-ahead l t at end r h some-axis some-extent z a k =
+    let m = le-div-iff-mul-le (run-some l t) .0 k in
+    (some-axis, z, omega (arith, mod-lt (at / l .«run_len») some-extent), omega arith)
 
 -- ---- n whole runs from a cursor on
 module _ (l : FullTraversal) (t : Traversal l) (base : ℤ) (b : Bounded (runOf l ∷ outerOf l) base) (values : List Float)
@@ -230,7 +209,7 @@ module _ (l : FullTraversal) (t : Traversal l) (base : ℤ) (b : Bounded (runOf 
       record {
         upto = omega (arith, next-at d e);
         stands = λ k. e ∙ ap (rangeAt l base) (sym (next-at d e));
-        small = subst (λ (a : StableProductFloatAcc). natAbs (a .e) ≤ 1048576 * d .at) (sym g) (le-trans (strip-small values _ _ _ (run-some l t base b values w end few) n _ acc) (omega (arith, next-at d e, s .small)));
+        small = subst (λ (a : StableProductFloatAcc). natAbs (a .e) ≤ 1048576 * d .at) (sym g) (le-trans (strip-small values _ _ _ (run-some l t) n _ acc) (omega (arith, next-at d e, s .small)));
         rest =
             ap (λ (a : StableProductFloatAcc). foldl combined a (map workedPiece (piecesOf l base values end (d .at)))) g
             ∙ ap (λ (k : ℕ). foldl combined (strip values (firstAxis l .«source_step») (l .«run_stride») (l .«run_len») n (c .runs .«source_offset») acc) (map workedPiece (piecesOf l base values end k))) (next-at d e ∙ sym ends)

@@ -10,7 +10,6 @@ ghost use Rattle.layout.specs.Axes.{noAxis};
 ghost use Rattle.offsets.specs.Elements.{allWithin};
 ghost use Rattle.offsets.specs.Cursors.{Bounded};
 ghost use Rattle.offsets.specs.Traversals.{runOf, outerOf, Traversal};
-ghost use Rattle.offsets.specs.Pieces.{OnRange};
 ghost use Rattle.kernels.specs.Strided.{strided, Inside};
 ghost use Rattle.kernels.specs.Pieces.{worked, joinedPieces};
 ghost use Rattle.accumulator.specs.Joining.{told};
@@ -18,7 +17,6 @@ ghost use Rattle.reduction.specs.Ranges.{strip, piecesOf, reduceOf};
 use accumulator::Reduced;
 use accumulator::StableProductFloatAcc;
 use layout::traversal::FullTraversal;
-use offsets::pieces::RangeCursor;
 
 // One piece: in blocks of 64 at stride 1, in stepped lanes at any other.
 fn reduce_piece(values: &[f64], first: i64, stride: i64, len: usize) -> StableProductFloatAcc
@@ -33,23 +31,28 @@ fn reduce_piece(values: &[f64], first: i64, stride: i64, len: usize) -> StablePr
     rows::piece::lanes_strided(values, first, stride, len)
 }
 
-// How many whole runs lie ahead of a cursor within the range, a step of the first outer axis apart: 0 within a run, and 0 without outer axes.
-fn whole_runs(l: FullTraversal, c: RangeCursor, end: u64) -> u64
-    requires { ⌜ Traversal l × (c .at < end) × OnRange l c ⌝ }
-    ensures { λ r. ⌜ (0 < r → (0 < l .«axis_count») × (c .at % l .«run_len» ≡ 0) × (c .at / l .«run_len» % (getD (l .«run_axes») 0 noAxis) .extent + r ≤ (getD (l .«run_axes») 0 noAxis) .extent) × (c .at + r * l .«run_len» ≤ end)) ⌝ }
+// A strip of fewer runs is not worth the decoding of a new cursor behind it.
+const SHORT: u64 = 4;
+
+// How many whole runs lie ahead of an element number within the range, a step of the first outer axis apart: 0 within a run, and 0 where that axis is short or missing.
+fn whole_runs(l: FullTraversal, at: u64, end: u64) -> u64
+    requires { ⌜ Traversal l × (at < end) ⌝ }
+    ensures { λ r. ⌜ (0 < r → (0 < l .«axis_count») × (at % l .«run_len» ≡ 0) × (at / l .«run_len» % (getD (l .«run_axes») 0 noAxis) .extent + r ≤ (getD (l .«run_axes») 0 noAxis) .extent) × (at + r * l .«run_len» ≤ end)) ⌝ }
 {
     if l.axis_count == 0 {
         return 0;
     }
-    if c.col != 0 {
-        return 0;
-    }
     let axes = l.run_axes;
     let a = axes[0];
-    let runs = c.runs;
-    let digits = runs.digits;
-    let left = a.extent - digits[0];
-    let room = (end - c.at) / l.run_len;
+    if a.extent < SHORT {
+        return 0;
+    }
+    let len = l.run_len;
+    if at % len != 0 {
+        return 0;
+    }
+    let left = a.extent - at / len % a.extent;
+    let room = (end - at) / len;
     if left < room { left } else { room }
 }
 
@@ -92,19 +95,19 @@ pub fn reduce_full_range(
     ensures { λ r. ⌜ r ≡ joinedPieces (piecesOf l base (now (values .entry)) end start) ⌝ }
 {
     let stride = l.run_stride;
-    let axes = l.run_axes;
-    let outer = axes[0];
     let p = offsets::pieces::next_piece(l, end, offsets::pieces::begin(l, base, start));
     let mut acc = reduce_piece(values, p.first, stride, p.len as usize);
     let mut c = p.next;
     while c.at < end {
-        let n = whole_runs(l, c, end);
+        let n = whole_runs(l, c.at, end);
         if n < 2 {
             let q = offsets::pieces::next_piece(l, end, c);
             let b = reduce_piece(values, q.first, stride, q.len as usize);
             acc = accumulator::stable_float_combine(acc, b);
             c = q.next;
         } else {
+            let axes = l.run_axes;
+            let outer = axes[0];
             let len = l.run_len;
             let at = c.runs.source_offset;
             acc = reduce_strip(values, at, outer.source_step, stride, len as usize, n, acc);

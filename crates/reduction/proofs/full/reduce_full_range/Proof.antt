@@ -20,59 +20,48 @@ use Rattle.reduction.proofs.Ranges.{Taken, taken, Reducing, near, reduc
 use Rattle.reduction.proofs.Strips.{run-some, firstAxis, runs-inside, reducing-strip}
 use Rattle.reduction.proofs.full.reduce_full_range.Statement.{statement}
 use Rattle.reduction.proofs.full.reduce_full_range.Tie as tie
-use Rattle.reduction.proofs.full.reduce_full_range.Reads as reads
-use Rattle.reduction.proofs.full.reduce_full_range.Lts as lts
-use Rattle.accumulator.proofs.stable_float_combine.Reads as stable-float-combine-reads
-use Rattle.offsets.proofs.pieces.begin.Reads as begin-reads
-use Rattle.offsets.proofs.pieces.next_piece.Reads as next-piece-reads
-use Rattle.reduction.proofs.full.reduce_piece.Reads as reduce-piece-reads
-use Rattle.reduction.proofs.full.reduce_strip.Reads as reduce-strip-reads
-use Rattle.reduction.proofs.full.whole_runs.Reads as whole-runs-reads
 
 abbrev Inv-loop : tie.InvT-loop
-Inv-loop l base start end values stride outer acc₀ c₀ acc c = Reducing l (toZ w64 base) values start end acc c
+Inv-loop l base start end values stride acc₀ c₀ acc c = Reducing l (toZ w64 base) values start end acc c
 
 abbrev μ-loop : tie.MeasureT-loop
-μ-loop l base start end values stride outer acc₀ c₀ acc c = end - c .at
+μ-loop l base start end values stride acc₀ c₀ acc c = end - c .at
 
 -- the entry, from places further on
-abbrev from-outer : tie.After-outer Inv-loop μ-loop → tie.Start Inv-loop μ-loop
-from-outer c = c .before .before .before .before
+abbrev from-told : tie.After-struct-told Inv-loop μ-loop → tie.Start Inv-loop μ-loop
+from-told c = c .before .before
 
 abbrev from-loop : tie.At-loop Inv-loop μ-loop → tie.Start Inv-loop μ-loop
-from-loop c = from-outer (c .before .before .before .before .before .before)
-
-array-copy-out-outer : tie.Need-array-copy-out-outer Inv-loop μ-loop
-array-copy-out-outer c = omega arith
+from-loop c = from-told (c .before .before .before .before .before .before)
 
 begin-requires : tie.Need-begin-requires Inv-loop μ-loop
-begin-requires c κs = let s = from-outer c in simp (toZ-ofZ (s .fits .base)) (s .pre .0, s .pre .1)
+begin-requires c κs = let s = from-told c in simp (toZ-ofZ (s .fits .base)) (s .pre .0, s .pre .1)
 
-stride-fits : (c : tie.After-outer Inv-loop μ-loop) → SFits w64 (from-outer c .args .l .«run_stride»)
-stride-fits c = record { sfits = c .before .before .struct-told .given .1 .1 .0 .1 }
+stride-fits : (c : tie.After-struct-told Inv-loop μ-loop) → SFits w64 (from-told c .args .l .«run_stride»)
+stride-fits c = record { sfits = c .struct-told .given .1 .1 .0 .1 }
 
 -- the first piece
-began : (c : tie.After-begin Inv-loop μ-loop) → let s = from-outer (c .before) in c .begin .result ≡ rangeAt (s .args .l) (s .args .base) (s .args .start)
-began c = let s = from-outer (c .before) in simp (toZ-ofZ (s .fits .base)) at (c .begin .ensures)
+began : (c : tie.After-begin Inv-loop μ-loop) → let s = from-told (c .before) in c .begin .result ≡ rangeAt (s .args .l) (s .args .base) (s .args .start)
+began c = let s = from-told (c .before) in simp (toZ-ofZ (s .fits .base)) at (c .begin .ensures)
 
-start-is : (c : tie.After-begin Inv-loop μ-loop) → c .begin .result .at ≡ from-outer (c .before) .args .start
+start-is : (c : tie.After-begin Inv-loop μ-loop) → c .begin .result .at ≡ from-told (c .before) .args .start
 unfolding rangeAt
 start-is c = ap (λ (x : RangeCursor). x .at) (began c)
 
-stands : (c : tie.After-begin Inv-loop μ-loop) → let s = from-outer (c .before) in c .begin .result ≡ rangeAt (s .args .l) (s .args .base) (c .begin .result .at)
-stands c = let s = from-outer (c .before) in began c ∙ ap (rangeAt (s .args .l) (s .args .base)) (sym (start-is c))
+stands : (c : tie.After-begin Inv-loop μ-loop) → let s = from-told (c .before) in c .begin .result ≡ rangeAt (s .args .l) (s .args .base) (c .begin .result .at)
+stands c = let s = from-told (c .before) in began c ∙ ap (rangeAt (s .args .l) (s .args .base)) (sym (start-is c))
 
-before-end : (c : tie.After-begin Inv-loop μ-loop) → c .begin .result .at < from-outer (c .before) .args .end
-before-end c = let s = from-outer (c .before) in omega (arith, start-is c, s .pre .2)
+before-end : (c : tie.After-begin Inv-loop μ-loop) → c .begin .result .at < from-told (c .before) .args .end
+before-end c = let s = from-told (c .before) in omega (arith, start-is c, s .pre .2)
 
 next-piece-requires : tie.Need-next-piece-requires Inv-loop μ-loop
 next-piece-requires c κs =
-    let s = from-outer (c .before) in
+    let s = from-told (c .before) in
     (s .pre .0, before-end c, record { base = s .args .base; bounded = s .pre .1; stands = stands c })
 
-first-taken : (c : tie.After-next-piece Inv-loop μ-loop) → let s = from-outer (c .before .before) in Taken (s .args .l) (s .args .base) (s .args .values .now) (s .args .end) (c .before .begin .result) (c .next-piece .result)
+first-taken : (c : tie.After-next-piece Inv-loop μ-loop) → let s = from-told (c .before .before) in Taken (s .args .l) (s .args .base) (s .args .values .now) (s .args .end) (c .before .begin .result) (c .next-piece .result)
 first-taken c =
-    let s = from-outer (c .before .before) in
+    let s = from-told (c .before .before) in
     taken (s .args .l) (s .pre .0) (s .args .base) (s .pre .1) (s .args .values .now) (s .pre .5) (s .args .end) (s .pre .3) (c .before .begin .result) (stands (c .before)) (before-end (c .before)) (c .next-piece .result) (c .next-piece .ensures)
 
 first-fits : (c : tie.After-struct-told2 Inv-loop μ-loop) → SFits w64 (c .before .next-piece .result .first)
@@ -80,7 +69,7 @@ first-fits c = record { sfits = c .struct-told2 .given .0 .1 }
 
 reduce-piece-requires : tie.Need-reduce-piece-requires Inv-loop μ-loop
 reduce-piece-requires c κs =
-    let s = from-outer (c .before .before .before) in
+    let s = from-told (c .before .before .before) in
     let p = first-taken (c .before) in
     simp (toZ-ofZ (first-fits c), toZ-ofZ (stride-fits (c .before .before .before))) (p .some-len, p .inside, omega (arith, p .ends, s .pre .3, s .pre .4))
 
@@ -88,7 +77,7 @@ loop-holds : tie.Need-loop-holds Inv-loop μ-loop
 loop-holds c =
     let r = c .before in
     let n = r .before .before in
-    let s = from-outer (n .before .before) in
+    let s = from-told (n .before .before) in
     let w = simp (toZ-ofZ (first-fits (r .before)), toZ-ofZ (stride-fits (n .before .before))) at (r .reduce-piece .ensures) in
     simp (toZ-ofZ (s .fits .base))
     (reducing-first (s .args .l) (s .args .base) (s .args .values .now) (s .args .start) (s .args .end) (n .before .begin .result) (n .next-piece .result) (first-taken n) (r .reduce-piece .result) w (start-is (n .before)))
@@ -107,7 +96,7 @@ on-range c =
     record { base = s .args .base; bounded = s .pre .1; stands = reducing k .stands (c .if1 .taken) }
 
 whole-runs-requires : tie.Need-whole-runs-requires Inv-loop μ-loop
-whole-runs-requires c κs = (from-loop (c .before .before) .pre .0, c .if1 .taken, on-range c)
+whole-runs-requires c κs = (from-loop (c .before .before) .pre .0, c .if1 .taken)
 
 -- ---- one piece
 next-piece-requires-2 : tie.Need-next-piece-requires-2 Inv-loop μ-loop
@@ -182,12 +171,15 @@ at-fits c =
     let s = from-loop k in
     small-fits _ (on-run (s .args .l) (s .pre .0) (k .loop .c) (on-range (c .before .before)))
 
-step-fits : (c : tie.After-struct-told5 Inv-loop μ-loop) → SFits w64 (firstAxis (from-loop (strip-loop (c .before .before)) .args .l) .«source_step»)
+step-fits : (c : tie.After-struct-told5 Inv-loop μ-loop) → SFits w64 (firstAxis (from-loop (strip-loop (c .before .before .before .before)) .args .l) .«source_step»)
 step-fits c = record { sfits = c .struct-told5 .given .1 .0 .1 }
+
+array-copy-out-outer : tie.Need-array-copy-out-outer Inv-loop μ-loop
+array-copy-out-outer c = omega arith
 
 reduce-strip-requires : tie.Need-reduce-strip-requires Inv-loop μ-loop
 reduce-strip-requires c κs =
-    let e = c .before .before in
+    let e = c .before .before .before .before in
     let k = strip-loop e in
     let s = from-loop k in
     let n = e .before .whole-runs .result in
@@ -197,7 +189,7 @@ reduce-strip-requires c κs =
     let one : 1 ≤ n = omega (arith, e .if2 .left) in
     let m : 1 * len ≤ n * len = mul-le-mul-right len one in
     simp (toZ-ofZ (at-fits e), toZ-ofZ (step-fits c), toZ-ofZ (stride-kept k)) (
-      run-some (s .args .l) (s .pre .0) (s .args .base) (s .pre .1) (s .args .values .now) (s .pre .5) (s .args .end) (s .pre .3),
+      run-some (s .args .l) (s .pre .0),
       omega (arith, m, a .3, s .pre .3, s .pre .4),
       omega (arith, a .3, s .pre .3, s .pre .4),
       omega (arith, r .small, r .upto, s .pre .3, s .pre .4),
@@ -206,48 +198,48 @@ reduce-strip-requires c κs =
 
 mul-begin : tie.Need-mul-begin Inv-loop μ-loop
 mul-begin c =
-    let e = c .before .before .before in
+    let e = c .before .before .before .before .before in
     let s = from-loop (strip-loop e) in
     omega (arith, ahead e .3, s .pre .3, s .pre .4)
 
 add-begin : tie.Need-add-begin Inv-loop μ-loop
 add-begin c =
-    let e = c .before .before .before .before in
+    let e = c .before .before .before .before .before .before in
     let s = from-loop (strip-loop e) in
     omega (arith, ahead e .3, s .pre .3, s .pre .4)
 
 begin-requires-2 : tie.Need-begin-requires-2 Inv-loop μ-loop
-begin-requires-2 c κs = let s = from-loop (strip-loop (c .before .before .before .before)) in simp (toZ-ofZ (s .fits .base)) (s .pre .0, s .pre .1)
+begin-requires-2 c κs = let s = from-loop (strip-loop (c .before .before .before .before .before .before)) in simp (toZ-ofZ (s .fits .base)) (s .pre .0, s .pre .1)
 
 -- the strip's product, and the cursor behind it
-strip-is : (c : tie.After-reduce-strip Inv-loop μ-loop) → let e = c .before .before .before in let k = strip-loop e in let s = from-loop k in
+strip-is : (c : tie.After-reduce-strip Inv-loop μ-loop) → let e = c .before .before .before .before .before in let k = strip-loop e in let s = from-loop k in
     c .reduce-strip .result ≡ strip (s .args .values .now) (firstAxis (s .args .l) .«source_step») (s .args .l .«run_stride») (s .args .l .«run_len») (e .before .whole-runs .result) (k .loop .c .runs .«source_offset») (k .loop .acc)
-strip-is c = simp (toZ-ofZ (at-fits (c .before .before .before)), toZ-ofZ (step-fits (c .before)), toZ-ofZ (stride-kept (strip-loop (c .before .before .before)))) at (c .reduce-strip .ensures)
+strip-is c = simp (toZ-ofZ (at-fits (c .before .before .before .before .before)), toZ-ofZ (step-fits (c .before)), toZ-ofZ (stride-kept (strip-loop (c .before .before .before .before .before)))) at (c .reduce-strip .ensures)
 
-behind : (c : tie.After-begin2 Inv-loop μ-loop) → let e = c .before .before .before .before .before in let k = strip-loop e in let s = from-loop k in
+behind : (c : tie.After-begin2 Inv-loop μ-loop) → let e = c .before .before .before .before .before .before .before in let k = strip-loop e in let s = from-loop k in
     c .begin2 .result ≡ rangeAt (s .args .l) (s .args .base) (k .loop .c .at + e .before .whole-runs .result * s .args .l .«run_len»)
-behind c = let s = from-loop (strip-loop (c .before .before .before .before .before)) in simp (toZ-ofZ (s .fits .base)) at (c .begin2 .ensures)
+behind c = let s = from-loop (strip-loop (c .before .before .before .before .before .before .before)) in simp (toZ-ofZ (s .fits .base)) at (c .begin2 .ensures)
 
-behind-at : (c : tie.After-begin2 Inv-loop μ-loop) → let e = c .before .before .before .before .before in let k = strip-loop e in let s = from-loop k in
+behind-at : (c : tie.After-begin2 Inv-loop μ-loop) → let e = c .before .before .before .before .before .before .before in let k = strip-loop e in let s = from-loop k in
     c .begin2 .result .at ≡ k .loop .c .at + e .before .whole-runs .result * s .args .l .«run_len»
 unfolding rangeAt
 behind-at c = ap (λ (x : RangeCursor). x .at) (behind c)
 
 loop-less-2 : tie.Need-loop-less-2 Inv-loop μ-loop
 loop-less-2 c =
-    let e = c .before .before .before .before .before in
+    let e = c .before .before .before .before .before .before .before in
     let k = strip-loop e in
     let s = from-loop k in
     let n = e .before .whole-runs .result in
     let len = s .args .l .«run_len» in
     let one : 1 ≤ n = omega (arith, e .if2 .left) in
     let m : 1 * len ≤ n * len = mul-le-mul-right len one in
-    omega (arith, e .before .before .if1 .taken, behind-at c, m, run-some (s .args .l) (s .pre .0) (s .args .base) (s .pre .1) (s .args .values .now) (s .pre .5) (s .args .end) (s .pre .3))
+    omega (arith, e .before .before .if1 .taken, behind-at c, m, run-some (s .args .l) (s .pre .0))
 
 loop-again-2 : tie.Need-loop-again-2 Inv-loop μ-loop
 loop-again-2 c =
     let r = c .before .before in
-    let e = r .before .before .before in
+    let e = r .before .before .before .before .before in
     let k = strip-loop e in
     let s = from-loop k in
     let a = ahead e in
@@ -265,7 +257,6 @@ reduce-full-range-spec =
     (tie.spec
     Inv-loop
     μ-loop
-    array-copy-out-outer
     begin-requires
     next-piece-requires
     reduce-piece-requires
@@ -276,6 +267,7 @@ reduce-full-range-spec =
     stable-float-combine-requires
     loop-less
     loop-again
+    array-copy-out-outer
     reduce-strip-requires
     mul-begin
     add-begin
