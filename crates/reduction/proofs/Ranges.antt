@@ -6,9 +6,10 @@ use mathlib.Core.Bool.{true}
 use mathlib.Core.List.{List, [], _∷_, map, foldl}
 use native.Mathlib.Omega.{arith}
 use native.Mathlib.Nat.{le-trans}
-use lib.ListN.{length}
+use lib.ListN.{length, getD}
+use lib.Dec.{T}
 use lib.IntN.{ℤ, pos, natAbs, _+ℤ_, _*ℤ_}
-use lib.Ieee.{Float}
+use lib.Ieee.{Float, nan, binary64, fits}
 use Rattle.integers.specs.Checked.{eqZ}
 use Rattle.layout.specs.declared.traversal.FullTraversal.{FullTraversal}
 use Rattle.accumulator.specs.declared.StableProductFloatAcc.{StableProductFloatAcc}
@@ -24,7 +25,10 @@ use Rattle.offsets.proofs.Walking.{len-pos, PieceHere, piece-here}
 use Rattle.offsets.proofs.Writing.{piece-steps}
 use Rattle.kernels.specs.Pieces.{Piece, worked, workedPiece, joinedPieces}
 use Rattle.kernels.specs.Strided.{strided, Inside}
+use Rattle.kernels.specs.Stepped.{Sound}
 use Rattle.kernels.proofs.Sizes.{combined-size}
+use Rattle.kernels.proofs.Bounded.{combined-sound, worked-sound}
+use Rattle.rows.proofs.Feds.{strided-values}
 use Rattle.reduction.specs.Ranges.{valueAt, ratesFrom, pieceAt, piecesOf}
 use Rattle.reduction.proofs.Pieces.{pieces-none, pieces-more, strided-steps, strided-near}
 
@@ -74,6 +78,7 @@ pub record Reducing (l : FullTraversal) (base : ℤ) (values : List Float) (star
   pub upto : c .at ≤ end
   pub stands : c .at < end → c ≡ rangeAt l base (c .at)
   pub small : natAbs (acc .e) ≤ 1048576 * c .at
+  pub sound : Sound acc
   pub rest : foldl combined acc (map workedPiece (piecesOf l base values end (c .at))) ≡ joinedPieces (piecesOf l base values end start)
 
 module _ (l : FullTraversal) (base : ℤ) (values : List Float) (start end : ℕ) (c : RangeCursor) (p : RangePiece) (t : Taken l base values end c p) (b : StableProductFloatAcc)
@@ -81,29 +86,37 @@ module _ (l : FullTraversal) (base : ℤ) (values : List Float) (start end : ℕ
   pub near : natAbs (b .e) ≤ 1048575 * p .len
   near = subst (λ (a : StableProductFloatAcc). natAbs (a .e) ≤ 1048575 * p .len) (sym e) (strided-near values (p .first) (l .«run_stride») (p .len) (t .some-len))
 
+  -- |m| lies in [1, 2)
+  pub piece-sound : ((i : ℕ) → T (fits binary64 (getD values i nan))) → Sound b
+  piece-sound v =
+      subst Sound (sym e)
+      (worked-sound (record { inBlocks = eqZ (l .«run_stride») (pos 1); rates = strided values (p .first) (l .«run_stride») (p .len) }) (strided-values values v (p .first) (l .«run_stride») (p .len)))
+
   is-piece : b ≡ workedPiece (pieceAt l base values end (c .at))
   is-piece = e ∙ t .worked-is
 
   -- the first piece is taken as it is
-  pub reducing-first : c .at ≡ start → Reducing l base values start end b (p .next)
+  pub reducing-first : ((i : ℕ) → T (fits binary64 (getD values i nan))) → c .at ≡ start → Reducing l base values start end b (p .next)
   unfolding joinedPieces
-  reducing-first k =
+  reducing-first v k =
       record {
         upto = omega (arith, t .next-at, t .ends);
         stands = t .next-stands;
         small = le-trans near (omega (arith, t .next-at));
+        sound = piece-sound v;
         rest =
             ap (λ (a : StableProductFloatAcc). foldl combined a (map workedPiece (piecesOf l base values end (p .next .at)))) is-piece
             ∙ ap joinedPieces (sym (t .pieces)) ∙ ap (λ (n : ℕ). joinedPieces (piecesOf l base values end n)) k;
       }
 
   -- a later one is joined from the right
-  pub reducing-more : (acc : StableProductFloatAcc) → Reducing l base values start end acc c → (r : StableProductFloatAcc) → r ≡ combined acc b → Reducing l base values start end r (p .next)
-  reducing-more acc s r g =
+  pub reducing-more : ((i : ℕ) → T (fits binary64 (getD values i nan))) → (acc : StableProductFloatAcc) → Reducing l base values start end acc c → (r : StableProductFloatAcc) → r ≡ combined acc b → Reducing l base values start end r (p .next)
+  reducing-more v acc s r g =
       record {
         upto = omega (arith, t .next-at, t .ends);
         stands = t .next-stands;
         small = subst (λ (a : StableProductFloatAcc). natAbs (a .e) ≤ 1048576 * p .next .at) (sym g) (le-trans (combined-size acc b) (omega (arith, t .next-at, near, s .small, t .some-len)));
+        sound = subst Sound (sym g) (combined-sound acc b (s .sound) (piece-sound v));
         rest =
             ap (λ (a : StableProductFloatAcc). foldl combined a (map workedPiece (piecesOf l base values end (p .next .at)))) (g ∙ ap (combined acc) is-piece)
             ∙ ap (λ (ps : List Piece). foldl combined acc (map workedPiece ps)) (sym (t .pieces)) ∙ s .rest;

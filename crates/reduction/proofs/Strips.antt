@@ -10,7 +10,8 @@ use lib.ListN.{length, getD, drop}
 use lib.Arith.{digits-div, digits-mod}
 use lib.IntN.{ℤ, pos, natAbs, _+ℤ_, _*ℤ_}
 use lib.Signed.{_≤ℤ_, _<ℤ_}
-use lib.Ieee.{Float}
+use lib.Dec.{T}
+use lib.Ieee.{Float, nan, binary64, fits}
 use mir.Val.{SFits}
 use mir.Syntax.{w64}
 use Rattle.integers.specs.Checked.{eqZ}
@@ -30,7 +31,10 @@ use Rattle.offsets.proofs.Stepping.{axes-at}
 use Rattle.offsets.proofs.Walking.{along, outer-axes, piece-len}
 use Rattle.kernels.specs.Pieces.{Piece, worked, workedPiece}
 use Rattle.kernels.specs.Strided.{strided, Inside}
+use Rattle.kernels.specs.Stepped.{Sound}
 use Rattle.kernels.proofs.Sizes.{combined-size}
+use Rattle.kernels.proofs.Bounded.{combined-sound, worked-sound}
+use Rattle.rows.proofs.Feds.{strided-values}
 use Rattle.reduction.specs.Ranges.{pieceAt, piecesOf, strip}
 use Rattle.reduction.proofs.Pieces.{strided-near}
 use Rattle.reduction.proofs.Ranges.{Taken, taken, Reducing}
@@ -86,6 +90,14 @@ pub record Run (l : FullTraversal) (base : ℤ) (values : List Float) (end q : �
   pub inside : Inside (length values) (offset (outerOf l) base q) (l .«run_stride») (l .«run_len»)
   pub worked-is : worked (eqZ (l .«run_stride») (pos 1)) (strided values (offset (outerOf l) base q) (l .«run_stride») (l .«run_len»)) ≡ workedPiece (pieceAt l base values end (q * l .«run_len»))
   pub pieces : piecesOf l base values end (q * l .«run_len») ≡ pieceAt l base values end (q * l .«run_len») ∷ piecesOf l base values end ((q + 1) * l .«run_len»)
+
+-- |m| stays in [1, 2)
+pub strip-sound : (values : List Float) → ((i : ℕ) → T (fits binary64 (getD values i nan))) → (step stride : ℤ) (len n : ℕ) (z : ℤ) (acc : StableProductFloatAcc) → Sound acc → Sound (strip values step stride len n z acc)
+unfolding strip
+strip-sound values v step stride len zero z acc s = s
+strip-sound values v step stride len (suc n) z acc s =
+    strip-sound values v step stride len n (z +ℤ step) (combined acc (worked (eqZ stride (pos 1)) (strided values z stride len)))
+    (combined-sound acc (worked (eqZ stride (pos 1)) (strided values z stride len)) s (worked-sound (record { inBlocks = eqZ stride (pos 1); rates = strided values z stride len }) (strided-values values v z stride len)))
 
 module _ (l : FullTraversal) (t : Traversal l) (base : ℤ) (b : Bounded (runOf l ∷ outerOf l) base) (values : List Float)
     (w : allWithin (runOf l ∷ outerOf l) (l .total) base (length values) ≡ true) (end : ℕ) (few : end ≤ l .total) where
@@ -203,13 +215,14 @@ module _ (l : FullTraversal) (t : Traversal l) (base : ℤ) (b : Bounded (runOf 
   unfolding rangeAt
   next-at d e = ap (λ (x : RangeCursor). x .at) e
 
-  pub reducing-strip : (start : ℕ) (acc : StableProductFloatAcc) → Reducing l base values start end acc c → (r : StableProductFloatAcc) → r ≡ strip values (firstAxis l .«source_step») (l .«run_stride») (l .«run_len») n (c .runs .«source_offset») acc
+  pub reducing-strip : ((i : ℕ) → T (fits binary64 (getD values i nan))) → (start : ℕ) (acc : StableProductFloatAcc) → Reducing l base values start end acc c → (r : StableProductFloatAcc) → r ≡ strip values (firstAxis l .«source_step») (l .«run_stride») (l .«run_len») n (c .runs .«source_offset») acc
       → (d : RangeCursor) → d ≡ rangeAt l base (c .at + n * l .«run_len») → Reducing l base values start end r d
-  reducing-strip start acc s r g d e =
+  reducing-strip v start acc s r g d e =
       record {
         upto = omega (arith, next-at d e);
         stands = λ k. e ∙ ap (rangeAt l base) (sym (next-at d e));
         small = subst (λ (a : StableProductFloatAcc). natAbs (a .e) ≤ 1048576 * d .at) (sym g) (le-trans (strip-small values _ _ _ (run-some l t) n _ acc) (omega (arith, next-at d e, s .small)));
+        sound = subst Sound (sym g) (strip-sound values v (firstAxis l .«source_step») (l .«run_stride») (l .«run_len») n (c .runs .«source_offset») acc (s .sound));
         rest =
             ap (λ (a : StableProductFloatAcc). foldl combined a (map workedPiece (piecesOf l base values end (d .at)))) g
             ∙ ap (λ (k : ℕ). foldl combined (strip values (firstAxis l .«source_step») (l .«run_stride») (l .«run_len») n (c .runs .«source_offset») acc) (map workedPiece (piecesOf l base values end k))) (next-at d e ∙ sym ends)

@@ -11,6 +11,7 @@ ghost use Rattle.offsets.specs.Elements.{allWithin};
 ghost use Rattle.offsets.specs.Cursors.{Bounded};
 ghost use Rattle.offsets.specs.Traversals.{runOf, outerOf, Traversal};
 ghost use Rattle.kernels.specs.Strided.{strided, Inside};
+ghost use Rattle.kernels.specs.Stepped.{Sound};
 ghost use Rattle.kernels.specs.Pieces.{worked, joinedPieces};
 ghost use Rattle.accumulator.specs.Joining.{told};
 ghost use Rattle.reduction.specs.Ranges.{strip, piecesOf, reduceOf};
@@ -66,7 +67,7 @@ fn reduce_strip(
     count: u64,
     acc: StableProductFloatAcc,
 ) -> StableProductFloatAcc
-    requires { ⌜ (1 ≤ len) × (len ≤ 2 ^ 40) × (count * len ≤ 2 ^ 40) × (natAbs (acc .e) ≤ 2 ^ 60) × ((j : ℕ) → j < count → Inside (length (now values)) (first +ℤ step *ℤ pos j) stride len) ⌝ }
+    requires { ⌜ (1 ≤ len) × (len ≤ 2 ^ 40) × (count * len ≤ 2 ^ 40) × (natAbs (acc .e) ≤ 2 ^ 60) × ((j : ℕ) → j < count → Inside (length (now values)) (first +ℤ step *ℤ pos j) stride len) × Sound acc ⌝ }
     ensures { λ r. ⌜ r ≡ strip (now (values .entry)) step stride len count first acc ⌝ }
 {
     let mut a = acc;
@@ -74,7 +75,7 @@ fn reduce_strip(
     let mut j: u64 = 0;
     while j < count {
         let b = reduce_piece(values, at, stride, len);
-        a = accumulator::stable_float_combine(a, b);
+        a = accumulator::combine_units(a, b);
         j += 1;
         if j < count {
             at += step;

@@ -1,8 +1,11 @@
 -- `reduction::full::reduce_full_range` meets its contract. The loop's invariant: what is left joins to the range's product (`Reducing`).
 -- Assumes nothing.
-use Prim.Native.Nat.{_+_, _-_, _*_, _/_, _%_, _≤_, _<_}
+use Prim.Native.Nat.{ℕ, _+_, _-_, _*_, _/_, _%_, _≤_, _<_}
 use mathlib.Core.Path.{_≡_, sym, _∙_, ap}
 use native.Mathlib.Omega.{arith}
+use lib.ListN.{getD}
+use lib.Dec.{T}
+use lib.Ieee.{nan, binary64, fits}
 use native.Mathlib.Nat.{mul-le-mul-right}
 use lib.IntN.{pos}
 use mir.Val.{toZ, SFits}
@@ -33,6 +36,10 @@ from-told c = c .before .before
 
 abbrev from-loop : tie.At-loop Inv-loop μ-loop → tie.Start Inv-loop μ-loop
 from-loop c = from-told (c .before .before .before .before .before .before)
+
+-- the values are of binary64
+values-fit : (c : tie.At-loop Inv-loop μ-loop) → (i : ℕ) → T (fits binary64 (getD (from-loop c .args .values .now) i nan))
+values-fit c = c .before .before .before .before .before .before .before .shared-slice-known .given
 
 begin-requires : tie.Need-begin-requires Inv-loop μ-loop
 begin-requires c κs = let s = from-told c in simp (toZ-ofZ (s .fits .base)) (s .pre .0, s .pre .1)
@@ -80,7 +87,7 @@ loop-holds c =
     let s = from-told (n .before .before) in
     let w = simp (toZ-ofZ (first-fits (r .before)), toZ-ofZ (stride-fits (n .before .before))) at (r .reduce-piece .ensures) in
     simp (toZ-ofZ (s .fits .base))
-    (reducing-first (s .args .l) (s .args .base) (s .args .values .now) (s .args .start) (s .args .end) (n .before .begin .result) (n .next-piece .result) (first-taken n) (r .reduce-piece .result) w (start-is (n .before)))
+    (reducing-first (s .args .l) (s .args .base) (s .args .values .now) (s .args .start) (s .args .end) (n .before .begin .result) (n .next-piece .result) (first-taken n) (r .reduce-piece .result) w (n .before .before .before .shared-slice-known .given) (start-is (n .before)))
 
 -- the invariant, over the base itself
 reducing : (c : tie.At-loop Inv-loop μ-loop) → let s = from-loop c in Reducing (s .args .l) (s .args .base) (s .args .values .now) (s .args .start) (s .args .end) (c .loop .acc) (c .loop .c)
@@ -151,7 +158,7 @@ loop-again c =
     let k = n .before .before .before .before .before in
     let s = from-loop k in
     simp (toZ-ofZ (s .fits .base))
-    (reducing-more (s .args .l) (s .args .base) (s .args .values .now) (s .args .start) (s .args .end) (k .loop .c) (n .next-piece2 .result) (next-taken n) (w .reduce-piece2 .result) (next-worked w) (k .loop .acc) (reducing k) (c .before .stable-float-combine .result) (c .before .stable-float-combine .ensures))
+    (reducing-more (s .args .l) (s .args .base) (s .args .values .now) (s .args .start) (s .args .end) (k .loop .c) (n .next-piece2 .result) (next-taken n) (w .reduce-piece2 .result) (next-worked w) (values-fit k) (k .loop .acc) (reducing k) (c .before .stable-float-combine .result) (c .before .stable-float-combine .ensures))
 
 -- ---- a strip
 abbrev strip-loop : tie.Else2 Inv-loop μ-loop → tie.At-loop Inv-loop μ-loop
@@ -194,6 +201,7 @@ reduce-strip-requires c κs =
       omega (arith, a .3, s .pre .3, s .pre .4),
       omega (arith, r .small, r .upto, s .pre .3, s .pre .4),
       runs-inside (s .args .l) (s .pre .0) (s .args .base) (s .pre .1) (s .args .values .now) (s .pre .5) (s .args .end) (s .pre .3) (k .loop .c) (strip-stands e) n (a .0) (a .1) (a .2) (a .3),
+      r .sound,
     )
 
 mul-begin : tie.Need-mul-begin Inv-loop μ-loop
@@ -244,7 +252,7 @@ loop-again-2 c =
     let s = from-loop k in
     let a = ahead e in
     simp (toZ-ofZ (s .fits .base))
-    (reducing-strip (s .args .l) (s .pre .0) (s .args .base) (s .pre .1) (s .args .values .now) (s .pre .5) (s .args .end) (s .pre .3) (k .loop .c) (strip-stands e) (e .before .whole-runs .result) (a .0) (a .1) (a .2) (a .3) (s .args .start) (k .loop .acc) (reducing k) (r .reduce-strip .result) (strip-is r) (c .begin2 .result) (behind c))
+    (reducing-strip (s .args .l) (s .pre .0) (s .args .base) (s .pre .1) (s .args .values .now) (s .pre .5) (s .args .end) (s .pre .3) (k .loop .c) (strip-stands e) (e .before .whole-runs .result) (a .0) (a .1) (a .2) (a .3) (values-fit k) (s .args .start) (k .loop .acc) (reducing k) (r .reduce-strip .result) (strip-is r) (c .begin2 .result) (behind c))
 
 returns : tie.Need-returns Inv-loop μ-loop
 returns c =

@@ -14,7 +14,10 @@ use Rattle.accumulator.specs.Joining.{combined}
 use Rattle.integers.specs.Checked.{eqZ}
 use Rattle.kernels.specs.Pieces.{worked}
 use Rattle.kernels.specs.Strided.{strided, Inside}
+use Rattle.kernels.specs.Stepped.{Sound}
 use Rattle.kernels.proofs.Sizes.{combined-size}
+use Rattle.kernels.proofs.Bounded.{combined-sound, worked-sound}
+use Rattle.rows.proofs.Feds.{strided-values}
 use Rattle.reduction.specs.Ranges.{strip}
 use Rattle.reduction.proofs.Pieces.{strided-near}
 use Rattle.reduction.proofs.Strips.{place-zero, place-next, place-fits, strip-first, strip-next}
@@ -26,6 +29,7 @@ Inv-loop values first step stride len count a₀ at₀ j₀ a at j =
     (j ≤ count)
     × (j < count → toZ w64 at ≡ toZ w64 first +ℤ toZ w64 step *ℤ pos j)
     × (natAbs (a .e) ≤ 2 ^ 60 + 1048576 * (j * len))
+    × Sound a
     × (strip values (toZ w64 step) (toZ w64 stride) len (count - j) (toZ w64 first +ℤ toZ w64 step *ℤ pos j) a ≡ strip values (toZ w64 step) (toZ w64 stride) len count (toZ w64 first) a₀)
 
 abbrev μ-loop : tie.MeasureT-loop
@@ -39,6 +43,7 @@ loop-holds c =
       omega arith,
       λ h. sym (place-zero f d),
       omega (arith, s .pre .3),
+      s .pre .5,
       strip-first (s .args .values .now) d (toZ w64 (ofZ w64 (s .args .stride))) (s .args .len) (s .args .count) f (s .args .acc),
     )
 
@@ -71,15 +76,24 @@ near c =
     let s = c .before .before .before .before in
     subst (λ (a : StableProductFloatAcc). natAbs (a .e) ≤ 1048575 * s .args .len) (sym (run-is c)) (strided-near _ _ _ (s .args .len) (s .pre .0))
 
+run-sound : (c : tie.After-reduce-piece Inv-loop μ-loop) → Sound (c .reduce-piece .result)
+run-sound c =
+    let k = c .before .before .before in
+    let s = k .before in
+    let d = toZ w64 (ofZ w64 (s .args .stride)) in
+    let z = toZ w64 (ofZ w64 (s .args .first)) +ℤ toZ w64 (ofZ w64 (s .args .step)) *ℤ pos (c .before .before .loop .j) in
+    subst Sound (sym (run-is c))
+    (worked-sound (record { inBlocks = eqZ d (pos 1); rates = strided (s .args .values .now) z d (s .args .len) }) (strided-values (s .args .values .now) (k .shared-slice-known .given) z d (s .args .len)))
+
 -- the values so far are at most those of the strip
 so-far : (c : tie.In-loop Inv-loop μ-loop) → c .before .loop .j * c .before .before .before .args .len ≤ 2 ^ 40
 so-far c = let s = c .before .before .before in le-trans (mul-le-mul-right (s .args .len) (c .before .loop .inv .0)) (s .pre .2)
 
-stable-float-combine-requires : tie.Need-stable-float-combine-requires Inv-loop μ-loop
-stable-float-combine-requires c κs =
+combine-units-requires : tie.Need-combine-units-requires Inv-loop μ-loop
+combine-units-requires c κs =
     let t = c .before .before in
     let s = t .before .before in
-    (omega (arith, t .loop .inv .2, so-far (c .before)), omega (arith, near c, s .pre .1))
+    (omega (arith, t .loop .inv .2, so-far (c .before)), omega (arith, near c, s .pre .1), t .loop .inv .3 .in-unit, run-sound c .in-unit)
 
 add-j : tie.Need-add-j Inv-loop μ-loop
 add-j c = omega arith
@@ -99,17 +113,19 @@ add-at c =
     subst (SFits w64) (sym (next c)) (place-fits (length (s .args .values .now)) _ (toZ w64 (ofZ w64 (s .args .stride))) (s .args .len) (inside (c .before .before .before) (t .loop .j + 1) (c .if1 .taken)) (s .pre .0) (omega (arith, s .good .0 .1)))
 
 -- the run is in
-more : (c : tie.After-stable-float-combine Inv-loop μ-loop) → let t = c .before .before .before in let s = t .before .before in
-    (natAbs (c .stable-float-combine .result .e) ≤ 2 ^ 60 + 1048576 * ((t .loop .j + 1) * s .args .len))
-    × (strip (s .args .values .now) (toZ w64 (ofZ w64 (s .args .step))) (toZ w64 (ofZ w64 (s .args .stride))) (s .args .len) (s .args .count - (t .loop .j + 1)) (toZ w64 (ofZ w64 (s .args .first)) +ℤ toZ w64 (ofZ w64 (s .args .step)) *ℤ pos (t .loop .j + 1)) (c .stable-float-combine .result)
+more : (c : tie.After-combine-units Inv-loop μ-loop) → let t = c .before .before .before in let s = t .before .before in
+    (natAbs (c .combine-units .result .e) ≤ 2 ^ 60 + 1048576 * ((t .loop .j + 1) * s .args .len))
+    × Sound (c .combine-units .result)
+    × (strip (s .args .values .now) (toZ w64 (ofZ w64 (s .args .step))) (toZ w64 (ofZ w64 (s .args .stride))) (s .args .len) (s .args .count - (t .loop .j + 1)) (toZ w64 (ofZ w64 (s .args .first)) +ℤ toZ w64 (ofZ w64 (s .args .step)) *ℤ pos (t .loop .j + 1)) (c .combine-units .result)
     ≡ strip (s .args .values .now) (toZ w64 (ofZ w64 (s .args .step))) (toZ w64 (ofZ w64 (s .args .stride))) (s .args .len) (s .args .count) (toZ w64 (ofZ w64 (s .args .first))) (s .args .acc))
 more c =
     let t = c .before .before .before in
     let s = t .before .before in
     let b = c .before .reduce-piece .result in
-    let e = c .stable-float-combine .ensures in (
+    let e = c .combine-units .ensures in (
       subst (λ (a : StableProductFloatAcc). natAbs (a .e) ≤ 2 ^ 60 + 1048576 * ((t .loop .j + 1) * s .args .len)) (sym e) (le-trans (combined-size (t .loop .a) b) (omega (arith, t .loop .inv .2, near (c .before), s .pre .0))),
-      strip-next (s .args .values .now) _ _ (s .args .len) (s .args .count) (t .loop .j) (toZ w64 (ofZ w64 (s .args .first))) (t .loop .a) (c .stable-float-combine .result) (c .before .before .loop-test .taken) (e ∙ ap (combined (t .loop .a)) (run-is (c .before))) ∙ t .loop .inv .3,
+      subst Sound (sym e) (combined-sound (t .loop .a) b (t .loop .inv .3) (run-sound (c .before))),
+      strip-next (s .args .values .now) _ _ (s .args .len) (s .args .count) (t .loop .j) (toZ w64 (ofZ w64 (s .args .first))) (t .loop .a) (c .combine-units .result) (c .before .before .loop-test .taken) (e ∙ ap (combined (t .loop .a)) (run-is (c .before))) ∙ t .loop .inv .4,
     )
 
 loop-less : tie.Need-loop-less Inv-loop μ-loop
@@ -120,14 +136,14 @@ loop-again c =
     let t = c .before .before .before .before in
     let s = t .before .before in
     let m = more (c .before) in
-    (omega arith, λ h. toZ-ofZ w64 (toZ w64 (t .loop .at) +ℤ toZ w64 (ofZ w64 (s .args .step))) (add-at c) ∙ next c, m .0, m .1)
+    (omega arith, λ h. toZ-ofZ w64 (toZ w64 (t .loop .at) +ℤ toZ w64 (ofZ w64 (s .args .step))) (add-at c) ∙ next c, m .0, m .1, m .2)
 
 loop-less-2 : tie.Need-loop-less-2 Inv-loop μ-loop
 loop-less-2 c = omega arith
 
 -- the last run: no further place is formed
 loop-again-2 : tie.Need-loop-again-2 Inv-loop μ-loop
-loop-again-2 c = let m = more (c .before) in (omega arith, λ h. absurd (omega arith), m .0, m .1)
+loop-again-2 c = let m = more (c .before) in (omega arith, λ h. absurd (omega arith), m .0, m .1, m .2)
 
 returns : tie.Need-returns Inv-loop μ-loop
 unfolding strip
@@ -136,7 +152,7 @@ returns c =
     let s = t .before .before in
     let f = toZ w64 (ofZ w64 (s .args .first)) in
     let d = toZ w64 (ofZ w64 (s .args .step)) in
-    let e = sym (ap (λ (n : ℕ). strip (s .args .values .now) d (toZ w64 (ofZ w64 (s .args .stride))) (s .args .len) n (f +ℤ d *ℤ pos (t .loop .j)) (t .loop .a)) (let z : s .args .count - t .loop .j ≡ 0 = omega (arith, c .loop-test .left) in z)) ∙ t .loop .inv .3 in
+    let e = sym (ap (λ (n : ℕ). strip (s .args .values .now) d (toZ w64 (ofZ w64 (s .args .stride))) (s .args .len) n (f +ℤ d *ℤ pos (t .loop .j)) (t .loop .a)) (let z : s .args .count - t .loop .j ≡ 0 = omega (arith, c .loop-test .left) in z)) ∙ t .loop .inv .4 in
     simp (toZ-ofZ w64 (s .args .first) (s .fits .first), toZ-ofZ w64 (s .args .step) (s .fits .step), toZ-ofZ w64 (s .args .stride) (s .fits .stride)) at e
 
 pub reduce-strip-spec : {M : Type 1} → statement M
@@ -147,7 +163,7 @@ reduce-strip-spec =
     μ-loop
     loop-holds
     reduce-piece-requires
-    stable-float-combine-requires
+    combine-units-requires
     add-j
     add-at
     loop-less
