@@ -1,7 +1,8 @@
 //! The benchmark: the engine, linked from the static library `probe`, and the Rust source, in one process.
 //!
-//! `bench table` prints a row for each kind of call, `bench growth` the time against the number of values,
-//! `bench compare COUNT SEED` the answers to random calls, by kind. Each ends with 1 if two answers differ.
+//! `bench table` prints a row for each kind of call, `bench rare` a row for those seldom met, `bench growth` the time
+//! against the number of values, `bench compare COUNT SEED` the answers to random calls, by kind. Each ends with 1 if
+//! two answers differ.
 //!
 //! The Rust is the oracle's, included by its path, so that nothing is copied and both see the same source.
 
@@ -23,6 +24,7 @@ mod compare;
 mod growth;
 mod job;
 mod probe;
+mod rare;
 mod rates;
 mod table;
 mod timing;
@@ -33,7 +35,7 @@ pub use oracle::error::{Result, StridedError};
 use oracle::{erased, generate, inline, rules, simd};
 
 fn usage() -> ! {
-    eprintln!("usage: bench table, bench growth, or bench compare COUNT SEED");
+    eprintln!("usage: bench table, bench rare, bench growth, or bench compare COUNT SEED");
     std::process::exit(2);
 }
 
@@ -42,6 +44,7 @@ fn main() {
     let words: Vec<&str> = args.iter().map(String::as_str).collect();
     let same = match words.as_slice() {
         ["table"] => table::print(),
+        ["rare"] => rare::print(),
         ["growth"] => growth::print(),
         ["compare", count, seed] => match (count.parse(), seed.parse()) {
             (Ok(count), Ok(seed)) => compare::run(count, seed),

@@ -8,7 +8,7 @@ use std::time::Duration;
 const LEAST: Duration = Duration::from_millis(300);
 
 /// Between two rows of a table lies a line of the cache that is not read.
-const GAP: u64 = 8;
+pub const GAP: u64 = 8;
 
 /// A row of so many values is timed beside reading them alone.
 const FROM_MEMORY: u64 = 10_000_000;
@@ -16,7 +16,7 @@ const FROM_MEMORY: u64 = 10_000_000;
 /// Short calls take turns with so many bases.
 const TURNS: i64 = 64;
 
-struct Row {
+pub struct Row {
     name: String,
     rates: &'static str,
     job: Job,
@@ -24,10 +24,14 @@ struct Row {
 
 /// Whether all answers were the same.
 pub fn print() -> bool {
+    print_rows(&[contiguous, stepped, rows_with_gaps, spoiled, calls])
+}
+
+/// Each list of rows is drawn only when the one before it is measured.
+pub fn print_rows(lists: &[fn() -> Vec<Row>]) -> bool {
     println!("| case | rates | Rust | Rust, compiled ahead | engine | engine / Rust |");
     println!("|---|---|---:|---:|---:|---:|");
-    let rows: [fn() -> Vec<Row>; 5] = [contiguous, stepped, rows_with_gaps, spoiled, calls];
-    rows.iter().all(|make| make().iter().all(print_row))
+    lists.iter().all(|make| make().iter().all(print_row))
 }
 
 fn print_row(row: &Row) -> bool {
@@ -54,7 +58,7 @@ fn print_row(row: &Row) -> bool {
 }
 
 /// The whole of a layout, from each of the bases by turns.
-fn row(name: &str, rates: Rates, axes: &[(u64, i64)], bases: &[i64], values: Vec<f64>) -> Row {
+pub fn row(name: &str, rates: Rates, axes: &[(u64, i64)], bases: &[i64], values: Vec<f64>) -> Row {
     let count = axes.iter().map(|axis| axis.0).product();
     Row { name: String::from(name), rates: rates.name(), job: Job::new(axes, count, bases.to_vec(), values) }
 }

@@ -1,0 +1,64 @@
+//! Calls that are seldom met, in a table of their own: where the engine's lanes cannot wait, and where there is more to
+//! do before the first value than for all of them.
+
+use crate::rates::Rates;
+use crate::table::{self, row, Row, GAP};
+
+const COUNT: usize = 100_000;
+const KEEP: Rates = Rates::Keep;
+
+/// Whether all answers were the same.
+pub fn print() -> bool {
+    table::print_rows(&[contiguous, stepped, short_rows, many_axes])
+}
+
+fn run(name: &str, stride: i64, values: Vec<f64>) -> Row {
+    row(name, KEEP, &[(COUNT as u64, stride)], &[0], values)
+}
+
+fn contiguous() -> Vec<Row> {
+    let all = |scale: f64| KEEP.draw(COUNT).into_iter().map(|rate| rate * scale).collect();
+    let one = |other| KEEP.with_one_a_block(COUNT, other);
+    vec![
+        run("contiguous, 1e5, one rate a block a millionth", 1, one(|rate| rate * 1e-6)),
+        run("contiguous, 1e5, all rates a millionth", 1, all(1e-6)),
+        run("contiguous, 1e5, all rates a million times", 1, all(1e6)),
+        run("contiguous, 1e5, all rates below 2^-120", 1, all(2f64.powi(-130))),
+    ]
+}
+
+/// Half of the values are read, so that every second block has its other rate.
+fn stepped() -> Vec<Row> {
+    let one = |other| KEEP.with_one_a_block(2 * COUNT, other);
+    let mut last_zero = KEEP.draw(2 * COUNT);
+    last_zero[2 * COUNT - 2] = 0.0;
+    vec![
+        run("stride 2, 1e5, a rate a millionth in some blocks", 2, one(|rate| rate * 1e-6)),
+        run("stride 2, 1e5, a rate below 2^-120 in some blocks", 2, one(|rate| rate * 2f64.powi(-130))),
+        run("stride 2, 1e5, a zero in some blocks", 2, one(|_| 0.0)),
+        run("stride 2, 1e5, the last value a zero", 2, last_zero),
+    ]
+}
+
+fn short_rows() -> Vec<Row> {
+    let with = |length: u64, name: &str, values: fn(usize) -> Vec<f64>| {
+        let (rows, pitch) = (COUNT as u64 / length, length + GAP);
+        let axes = [(rows, pitch as i64), (length, 1)];
+        row(&format!("rows of {length} with a gap, 1e5{name}"), KEEP, &axes, &[0], values((rows * pitch) as usize))
+    };
+    vec![
+        with(2, "", |count| KEEP.draw(count)),
+        with(4, "", |count| KEEP.draw(count)),
+        with(16, ", one rate in 64 a millionth", |count| KEEP.with_one_a_block(count, |rate| rate * 1e-6)),
+        with(100, "", |count| KEEP.draw(count)),
+    ]
+}
+
+/// No two of the axes fuse.
+fn many_axes() -> Vec<Row> {
+    let call = |count: u32| {
+        let axes: Vec<(u64, i64)> = (0..count).rev().map(|axis| (2, 3i64.pow(axis))).collect();
+        row(&format!("a call of 2^{count} values, {count} axes of size 2"), KEEP, &axes, &[0], KEEP.draw(3usize.pow(count)))
+    };
+    vec![call(2), call(4), call(8)]
+}
