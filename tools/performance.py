@@ -1,0 +1,93 @@
+#!/usr/bin/env python3
+"""Puts measured figures into docs/PERFORMANCE.md, each between the lines `<!-- NAME -->` and `<!-- /NAME -->`.
+
+    bench/run > build/table.txt && bench/run rare > build/rare.txt && bench/run growth > build/growth.txt &&
+        python3 tools/growth.py build/growth.txt docs/growth.svg && python3 tools/performance.py
+
+It reads those three files and what tools/stack_frames.py says of the static library.
+"""
+
+import re
+import subprocess
+import sys
+from pathlib import Path
+
+import growth
+
+ROOT = Path(__file__).resolve().parent.parent
+PAGE = ROOT / "docs/PERFORMANCE.md"
+
+# The ratios of the plain form, which worked value by value: 2026-11-15, in the order of the table's rows.
+BEFORE = [
+    *(2.11, 0.93),
+    *(2.87, 1.78, 2.92, 1.56, 3.70),
+    *(3.59, 3.34, 3.80, 3.71, 2.13, 2.16, 2.11, 1.72),
+    *(8.59, 8.61),
+    *(2.38, 1.88, 2.57),
+]
+
+
+def built(name):
+    return (ROOT / "build" / name).read_text(encoding="utf-8").strip()
+
+
+def cells(table):
+    """The rows of a table with a ratio in the last column."""
+    rows = [[cell.strip() for cell in line.strip("|").split("|")] for line in table.splitlines() if line.startswith("| ")]
+    return [row for row in rows[1:] if row[-1]]
+
+
+def before(table):
+    rows = cells(table)
+    if len(rows) != len(BEFORE):
+        raise ValueError(f"the table has {len(rows)} rows with a ratio, and {len(BEFORE)} are known from before")
+    out = ["| case | rates | before | now |", "|---|---|---:|---:|"]
+    out += [f"| {row[0]} | {row[1]} | {ratio:.2f} | {float(row[-1]):.2f} |" for row, ratio in zip(rows, BEFORE)]
+    return "\n".join(out)
+
+
+def power(n):
+    return n >= 1 and float(f"1e{len(str(int(n))) - 1}") == n
+
+
+def grown(lines):
+    """Nanoseconds a call at the powers of ten."""
+    heading, kinds = growth.read(lines)
+    out = [f"{heading}. Nanoseconds a call, the Rust / the engine.", ""]
+    out += ["| values | " + " | ".join(name for name, _ in kinds) + " |", "|---:|" + "---:|" * len(kinds)]
+    for points in zip(*(points for _, points in kinds)):
+        n = points[0][0]
+        if power(n):
+            pairs = [f"{rust * n:,.0f} / {engine * n:,.0f}" for _, rust, engine in points]
+            out.append(f"| {n:,.0f} | " + " | ".join(pairs) + " |")
+    return "\n".join(out)
+
+
+def stack():
+    command = [sys.executable, "tools/stack_frames.py"]
+    return subprocess.run(command, cwd=ROOT, check=True, capture_output=True, text=True).stdout.strip()
+
+
+def put(page, name, figures):
+    place = re.compile(rf"(<!-- {name} -->\n).*?(<!-- /{name} -->)", re.DOTALL)
+    page, count = place.subn(lambda match: f"{match[1]}\n{figures}\n\n{match[2]}", page)
+    if count != 1:
+        raise ValueError(f"{PAGE.name} has {count} places for '{name}'")
+    return page
+
+
+def main():
+    try:
+        table = built("table.txt")
+        figures = {"table": table, "before": before(table), "rare": built("rare.txt")}
+        figures |= {"growth": grown(built("growth.txt").splitlines()), "stack": stack()}
+        page = PAGE.read_text(encoding="utf-8")
+        for name, text in figures.items():
+            page = put(page, name, text)
+        PAGE.write_text(page, encoding="utf-8")
+    except (OSError, ValueError, subprocess.CalledProcessError) as error:
+        sys.exit(f"performance.py: {error}")
+
+
+if __name__ == "__main__":
+    main()
