@@ -33,8 +33,9 @@ def built(name):
 
 def cells(table):
     """The rows of a table with a ratio in the last column."""
-    rows = [[cell.strip() for cell in line.strip("|").split("|")] for line in table.splitlines() if line.startswith("| ")]
-    return [row for row in rows[1:] if row[-1]]
+    lines = [line.strip("|").split("|") for line in table.splitlines() if line.startswith("| ")]
+    rows = [[cell.strip() for cell in line] for line in lines[1:]]
+    return [row for row in rows if row[-1]]
 
 
 def before(table):

@@ -27,7 +27,7 @@ fn contiguous() -> Vec<Row> {
     ]
 }
 
-/// Half of the values are read, so that every second block has its other rate.
+/// Every second value is read, so that about half of the blocks have their other rate.
 fn stepped() -> Vec<Row> {
     let one = |other| KEEP.with_one_a_block(2 * COUNT, other);
     let mut last_zero = KEEP.draw(2 * COUNT);
@@ -58,7 +58,8 @@ fn short_rows() -> Vec<Row> {
 fn many_axes() -> Vec<Row> {
     let call = |count: u32| {
         let axes: Vec<(u64, i64)> = (0..count).rev().map(|axis| (2, 3i64.pow(axis))).collect();
-        row(&format!("a call of 2^{count} values, {count} axes of size 2"), KEEP, &axes, &[0], KEEP.draw(3usize.pow(count)))
+        let name = format!("a call of 2^{count} values, {count} axes of size 2");
+        row(&name, KEEP, &axes, &[0], KEEP.draw(3usize.pow(count)))
     };
     vec![call(2), call(4), call(8)]
 }
