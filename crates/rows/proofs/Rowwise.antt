@@ -1,17 +1,17 @@
 -- Values a stride apart, and what the loops over a row keep. Assumes nothing.
 use Prim.Native.Nat.{ℕ, zero, suc, _+_, _^_, _≤_, _<_}
 use mathlib.Core.Path.{_≡_, refl, sym, ap, _∙_}
-use mathlib.Core.Bool.{Bool, true, false, cond, _&&_}
+use mathlib.Core.Bool.{Bool, true, false, not, cond, _&&_}
 use mathlib.Core.List.{List, [], _∷_, _++_}
 use native.Mathlib.Nat.{zero-add, mod-eq-of-lt}
 use native.Mathlib.Numerals.{add-one}
 use native.Mathlib.Omega.{arith}
 use lib.ListN.{length, getD, set, drop, drop-of-length-le}
 use lib.Seq.{drop-cons}
-use lib.IntN.{ℤ, pos, negsuc, natAbs, _+ℤ_, _*ℤ_}
+use lib.IntN.{ℤ, pos, natAbs, _+ℤ_, _*ℤ_}
 use lib.Dec.{T}
 use lib.Signed.{nonNeg, _≤ℤ_, _<ℤ_}
-use lib.Ieee.{Float, nan, fin, lt, le, neg, mul, binary64, ofBits}
+use lib.Ieee.{Float, nan, lt, le, neg, mul, binary64, ofBits}
 use mir.Val.{SFits}
 use mir.Syntax.{w64}
 use Rattle.integers.proofs.Difference.{ints, atoms}
@@ -24,7 +24,7 @@ use Rattle.kernels.specs.Strided.{strided, Inside}
 use Rattle.kernels.proofs.Feeding.{feed-append, feed-more, feed-all}
 use Rattle.kernels.proofs.Striding.{length-strided, first-natural, first-below}
 use Rattle.rows.specs.declared.row.Waiting.{Waiting}
-use Rattle.rows.specs.Waiting.{rowOf, put, lesser, waitStep, LEAST, MOST, notBelow, notPast, guarded, square, inBand}
+use Rattle.rows.specs.Waiting.{rowOf, put, lesser, waitStep, LEAST, MOST, notBelow, notPast, guarded, square, squareAt, leastSquare, notLow}
 
 -- ---- places
 pub place-first : (s t : ℤ) → s ≡ s +ℤ t *ℤ pos 0
@@ -92,6 +92,18 @@ lesser-first x y h = sym (ap (λ (t : Bool). cond t x y) h)
 pub lesser-second : (x y : Float) → lt x y ≡ false → y ≡ lesser x y
 lesser-second x y h = sym (ap (λ (t : Bool). cond t x y) h)
 
+pub lesser-squares : (x y r : Float) → r ≡ lesser (mul binary64 x x) (mul binary64 y y) → r ≡ lesser (square x) (square y)
+lesser-squares x y r e = e ∙ ap (λ (z : Float). lesser z (mul binary64 y y)) (mul-binary64 x x) ∙ ap (lesser (square x)) (mul-binary64 y y)
+
+-- two and two of a row
+pub least-tree : (row : List Float) (a b c d p q r : Float) → a ≡ lesser (squareAt row 0) (squareAt row 4) → b ≡ lesser (squareAt row 1) (squareAt row 5) → c ≡ lesser (squareAt row 2) (squareAt row 6)
+    → d ≡ lesser (squareAt row 3) (squareAt row 7) → p ≡ lesser a c → q ≡ lesser b d → r ≡ lesser p q → r ≡ leastSquare row
+unfolding leastSquare
+least-tree row a b c d p q r A B C D P Q R =
+    R
+    ∙ ap (λ (z : Float). lesser z q) (P ∙ ap (λ (z : Float). lesser z c) A ∙ ap (lesser (lesser (squareAt row 0) (squareAt row 4))) C)
+    ∙ ap (lesser (lesser (lesser (squareAt row 0) (squareAt row 4)) (lesser (squareAt row 2) (squareAt row 6)))) (Q ∙ ap (λ (z : Float). lesser z d) B ∙ ap (lesser (lesser (squareAt row 1) (squareAt row 5))) D)
+
 -- the constants of the code
 least-is : ofBits binary64 4476578029606273024 ≡ LEAST
 unfolding ofBits
@@ -103,20 +115,6 @@ most-is = refl
 
 pub below-test : (x : Float) → le (ofBits binary64 4476578029606273024) x ≡ notBelow x
 below-test x = ap (λ (l : Float). le l x) least-is
-
-band-low : ofBits binary64 3530822107858468864 ≡ fin false 1 (negsuc 238)
-unfolding ofBits
-band-low = refl
-
-band-high : ofBits binary64 5683542729741565952 ≡ fin false 1 (pos 239)
-unfolding ofBits
-band-high = refl
-
-pub band-test : (x : Float) → (le (ofBits binary64 3530822107858468864) (mul binary64 x x) && le (mul binary64 x x) (ofBits binary64 5683542729741565952)) ≡ inBand x
-band-test x =
-    ap (λ (l : Float). le l (mul binary64 x x) && le (mul binary64 x x) (ofBits binary64 5683542729741565952)) band-low
-    ∙ ap (λ (h : Float). le (fin false 1 (negsuc 238)) (mul binary64 x x) && le (mul binary64 x x) h) band-high
-    ∙ ap (λ (y : Float). le (fin false 1 (negsuc 238)) y && le y (fin false 1 (pos 239))) (mul-binary64 x x)
 
 pub past-test : (x : Float) → (le x (ofBits binary64 9110782046170513408) && le (neg (ofBits binary64 9110782046170513408)) x) ≡ notPast x
 past-test x = ap (λ (h : Float). le x h && le (neg h) x) most-is
@@ -176,11 +174,11 @@ row-more xs s t k v place p e =
     x = getD xs (natAbs (s +ℤ t *ℤ pos k)) nan
 
 -- ---- a row by its test
-module _ (s : Lanes) (row : List Float) where
-  pub guarded-inside : every inBand row ≡ true → feed unsplitStep 0 s row ≡ guarded s row
+module _ (all : Bool) (s : Lanes) (row : List Float) where
+  pub guarded-inside : (not all && notLow row) ≡ true → feed unsplitStep 0 s row ≡ guarded all s row
   unfolding guarded
   guarded-inside h = sym (ap (λ (t : Bool). cond t (feed unsplitStep 0 s row) (feed splitStep 0 s row)) h)
 
-  pub guarded-outside : every inBand row ≡ false → feed splitStep 0 s row ≡ guarded s row
+  pub guarded-outside : (not all && notLow row) ≡ false → feed splitStep 0 s row ≡ guarded all s row
   unfolding guarded
   guarded-outside h = sym (ap (λ (t : Bool). cond t (feed unsplitStep 0 s row) (feed splitStep 0 s row)) h)

@@ -1,11 +1,10 @@
 -- What the square of a value says of its size. Assumes nothing.
-use Prim.Native.Nat.{ℕ, suc, _+_, _*_, _^_, _≤_, _<_}
-use mathlib.Core.Path.{_≡_, refl, sym, ap, _∙_, subst}
-use mathlib.Core.Bool.{Bool, true, false, not, cond, _&&_, true≢false}
+use Prim.Native.Nat.{ℕ, _*_, _^_, _≤_, _<_}
+use mathlib.Core.Path.{_≡_, refl, sym, _∙_, subst}
+use mathlib.Core.Bool.{Bool, true, false, not, true≢false}
 use mathlib.Core.Logic.{_⊎_, inl, inr}
-use native.Mathlib.Nat.{le-refl, le-trans, le-of-eq, le-of-lt, mul-le-mul, mul-mul-mul-comm, one-mul, mul-one, mul-pos}
-use native.Mathlib.Omega.{arith}
-use lib.IntN.{ℤ, pos, negsuc}
+use native.Mathlib.Nat.{le-refl, le-trans, le-of-eq, le-of-lt, mul-le-mul, mul-mul-mul-comm, one-mul, mul-pos}
+use lib.IntN.{ℤ, negsuc}
 use lib.Signed.{leZ}
 use lib.Dec.{T, leb, lit≤, lit<}
 use lib.Ieee.{Float, nan, inf, fin, binary64, up, down, size, units, odd, round, mul, unlike, fits, isNan, le}
@@ -13,19 +12,16 @@ use lib.Ieee.Fits.{down-pos}
 use lib.Ieee.Order.{round-mono}
 use lib.Ieee.Positive.{positive, between, le-trans-positive}
 use borrow.Author.Tests.{leb-false}
-use Rattle.binary64.specs.Product.{product, productOf}
 use Rattle.binary64.specs.Splitting.{isBad, rate}
 use Rattle.binary64.proofs.Product.{mul-binary64}
 use Rattle.binary64.proofs.Overflow.{isLost}
-use Rattle.kernels.specs.Blocks.{within, inBounds}
-use Rattle.kernels.proofs.Feeding.{and-both}
 use Rattle.kernels.proofs.Least.{reaching-good, reaching-exponent}
-use Rattle.rows.specs.Waiting.{square, LEAST, notBelow, inBand}
+use Rattle.rows.specs.Waiting.{square, LEAST, notBelow}
 
 truly : {b : Bool} → b ≡ true → T b
 truly e = subst T (sym e) tt
 
--- x × x of ±a / c, by bounds p on the way to 1 / p and p / 1
+-- x × x of ±a / c, by a bound 1 / p
 module _ (s : Bool) (m : ℕ) (e : ℤ) where
   abbrev a : ℕ
   a = m * up e
@@ -46,12 +42,6 @@ module _ (s : Bool) (m : ℕ) (e : ℤ) where
       subst (λ (y : Float). T (le y (round binary64 false 1 (p * p)))) (sym square-is)
       (round-mono binary64 (a * a) (c * c) 1 (p * p) (mul-pos (down-pos e) (down-pos e)) (mul-pos P P)
       (le-trans (le-of-eq (mul-mul-mul-comm a a p p)) (le-trans (mul-le-mul h h) (le-of-eq (sym (one-mul (c * c)))))))
-
-  large : (p : ℕ) → p * c ≤ a → T (le (round binary64 false (p * p) 1) (square (fin s m e)))
-  large p h =
-      subst (λ (y : Float). T (le (round binary64 false (p * p) 1) y)) (sym square-is)
-      (round-mono binary64 (p * p) 1 (a * a) (c * c) (lit< tt) (mul-pos (down-pos e) (down-pos e))
-      (le-trans (le-of-eq (mul-mul-mul-comm p p c c)) (le-trans (mul-le-mul h h) (le-of-eq (sym (mul-one (a * a)))))))
 
   ordered : T (le (square (fin s m e)) (square (fin s m e)))
   ordered =
@@ -98,51 +88,3 @@ square-nan (fin s m e) h = absurd (no (square (fin s m e)) h (ordered s m e))
     no nan h t = t
     no (inf u) h t = true≢false (sym h)
     no (fin u n d) h t = true≢false (sym h)
-
--- ---- a square from 2^-239 to 2^239: a magnitude in the bounds of a block
-low-240 : round binary64 false 1 (2 ^ 120 * 2 ^ 120) ≡ fin false 1 (negsuc 239)
-unfolding round size units odd
-low-240 = refl
-
-high-240 : round binary64 false (2 ^ 120 * 2 ^ 120) 1 ≡ fin false 1 (pos 240)
-unfolding round size units odd
-high-240 = refl
-
-low-less : T (not (le (fin false 1 (negsuc 238)) (fin false 1 (negsuc 239))))
-unfolding le
-low-less = tt
-
-high-less : T (not (le (fin false 1 (pos 240)) (fin false 1 (pos 239))))
-unfolding le
-high-less = tt
-
-pub square-band : (x : Float) → inBand x ≡ true → inBounds x ≡ true
-unfolding within le product
-square-band nan h = h
-square-band (inf s) h = absurd (true≢false (sym (infinite s h)))
-  where
-    infinite : (s : Bool) → inBand (inf s) ≡ true → false ≡ true
-    infinite true k = k
-    infinite false k = k
-square-band (fin s m e) h = both (leb (down e) (m * up e * 2 ^ 120)) (leb (m * up e) (2 ^ 120 * down e)) refl refl
-  where
-    from : T (le (fin false 1 (negsuc 238)) (square (fin s m e)))
-    from = truly (and-both (le (fin false 1 (negsuc 238)) (square (fin s m e))) (le (square (fin s m e)) (fin false 1 (pos 239))) h .0)
-
-    upto : T (le (square (fin s m e)) (fin false 1 (pos 239)))
-    upto = truly (and-both (le (fin false 1 (negsuc 238)) (square (fin s m e))) (le (square (fin s m e)) (fin false 1 (pos 239))) h .1)
-
-    too-small : m * up e * 2 ^ 120 < down e → ⊥
-    too-small l =
-        apart (fin false 1 (negsuc 238)) (square (fin s m e)) (fin false 1 (negsuc 239)) tt tt from
-        (subst (λ (z : Float). T (le (square (fin s m e)) z)) low-240 (small s m e (2 ^ 120) (lit< tt) (le-of-lt l))) low-less
-
-    too-large : 2 ^ 120 * down e < m * up e → ⊥
-    too-large l =
-        apart (fin false 1 (pos 240)) (square (fin s m e)) (fin false 1 (pos 239)) tt tt
-        (subst (λ (z : Float). T (le z (square (fin s m e)))) high-240 (large s m e (2 ^ 120) (le-of-lt l))) upto high-less
-
-    both : (b d : Bool) → leb (down e) (m * up e * 2 ^ 120) ≡ b → leb (m * up e) (2 ^ 120 * down e) ≡ d → (leb (down e) (m * up e * 2 ^ 120) && leb (m * up e) (2 ^ 120 * down e)) ≡ true
-    both false d p q = absurd (too-small (leb-false (down e) (m * up e * 2 ^ 120) p))
-    both true false p q = absurd (too-large (leb-false (m * up e) (2 ^ 120 * down e) q))
-    both true true p q = ap (λ (b : Bool). b && leb (m * up e) (2 ^ 120 * down e)) p ∙ q

@@ -1,7 +1,7 @@
 -- The steps of a piece: rows that are guarded, rows that waited, and one step after another. Assumes nothing.
 use Prim.Native.Nat.{ℕ, zero, suc, _+_, _-_, _*_, _/_, _%_, _^_, _≤_, _<_, min}
 use mathlib.Core.Path.{_≡_, refl, sym, ap, _∙_, subst}
-use mathlib.Core.Bool.{Bool, true, false}
+use mathlib.Core.Bool.{Bool, true, false, _||_}
 use mathlib.Core.List.{List, [], _++_, map}
 use mathlib.Core.Logic.{_⊎_, inl, inr}
 use native.Mathlib.Nat.{le-refl, le-of-lt}
@@ -12,7 +12,7 @@ use lib.Dec.{T, ltb, lit≤}
 use lib.Ieee.{Float, nan, binary64, fits}
 use borrow.Author.Tests.{ltb-true, ltb-false}
 use Rattle.kernels.specs.declared.blocks.Lanes.{Lanes}
-use Rattle.kernels.specs.Lanes.{Each, feed}
+use Rattle.kernels.specs.Lanes.{Each, every, feed}
 use Rattle.kernels.specs.Plain.{laneTimes}
 use Rattle.kernels.specs.Strided.{strided}
 use Rattle.kernels.specs.Blocks.{startLanes, renorm, SmallLanes}
@@ -21,25 +21,25 @@ use Rattle.kernels.specs.Standing.{Fed}
 use Rattle.kernels.proofs.Striding.{length-strided}
 use Rattle.kernels.proofs.LaneSizes.{lanes-le}
 use Rattle.kernels.proofs.Blocking.{Value, renorm-held, renorm-mark}
-use Rattle.rows.specs.Waiting.{rowOf, padded, guarded}
+use Rattle.rows.specs.Waiting.{rowOf, padded, notPast, guarded}
 use Rattle.rows.specs.Steps.{Stepped, Progress, holdAfter}
 use Rattle.rows.proofs.Rowwise.{strided-append}
 use Rattle.rows.proofs.Rows.{row-padded, row-whole, row-long, rest-padded}
-use Rattle.rows.proofs.Guarding.{Rowed, rowed-none, rowed-more, rowed-fed}
+use Rattle.rows.proofs.Mixed.{Mixed, mixed-none, mixed-more, mixed-fed}
 use Rattle.rows.proofs.Feds.{fed-append, fed-pad, fed-none, strided-values}
 use Rattle.rows.proofs.Shorts.{padded-values}
 
 -- ---- rows of a piece of n values, the last with 1.0 after its values
-pub record Rows (N : ℕ) (s : Lanes) (xs : List Float) (b d : ℤ) (n i : ℕ) (t : Lanes) : Type 0 where
+pub record Rows (all : Bool) (N : ℕ) (s : Lanes) (xs : List Float) (b d : ℤ) (n i : ℕ) (t : Lanes) : Type 0 where
   pub long : length (t .m) ≡ 8
   pub small : SmallLanes (N + 8192 * i) t
-  pub whole : 8 * i ≤ n → Rowed N s (strided xs b d (8 * i)) i t
-  pub last : n < 8 * i → Rowed N s (padded (strided xs b d n)) i t
+  pub whole : 8 * i ≤ n → Mixed all N s (strided xs b d (8 * i)) i t
+  pub last : n < 8 * i → Mixed all N s (padded (strided xs b d n)) i t
 
-module _ (N : ℕ) (s : Lanes) (xs : List Float) (b d : ℤ) (n : ℕ) where
-  pub rows-none : length (s .m) ≡ 8 → SmallLanes N s → Rows N s xs b d n 0 s
+module _ (all : Bool) (N : ℕ) (s : Lanes) (xs : List Float) (b d : ℤ) (n : ℕ) where
+  pub rows-none : length (s .m) ≡ 8 → SmallLanes N s → Rows all N s xs b d n 0 s
   unfolding strided
-  rows-none l h = record { long = l; small = rowed-none N s l h .small; whole = λ z. rowed-none N s l h; last = λ z. absurd (omega arith) }
+  rows-none l h = record { long = l; small = mixed-none all N s l h .small; whole = λ z. mixed-none all N s l h; last = λ z. absurd (omega arith) }
 
   row-values : ((i : ℕ) → T (fits binary64 (getD xs i nan))) → (k i : ℕ) → k ≤ 8 → Each Value (rowOf (strided xs (b +ℤ d *ℤ pos (8 * i)) d k))
   row-values v k i h =
@@ -47,12 +47,12 @@ module _ (N : ℕ) (s : Lanes) (xs : List Float) (b d : ℤ) (n : ℕ) where
       let l = length-strided xs (b +ℤ d *ℤ pos (8 * i)) d k in
       subst (Each Value) (sym (row-padded ys (subst (λ (m : ℕ). m ≤ 8) (sym l) h))) (padded-values ys (8 - length ys) (strided-values xs v (b +ℤ d *ℤ pos (8 * i)) d k))
 
-  module _ (v : (i : ℕ) → T (fits binary64 (getD xs i nan))) (i : ℕ) (t u : Lanes) (R : Rows N s xs b d n i t) (few : i < 8) (more-left : 8 * i < n) (g : u ≡ guarded t (rowOf (strided xs (b +ℤ d *ℤ pos (8 * i)) d (min 8 (n - 8 * i))))) where
-    before : Rowed N s (strided xs b d (8 * i)) i t
+  module _ (v : (i : ℕ) → T (fits binary64 (getD xs i nan))) (i : ℕ) (t u : Lanes) (R : Rows all N s xs b d n i t) (few : i < 8) (more-left : 8 * i < n) (g : u ≡ guarded all t (rowOf (strided xs (b +ℤ d *ℤ pos (8 * i)) d (min 8 (n - 8 * i))))) where
+    before : Mixed all N s (strided xs b d (8 * i)) i t
     before = R .whole (le-of-lt more-left)
 
-    joined : Rowed N s (strided xs b d (8 * i) ++ rowOf (strided xs (b +ℤ d *ℤ pos (8 * i)) d (min 8 (n - 8 * i)))) (suc i) u
-    joined = rowed-more N s (strided xs b d (8 * i)) i t u (rowOf (strided xs (b +ℤ d *ℤ pos (8 * i)) d (min 8 (n - 8 * i)))) before few (row-long _) (row-values v (min 8 (n - 8 * i)) i (omega arith)) g
+    joined : Mixed all N s (strided xs b d (8 * i) ++ rowOf (strided xs (b +ℤ d *ℤ pos (8 * i)) d (min 8 (n - 8 * i)))) (suc i) u
+    joined = mixed-more all N s (strided xs b d (8 * i)) i t u (rowOf (strided xs (b +ℤ d *ℤ pos (8 * i)) d (min 8 (n - 8 * i)))) before few (row-long _) (row-values v (min 8 (n - 8 * i)) i (omega arith)) g
 
     full : 8 * suc i ≤ n → strided xs b d (8 * i) ++ rowOf (strided xs (b +ℤ d *ℤ pos (8 * i)) d (min 8 (n - 8 * i))) ≡ strided xs b d (8 * suc i)
     full h =
@@ -70,20 +70,20 @@ module _ (N : ℕ) (s : Lanes) (xs : List Float) (b d : ℤ) (n : ℕ) where
         not-whole : 0 < n % 8 → n % 8 ≡ 0 → ⊥
         not-whole a z = omega arith
 
-    pub rows-next : Rows N s xs b d n (suc i) u
-    rows-next = record { long = joined .long; small = joined .small; whole = λ h. subst (λ (l : List Float). Rowed N s l (suc i) u) (full h) joined; last = λ h. subst (λ (l : List Float). Rowed N s l (suc i) u) (rest h) joined }
+    pub rows-next : Rows all N s xs b d n (suc i) u
+    rows-next = record { long = joined .long; small = joined .small; whole = λ h. subst (λ (l : List Float). Mixed all N s l (suc i) u) (full h) joined; last = λ h. subst (λ (l : List Float). Mixed all N s l (suc i) u) (rest h) joined }
 
-  pub rows-fed : N ≤ 2 ^ 58 → (i : ℕ) (t : Lanes) → Rows N s xs b d n i t → i ≤ 8 → n ≤ 8 * i → 8 * i < n + 8 → Stepped s (strided xs b d n) t
-  rows-fed room i t R few up down = go (ltb n (8 * i)) refl
+  pub rows-fed : N ≤ 2 ^ 58 → (i : ℕ) (t : Lanes) → Rows all N s xs b d n i t → i ≤ 8 → n ≤ 8 * i → 8 * i < n + 8 → (all || every notPast (t .m)) ≡ true → Stepped s (strided xs b d n) t
+  rows-fed room i t R few up down ok = go (ltb n (8 * i)) refl
     where
       go : (c : Bool) → ltb n (8 * i) ≡ c → Stepped s (strided xs b d n) t
       go true e =
           let r = R .last (ltb-true n (8 * i) e) in
-          record { fed = fed-pad s (renorm t) (strided xs b d n) (7 - (length (strided xs b d n) + 7) % 8) (rowed-fed N s (padded (strided xs b d n)) i t (renorm t) r few refl); small = lanes-le (N + 8192 * i) (2 ^ 59) t (omega arith) (R .small) }
+          record { fed = fed-pad s (renorm t) (strided xs b d n) (7 - (length (strided xs b d n) + 7) % 8) (mixed-fed all N s (padded (strided xs b d n)) i t r few ok); small = lanes-le (N + 8192 * i) (2 ^ 59) t (omega arith) (R .small) }
       go false e =
           let same : 8 * i ≡ n = (let a = ltb-false n (8 * i) e in omega arith) in
           let r = R .whole (ltb-false n (8 * i) e) in
-          record { fed = subst (λ (k : ℕ). Fed s (strided xs b d k) (renorm t)) same (rowed-fed N s (strided xs b d (8 * i)) i t (renorm t) r few refl); small = lanes-le (N + 8192 * i) (2 ^ 59) t (omega arith) (R .small) }
+          record { fed = subst (λ (k : ℕ). Fed s (strided xs b d k) (renorm t)) same (mixed-fed all N s (strided xs b d (8 * i)) i t r few ok); small = lanes-le (N + 8192 * i) (2 ^ 59) t (omega arith) (R .small) }
 
 -- ---- one step after another: i values are whole rows
 pub fed-step : (xs : List Float) (b d : ℤ) (i n : ℕ) (s r : Lanes) → i % 8 ≡ 0 → Fed startLanes (strided xs b d i) s → Fed s (strided xs (b +ℤ d *ℤ pos i) d n) r → Fed startLanes (strided xs b d (i + n)) r

@@ -80,7 +80,7 @@ pub record Guarded (x : Float) : Type 0 where
   pub from : (notBelow (square x) ≡ true) ⊎ (isNan (square x) ≡ true)
 
 -- a NaN and an infinity are lost; any other is a rate that waits
-guard-cases : (x : Float) → Guarded x → (Rate x × Waits 15 x (pos 0) (rate x)) ⊎ (isLost x ≡ true)
+pub guard-cases : (x : Float) → Guarded x → (Rate x × Waits 15 x (pos 0) (rate x)) ⊎ (isLost x ≡ true)
 guard-cases x g = go (g .from)
   where
     good : (isLost x ≡ true) ⊎ ((isBad x ≡ false) × (leZ (negsuc 14) (rate x .exp) ≡ true)) → (Rate x × Waits 15 x (pos 0) (rate x)) ⊎ (isLost x ≡ true)

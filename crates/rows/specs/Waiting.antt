@@ -1,6 +1,6 @@
 -- Lanes that wait: values are multiplied in unsplit, eight at a time, and a test at the end says whether the lanes are what split values give. Definitions only.
 use Prim.Native.Nat.{ℕ, _+_, _-_, _%_}
-use mathlib.Core.Bool.{Bool, true, false, cond, _&&_}
+use mathlib.Core.Bool.{Bool, false, not, cond, _&&_}
 use mathlib.Core.List.{List, _++_}
 use lib.ListN.{length, getD, set, replicate}
 use lib.IntN.{ℤ, pos, negsuc, _+ℤ_}
@@ -9,7 +9,7 @@ use Rattle.binary64.specs.Product.{productOf}
 use Rattle.binary64.specs.Splitting.{split}
 use Rattle.accumulator.specs.declared.StableProductFloatAcc.{StableProductFloatAcc}
 use Rattle.kernels.specs.declared.blocks.Lanes.{Lanes}
-use Rattle.kernels.specs.Lanes.{feed, laneOf, inOrder, every}
+use Rattle.kernels.specs.Lanes.{feed, laneOf, inOrder}
 use Rattle.kernels.specs.Blocks.{eOf, unsplitStep, splitStep}
 use Rattle.rows.specs.declared.row.Waiting.{Waiting}
 
@@ -59,13 +59,23 @@ chained ms = inOrder (λ (k : ℕ) (p : Float). productOf 11 52 p (getD ms k nan
 unfoldable pub exponentsOf : Lanes → ℤ
 exponentsOf s = inOrder (λ (k : ℕ) (e : ℤ). e +ℤ eOf s k) 8 (pos 0)
 
--- a value whose square lies in 2^-239 to 2^239: its magnitude lies in the bounds of a block
-abbrev pub inBand : Float → Bool
-inBand x = le (fin false 1 (negsuc 238)) (square x) && le (square x) (fin false 1 (pos 239))
+-- the square of value k of a row
+abbrev pub squareAt : List Float → ℕ → Float
+squareAt row k = square (getD row k nan)
 
--- a row multiplied unsplit if every value of it lies there, else split
-unfoldable pub guarded : Lanes → List Float → Lanes
-guarded s row = cond (every inBand row) (feed unsplitStep 0 s row) (feed splitStep 0 s row)
+-- the least square of a row of eight, lane beside lane
+unfoldable pub leastSquare : List Float → Float
+leastSquare row =
+    lesser
+    (lesser (lesser (squareAt row 0) (squareAt row 4)) (lesser (squareAt row 2) (squareAt row 6)))
+    (lesser (lesser (squareAt row 1) (squareAt row 5)) (lesser (squareAt row 3) (squareAt row 7)))
+
+abbrev pub notLow : List Float → Bool
+notLow row = notBelow (leastSquare row)
+
+-- a row multiplied unsplit if that is not below 2^-29 and not all are split, else split
+unfoldable pub guarded : Bool → Lanes → List Float → Lanes
+guarded all s row = cond (not all && notLow row) (feed unsplitStep 0 s row) (feed splitStep 0 s row)
 
 -- the lanes multiplied in lane order and brought back to [1, 2), with their exponents and their mark
 unfoldable pub lanesProduct : Lanes → StableProductFloatAcc

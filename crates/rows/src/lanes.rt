@@ -1,14 +1,15 @@
 // The lanes of a piece, many rows at a time.
 ghost use mathlib.Core.Path.{_≡_};
 ghost use mathlib.Core.Logic.{_⊎_};
+ghost use mathlib.Core.Bool.{_||_, true};
 ghost use Prim.Native.Nat.{_+_, _*_, _^_, _≤_, min};
 ghost use lib.ListN.{length};
-ghost use Rattle.kernels.specs.Lanes.{feed, window};
+ghost use Rattle.kernels.specs.Lanes.{every, feed, window};
 ghost use Rattle.kernels.specs.Strided.{strided, Inside};
 ghost use Rattle.kernels.specs.Blocks.{startLanes, SmallLanes};
 ghost use Rattle.kernels.specs.Standing.{Fed};
 ghost use Rattle.rows.specs.Steps.{Stepped, Progress, holdAfter};
-ghost use Rattle.rows.specs.Waiting.{waitStep, startWaiting, exponentsOf, lanesProduct};
+ghost use Rattle.rows.specs.Waiting.{notPast, waitStep, startWaiting, exponentsOf, lanesProduct};
 use crate::row::Row;
 use crate::row::Waiting;
 use accumulator::StableProductFloatAcc;
@@ -105,27 +106,51 @@ fn tried(s: Lanes, values: &[f64], start: i64, stride: i64, rows: usize) -> Step
     Step { lanes: s, done: 0 }
 }
 
-// Up to a block of 64 values, a row split where it must be.
-fn guarded(s: Lanes, values: &[f64], start: i64, stride: i64, len: usize) -> Lanes
+// Up to a block of 64 values, a row split where it must be, or all of them. Unless all are, the lanes count only if none is infinite or a NaN.
+// m, e and bad are kept apart: copied as a whole, lanes take the bytes that fill them up with them, row after row.
+fn rows_in(s: Lanes, values: &[f64], start: i64, stride: i64, len: usize, all: bool) -> Lanes
     requires { ⌜ SmallLanes (2 ^ 56) s × (length (s .m) ≡ 8) × (len ≤ 64) × Inside (length (now values)) start stride len ⌝ }
-    ensures { λ r. ⌜ Stepped s (strided (now (values .entry)) start stride len) r ⌝ }
+    ensures { λ r. ⌜ ((all || every notPast (r .m)) ≡ true → Stepped s (strided (now (values .entry)) start stride len) r) ⌝ }
+    ensures long { λ r. ⌜ length (r .m) ≡ 8 ⌝ }
 {
     let rows = (len + 7) / LANES;
-    let mut t = s;
+    let mut m = s.m;
+    let mut e = s.e;
+    let mut bad = s.bad;
     let mut at = start;
     let mut i: usize = 0;
     while i < rows {
         let row = crate::row::some_row(values, at, stride, len - LANES * i);
-        t = crate::row::guarded_row(t, row);
+        let t = crate::row::guarded_row(Lanes { m, e, bad }, row, all);
+        m = t.m;
+        e = t.e;
+        bad = t.bad;
         i += 1;
         if i < rows {
             at += stride * 8;
         }
     }
+    Lanes { m, e, bad }
+}
+
+// Up to a block of 64 values. If a lane ends infinite or a NaN, the block is done again, every row split.
+fn guarded(s: Lanes, values: &[f64], start: i64, stride: i64, len: usize) -> Lanes
+    requires { ⌜ SmallLanes (2 ^ 56) s × (length (s .m) ≡ 8) × (len ≤ 64) × Inside (length (now values)) start stride len ⌝ }
+    ensures { λ r. ⌜ Stepped s (strided (now (values .entry)) start stride len) r ⌝ }
+{
+    let mut t = s;
+    let mut turn: usize = 0;
+    while turn < 2 {
+        t = rows_in(s, values, start, stride, len, turn == 1);
+        turn += 1;
+        if crate::row::lanes_not_past(t) {
+            turn = 2;
+        }
+    }
     t
 }
 
-fn least(a: usize, b: usize) -> usize
+pub fn least(a: usize, b: usize) -> usize
     ensures { λ r. ⌜ r ≡ min a b ⌝ }
 {
     if a < b { a } else { b }

@@ -8,7 +8,7 @@ ghost use mir.Syntax.{w64};
 ghost use Rattle.kernels.specs.Lanes.{feed, window, every};
 ghost use Rattle.kernels.specs.Strided.{strided, Inside};
 ghost use Rattle.kernels.specs.Blocks.{unsplitStep, splitStep, SmallLanes};
-ghost use Rattle.rows.specs.Waiting.{rowOf, lesser, waitStep, notBelow, notPast, chained, inBand, guarded};
+ghost use Rattle.rows.specs.Waiting.{rowOf, lesser, square, waitStep, notBelow, notPast, chained, leastSquare, notLow, guarded};
 use accumulator::StableProductFloatAcc;
 use kernels::blocks::Lanes;
 
@@ -22,11 +22,6 @@ const MOST: f64 = 1.0715086071862673e301;
 pub struct Row {
     pub v: [f64; LANES],
 }
-
-// 2^-239 and 2^239.
-const BAND_LO: f64 = 1.131959884853339e-72;
-
-const BAND_HI: f64 = 8.834235323891922e71;
 
 // Lanes multiplied unsplit, beside the least square of the values that each has met.
 pub struct Waiting {
@@ -75,26 +70,17 @@ pub fn row_at(values: &[f64], at: usize) -> Row
     r
 }
 
-// Eight values of a piece. Those at stride 1 are read without a place for each.
-pub fn full_row(values: &[f64], at: i64, stride: i64) -> Row
-    requires { ⌜ Inside (length (now values)) at stride 8 ⌝ }
-    ensures { λ r. ⌜ r .v ≡ strided (now (values .entry)) at stride 8 ⌝ }
-{
-    if stride == 1 {
-        return row_at(values, at as usize);
-    }
-    row_of(values, at, stride, LANES)
-}
-
-// The next row of a piece of which `left` values are left.
+// The next row of a piece of which `left` values are left. A full one at stride 1 is read without a place for each.
 pub fn some_row(values: &[f64], at: i64, stride: i64, left: usize) -> Row
     requires { ⌜ Inside (length (now values)) at stride left ⌝ }
     ensures { λ r. ⌜ r .v ≡ rowOf (strided (now (values .entry)) at stride (min 8 left)) ⌝ }
 {
-    if left < LANES {
-        return row_of(values, at, stride, left);
+    if stride == 1 {
+        if LANES <= left {
+            return row_at(values, at as usize);
+        }
     }
-    full_row(values, at, stride)
+    row_of(values, at, stride, crate::lanes::least(LANES, left))
 }
 
 fn lesser(x: f64, y: f64) -> f64
@@ -152,6 +138,19 @@ pub fn none_past(w: Waiting) -> bool
     ok
 }
 
+pub fn lanes_not_past(s: Lanes) -> bool
+    requires { ⌜ length (s .m) ≡ 8 ⌝ }
+    ensures { λ r. ⌜ r ≡ every notPast (s .m) ⌝ }
+{
+    let mut ok = true;
+    let mut k: usize = 0;
+    while k < LANES {
+        ok = ok & not_past(s.m[k]);
+        k += 1;
+    }
+    ok
+}
+
 // The lanes multiplied in lane order.
 pub fn chain(row: Row) -> f64
     requires { ⌜ length (row .v) ≡ 8 ⌝ }
@@ -166,25 +165,30 @@ pub fn chain(row: Row) -> f64
     p
 }
 
-// The value's square lies in 2^-239 to 2^239.
-fn in_band(x: f64) -> bool
-    ensures { λ r. ⌜ r ≡ inBand x ⌝ }
+fn lesser_square(x: f64, y: f64) -> f64
+    ensures { λ r. ⌜ r ≡ lesser (square x) (square y) ⌝ }
 {
-    let y = x * x;
-    (BAND_LO <= y) & (y <= BAND_HI)
+    lesser(x * x, y * y)
 }
 
-fn row_in_band(row: Row) -> bool
+// The least square of eight values, lane beside lane. Where one of two is a NaN, the second counts.
+fn least_square(row: Row) -> f64
     requires { ⌜ length (row .v) ≡ 8 ⌝ }
-    ensures { λ r. ⌜ r ≡ every inBand (row .v) ⌝ }
+    ensures { λ r. ⌜ r ≡ leastSquare (row .v) ⌝ }
 {
-    let mut ok = true;
-    let mut k: usize = 0;
-    while k < LANES {
-        ok = ok & in_band(row.v[k]);
-        k += 1;
-    }
-    ok
+    let a = lesser_square(row.v[0], row.v[4]);
+    let b = lesser_square(row.v[1], row.v[5]);
+    let c = lesser_square(row.v[2], row.v[6]);
+    let d = lesser_square(row.v[3], row.v[7]);
+    lesser(lesser(a, c), lesser(b, d))
+}
+
+// If so, no square is below 2^-29, or one is a NaN.
+fn row_not_low(row: Row) -> bool
+    requires { ⌜ length (row .v) ≡ 8 ⌝ }
+    ensures { λ r. ⌜ r ≡ notLow (row .v) ⌝ }
+{
+    LEAST <= least_square(row)
 }
 
 fn unsplit_row(s: Lanes, row: Row) -> Lanes
@@ -213,12 +217,12 @@ fn split_row(s: Lanes, row: Row) -> Lanes
     t
 }
 
-// A row with a value outside the band is split, any other multiplied as it is.
-pub fn guarded_row(s: Lanes, row: Row) -> Lanes
+// A row with a square below 2^-29 is split, and with `all` every row; any other is multiplied as it is.
+pub fn guarded_row(s: Lanes, row: Row, all: bool) -> Lanes
     requires { ⌜ SmallLanes (2 ^ 59) s × (length (s .m) ≡ 8) × (length (row .v) ≡ 8) ⌝ }
-    ensures { λ r. ⌜ r ≡ guarded s (row .v) ⌝ }
+    ensures { λ r. ⌜ r ≡ guarded all s (row .v) ⌝ }
 {
-    if row_in_band(row) {
+    if !all & row_not_low(row) {
         return unsplit_row(s, row);
     }
     split_row(s, row)

@@ -1,149 +1,70 @@
--- `rows::lanes::guarded` meets its contract. The loop's invariant: i rows are in the lanes (`Rows`). Assumes nothing.
-use Prim.Native.Nat.{ℕ, suc, _+_, _-_, _*_, _/_, _^_, _≤_, _<_, min}
-use mathlib.Core.Path.{_≡_, refl, sym, ap, _∙_, subst}
-use mathlib.Core.List.{List, _++_}
+-- `rows::lanes::guarded` meets its contract. The loop's invariant: after the last turn the lanes are right. Assumes nothing.
+use Prim.Native.Nat.{ℕ, _+_, _-_, _≤_}
+use mathlib.Core.Path.{_≡_, refl, sym, ap, _∙_}
+use mathlib.Core.Bool.{Bool, true, false, _||_}
 use native.Mathlib.Omega.{arith}
-use native.Mathlib.Numerals.{add-one}
-use lib.ListN.{length}
-use lib.IntN.{ℤ, pos, _+ℤ_, _*ℤ_}
-use lib.Dec.{lit≤}
-use lib.Ieee.{Float}
-use mir.Val.{toZ, ofZ, SFits}
+use lib.Dec.{eqb}
+use mir.Val.{toZ}
 use mir.ValLaws.{toZ-ofZ}
 use mir.Syntax.{w64}
-use Rattle.kernels.specs.declared.blocks.Lanes.{Lanes}
-use Rattle.kernels.specs.Strided.{strided, Inside}
-use Rattle.kernels.specs.Standing.{Fed}
-use Rattle.kernels.proofs.Striding.{length-strided}
-use Rattle.kernels.proofs.LaneSizes.{lanes-le}
-use Rattle.rows.specs.Waiting.{rowOf, guarded}
+use Rattle.kernels.specs.Lanes.{every}
+use Rattle.kernels.specs.Strided.{strided}
+use Rattle.rows.specs.Waiting.{notPast}
 use Rattle.rows.specs.Steps.{Stepped}
-use Rattle.rows.proofs.Rowwise.{strided-append, inside-part, place-first, place-fits, step-fits}
-use Rattle.rows.proofs.Rows.{row-long, place-row}
-use Rattle.rows.proofs.Stepping.{Rows, rows-none, rows-next, rows-fed}
 use Rattle.rows.proofs.lanes.guarded.Statement.{statement}
 use Rattle.rows.proofs.lanes.guarded.Tie as tie
-use Rattle.rows.proofs.lanes.guarded.Reads as reads
-use Rattle.rows.proofs.lanes.guarded.Lts as lts
-use Rattle.rows.proofs.row.guarded_row.Reads as guarded-row-reads
-use Rattle.rows.proofs.row.some_row.Reads as some-row-reads
 
 abbrev Inv-loop : tie.InvT-loop
-Inv-loop values start stride len rows t₀ at₀ i₀ t at i =
-    (i ≤ rows) × Rows (2 ^ 56) t₀ values (toZ w64 start) (toZ w64 stride) len i t × (i < rows → toZ w64 at ≡ toZ w64 start +ℤ toZ w64 stride *ℤ pos (8 * i))
+Inv-loop s values start stride len t₀ turn₀ t turn = (turn ≤ 2) × (turn ≡ 2 → Stepped s (strided values (toZ w64 start) (toZ w64 stride) len) t)
 
 abbrev μ-loop : tie.MeasureT-loop
-μ-loop values start stride len rows t₀ at₀ i₀ t at i = rows - i
+μ-loop s values start stride len t₀ turn₀ t turn = 2 - turn
 
-add-rows : tie.Need-add-rows Inv-loop μ-loop
-add-rows c = let h = c .before .pre .2 in omega arith
+-- no lane is past, or all rows were split
+none-past : (a b : Bool) → b ≡ true → (a || b) ≡ true
+none-past true b e = refl
+none-past false b e = e
+
+all-split : (n : ℕ) (b : Bool) → n ≡ 1 → (eqb n 1 || b) ≡ true
+all-split n b e = ap (λ (k : ℕ). eqb k 1 || b) e
 
 loop-holds : tie.Need-loop-holds Inv-loop μ-loop
-loop-holds c =
-    let s = c .before in
-    (omega arith, rows-none (2 ^ 56) (s .args .s) (s .args .values .now) _ _ (s .args .len) (s .pre .1) (s .pre .0), λ h. place-first (toZ w64 (ofZ w64 (s .args .start))) (toZ w64 (ofZ w64 (s .args .stride))))
+loop-holds c = (omega arith, λ e. absurd (omega (arith, e)))
 
--- what is required, of the numbers as the code holds them
-inside : (c : tie.In-loop Inv-loop μ-loop) → let s = c .before .before .before in Inside (length (s .args .values .now)) (toZ w64 (ofZ w64 (s .args .start))) (toZ w64 (ofZ w64 (s .args .stride))) (s .args .len)
-inside c = let s = c .before .before .before in simp (toZ-ofZ w64 (s .args .start) (s .fits .start), toZ-ofZ w64 (s .args .stride) (s .fits .stride)) (s .pre .3)
+rows-in-requires : tie.Need-rows-in-requires Inv-loop μ-loop
+rows-in-requires c κs = let s = c .before .before .before in simp (toZ-ofZ w64 (s .args .start) (s .fits .start), toZ-ofZ w64 (s .args .stride) (s .fits .stride)) (s .pre)
 
--- a row is left
-left : (c : tie.In-loop Inv-loop μ-loop) → 8 * c .before .loop .i < c .before .before .before .args .len
-left c = let h = c .loop-test .taken in omega arith
+add-turn : tie.Need-add-turn Inv-loop μ-loop
+add-turn c = omega arith
 
-mul-some-row : tie.Need-mul-some-row Inv-loop μ-loop
-mul-some-row c = let h = left c in let l = c .before .before .before .pre .2 in omega arith
-
-sub-some-row : tie.Need-sub-some-row Inv-loop μ-loop
-sub-some-row c = let h = left c in omega arith
-
-some-row-requires : tie.Need-some-row-requires Inv-loop μ-loop
-some-row-requires c κs =
-    let s = c .before .before .before in
-    let i = c .before .loop .i in
-    subst (λ (z : ℤ). Inside (length (s .args .values .now)) z (toZ w64 (ofZ w64 (s .args .stride))) (s .args .len - 8 * i)) (sym (c .before .loop .inv .2 (c .loop-test .taken)))
-    (inside-part (length (s .args .values .now)) (toZ w64 (ofZ w64 (s .args .start))) (toZ w64 (ofZ w64 (s .args .stride))) (s .args .len) (8 * i) (s .args .len - 8 * i) (inside c) (let h = left c in omega arith))
-
-guarded-row-requires : tie.Need-guarded-row-requires Inv-loop μ-loop
-guarded-row-requires c κs =
-    let t = c .before .before in
-    let R = t .loop .inv .1 in
-    (lanes-le (2 ^ 56 + 8192 * t .loop .i) (2 ^ 59) (t .loop .t) (let h = t .before .before .pre .2 in let l = left (c .before) in omega arith) (R .small), R .long, ap length (c .some-row .ensures) ∙ row-long _)
-
-add-i : tie.Need-add-i Inv-loop μ-loop
-add-i c = omega arith
-
-mul-at : tie.Need-mul-at Inv-loop μ-loop
-mul-at c =
-    let t = c .before .before .before .before in
-    let s = t .before .before in
-    let h = left (c .before .before .before) in
-    let l = c .if1 .taken in
-    step-fits (length (s .args .values .now)) (toZ w64 (ofZ w64 (s .args .start))) (toZ w64 (ofZ w64 (s .args .stride))) (s .args .len) (inside (c .before .before .before)) 8 (omega arith) (omega (arith, s .good .1 .1))
-
--- the place a row further
-next : (c : tie.Then1 Inv-loop μ-loop) → let t = c .before .before .before .before in let s = t .before .before in toZ w64 (t .loop .at) +ℤ toZ w64 (ofZ w64 (toZ w64 (ofZ w64 (s .args .stride)) *ℤ pos 8)) ≡ toZ w64 (ofZ w64 (s .args .start)) +ℤ toZ w64 (ofZ w64 (s .args .stride)) *ℤ pos (8 * (t .loop .i + 1))
-next c =
-    let t = c .before .before .before .before in
-    let s = t .before .before in
-    let d = toZ w64 (ofZ w64 (s .args .stride)) in
-    ap (λ (z : ℤ). toZ w64 (t .loop .at) +ℤ z) (toZ-ofZ w64 (d *ℤ pos 8) (mul-at c))
-    ∙ ap (λ (z : ℤ). z +ℤ d *ℤ pos 8) (t .loop .inv .2 (c .before .before .before .loop-test .taken))
-    ∙ place-row (toZ w64 (ofZ w64 (s .args .start))) d (t .loop .i)
-
-add-at : tie.Need-add-at Inv-loop μ-loop
-add-at c =
-    let t = c .before .before .before .before in
-    let s = t .before .before in
-    let l = c .if1 .taken in
-    subst (SFits w64) (sym (next c))
-    (place-fits (length (s .args .values .now)) (toZ w64 (ofZ w64 (s .args .start))) (toZ w64 (ofZ w64 (s .args .stride))) (s .args .len) (inside (c .before .before .before)) (8 * (t .loop .i + 1)) (omega arith) (omega (arith, s .good .1 .1)))
-
--- the row is in
-more : (c : tie.After-guarded-row Inv-loop μ-loop) → let t = c .before .before .before in let s = t .before .before in Rows (2 ^ 56) (s .args .s) (s .args .values .now) (toZ w64 (ofZ w64 (s .args .start))) (toZ w64 (ofZ w64 (s .args .stride))) (s .args .len) (t .loop .i + 1) (c .guarded-row .result)
-more c =
-    let t = c .before .before .before in
-    let k = t .before in
-    let s = k .before in
-    let xs = s .args .values .now in
-    let b = toZ w64 (ofZ w64 (s .args .start)) in
-    let d = toZ w64 (ofZ w64 (s .args .stride)) in
-    let i = t .loop .i in
-    let n = s .args .len in
-    let h = left (c .before .before) in
-    let l = s .pre .2 in
-    subst (λ (m : ℕ). Rows (2 ^ 56) (s .args .s) xs b d n m (c .guarded-row .result)) (sym (add-one i))
-    (rows-next (2 ^ 56) (s .args .s) xs b d n (k .shared-slice-known .given) i (t .loop .t) (c .guarded-row .result) (t .loop .inv .1) (omega arith) h
-    (c .guarded-row .ensures
-    ∙ ap (guarded (t .loop .t)) (c .before .some-row .ensures ∙ ap (λ (z : ℤ). rowOf (strided xs z d (min 8 (n - 8 * i)))) (t .loop .inv .2 (c .before .before .loop-test .taken)))))
+lanes-not-past-requires : tie.Need-lanes-not-past-requires Inv-loop μ-loop
+lanes-not-past-requires c κs = c .rows-in .ensures .1
 
 loop-less : tie.Need-loop-less Inv-loop μ-loop
 loop-less c = omega arith
 
 loop-again : tie.Need-loop-again Inv-loop μ-loop
 loop-again c =
-    let t = c .before .before .before .before in
-    let s = t .before .before in
-    (omega arith, more (c .before), λ h. toZ-ofZ w64 (toZ w64 (t .loop .at) +ℤ toZ w64 (ofZ w64 (toZ w64 (ofZ w64 (s .args .stride)) *ℤ pos 8))) (add-at c) ∙ next c)
+    let p = c .before in
+    let r = p .before in
+    (omega arith, λ e. r .rows-in .ensures .0 (none-past (eqb (r .before .before .loop .turn) 1) (every notPast (r .rows-in .result .m)) (sym (p .lanes-not-past .ensures) ∙ c .if1 .taken)))
 
 loop-less-2 : tie.Need-loop-less-2 Inv-loop μ-loop
 loop-less-2 c = omega arith
 
--- the last row: no further place is formed
 loop-again-2 : tie.Need-loop-again-2 Inv-loop μ-loop
-loop-again-2 c = (omega arith, more (c .before), λ h. absurd (omega arith))
+loop-again-2 c =
+    let r = c .before .before in
+    let n = r .before .before .loop .turn in
+    (omega arith, λ e. r .rows-in .ensures .0 (all-split n (every notPast (r .rows-in .result .m)) (let z : n ≡ 1 = omega (arith, e) in z)))
 
 returns : tie.Need-returns Inv-loop μ-loop
 returns c =
     let t = c .before in
     let s = t .before .before in
-    let n = s .args .len in
-    let h = s .pre .2 in
     let a = t .loop .inv .0 in
     let l = c .loop-test .left in
-    let e : Stepped (s .args .s) (strided (s .args .values .now) (toZ w64 (ofZ w64 (s .args .start))) (toZ w64 (ofZ w64 (s .args .stride))) n) (t .loop .t) =
-    rows-fed (2 ^ 56) (s .args .s) (s .args .values .now) _ _ n (lit≤ tt) (t .loop .i) (t .loop .t) (t .loop .inv .1) (omega arith) (omega arith) (omega arith) in
-    simp (toZ-ofZ w64 (s .args .start) (s .fits .start), toZ-ofZ w64 (s .args .stride) (s .fits .stride)) at e
+    simp (toZ-ofZ w64 (s .args .start) (s .fits .start), toZ-ofZ w64 (s .args .stride) (s .fits .stride)) at (t .loop .inv .1 (omega arith))
 
 pub guarded-spec : {M : Type 1} → statement M
 guarded-spec =
@@ -151,15 +72,10 @@ guarded-spec =
     (tie.spec
     Inv-loop
     μ-loop
-    add-rows
     loop-holds
-    mul-some-row
-    sub-some-row
-    some-row-requires
-    guarded-row-requires
-    add-i
-    mul-at
-    add-at
+    rows-in-requires
+    add-turn
+    lanes-not-past-requires
     loop-less
     loop-again
     loop-less-2
