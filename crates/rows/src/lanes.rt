@@ -94,7 +94,8 @@ fn tried(s: Lanes, values: &[f64], start: i64, stride: i64, rows: usize) -> Step
     ensures done { λ r. ⌜ (r .done ≡ 8 * rows) ⊎ (r .done ≡ 0) ⌝ }
 {
     let w = wait_rows(start_waiting(s), values, start, stride, rows);
-    if crate::row::none_below(w) & crate::row::none_past(w) {
+    let v = w.m;
+    if crate::row::none_below(w) & crate::row::none_past(Row { v }) {
         let m = w.m;
         let e = s.e;
         let bad = s.bad;
@@ -143,7 +144,8 @@ fn guarded(s: Lanes, values: &[f64], start: i64, stride: i64, len: usize) -> Lan
     while turn < 2 {
         t = rows_in(s, values, start, stride, len, turn == 1);
         turn += 1;
-        if crate::row::lanes_not_past(t) {
+        let v = t.m;
+        if crate::row::none_past(Row { v }) {
             turn = 2;
         }
     }

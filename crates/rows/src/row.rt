@@ -125,27 +125,14 @@ pub fn not_past(x: f64) -> bool
     (x <= MOST) & (-MOST <= x)
 }
 
-pub fn none_past(w: Waiting) -> bool
-    requires { ⌜ length (w .m) ≡ 8 ⌝ }
-    ensures { λ r. ⌜ r ≡ every notPast (w .m) ⌝ }
+pub fn none_past(row: Row) -> bool
+    requires { ⌜ length (row .v) ≡ 8 ⌝ }
+    ensures { λ r. ⌜ r ≡ every notPast (row .v) ⌝ }
 {
     let mut ok = true;
     let mut k: usize = 0;
     while k < LANES {
-        ok = ok & not_past(w.m[k]);
-        k += 1;
-    }
-    ok
-}
-
-pub fn lanes_not_past(s: Lanes) -> bool
-    requires { ⌜ length (s .m) ≡ 8 ⌝ }
-    ensures { λ r. ⌜ r ≡ every notPast (s .m) ⌝ }
-{
-    let mut ok = true;
-    let mut k: usize = 0;
-    while k < LANES {
-        ok = ok & not_past(s.m[k]);
+        ok = ok & not_past(row.v[k]);
         k += 1;
     }
     ok

@@ -21,9 +21,9 @@ abbrev μ-loop : tie.MeasureT-loop
 μ-loop s values start stride len t₀ turn₀ t turn = 2 - turn
 
 -- no lane is past, or all rows were split
-none-past : (a b : Bool) → b ≡ true → (a || b) ≡ true
-none-past true b e = refl
-none-past false b e = e
+either : (a b : Bool) → b ≡ true → (a || b) ≡ true
+either true b e = refl
+either false b e = e
 
 all-split : (n : ℕ) (b : Bool) → n ≡ 1 → (eqb n 1 || b) ≡ true
 all-split n b e = ap (λ (k : ℕ). eqb k 1 || b) e
@@ -37,8 +37,8 @@ rows-in-requires c κs = let s = c .before .before .before in simp (toZ-ofZ w64 
 add-turn : tie.Need-add-turn Inv-loop μ-loop
 add-turn c = omega arith
 
-lanes-not-past-requires : tie.Need-lanes-not-past-requires Inv-loop μ-loop
-lanes-not-past-requires c κs = c .rows-in .ensures .1
+none-past-requires : tie.Need-none-past-requires Inv-loop μ-loop
+none-past-requires c κs = c .before .rows-in .ensures .1
 
 loop-less : tie.Need-loop-less Inv-loop μ-loop
 loop-less c = omega arith
@@ -46,15 +46,15 @@ loop-less c = omega arith
 loop-again : tie.Need-loop-again Inv-loop μ-loop
 loop-again c =
     let p = c .before in
-    let r = p .before in
-    (omega arith, λ e. r .rows-in .ensures .0 (none-past (eqb (r .before .before .loop .turn) 1) (every notPast (r .rows-in .result .m)) (sym (p .lanes-not-past .ensures) ∙ c .if1 .taken)))
+    let r = p .before .before in
+    (omega arith, λ e. r .rows-in .ensures .0 (either (eqb (r .before .before .loop .turn) 1) (every notPast (r .rows-in .result .m)) (sym (p .none-past .ensures) ∙ c .if1 .taken)))
 
 loop-less-2 : tie.Need-loop-less-2 Inv-loop μ-loop
 loop-less-2 c = omega arith
 
 loop-again-2 : tie.Need-loop-again-2 Inv-loop μ-loop
 loop-again-2 c =
-    let r = c .before .before in
+    let r = c .before .before .before in
     let n = r .before .before .loop .turn in
     (omega arith, λ e. r .rows-in .ensures .0 (all-split n (every notPast (r .rows-in .result .m)) (let z : n ≡ 1 = omega (arith, e) in z)))
 
@@ -75,7 +75,7 @@ guarded-spec =
     loop-holds
     rows-in-requires
     add-turn
-    lanes-not-past-requires
+    none-past-requires
     loop-less
     loop-again
     loop-less-2

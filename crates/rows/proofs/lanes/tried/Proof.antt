@@ -56,19 +56,19 @@ wait-rows-requires c κs =
     (ap (λ (w : Waiting). length (w .m)) e ∙ s .pre .1, ap (λ (w : Waiting). length (w .least)) e ∙ length-replicate 8 one, (let h = s .pre .2 in omega arith), s .pre .3)
 
 none-below-requires : tie.Need-none-below-requires
-none-below-requires c κs = ap (λ (w : Waiting). length (w .least)) (waited c) ∙ wait-least-long 0 _ _ ∙ length-replicate 8 one
+none-below-requires c κs = ap (λ (w : Waiting). length (w .least)) (waited (c .before)) ∙ wait-least-long 0 _ _ ∙ length-replicate 8 one
 
 none-past-requires : tie.Need-none-past-requires
-none-past-requires c κs = ap (λ (w : Waiting). length (w .m)) (waited (c .before)) ∙ wait-m-long 0 _ _ ∙ c .before .before .before .before .pre .1
+none-past-requires c κs = ap (λ (w : Waiting). length (w .m)) (waited (c .before .before)) ∙ wait-m-long 0 _ _ ∙ c .before .before .before .before .before .pre .1
 
-mul-t15 : tie.Need-mul-t15
-mul-t15 c = let h = c .before .before .before .before .before .before .before .before .pre .2 in omega arith
+mul-t17 : tie.Need-mul-t17
+mul-t17 c = let h = c .before .before .before .before .before .before .before .before .before .pre .2 in omega arith
 
 returns : tie.Need-returns
 returns c =
     let t = c .before .before in
     let p = t .before in
-    let w = p .before .before in
+    let w = p .before .before .before in
     let s = w .before .before .before in
     let xs = strided (s .args .values .now) (s .args .start) (s .args .stride) (8 * s .args .rows) in
     let b = and-both _ _ (t .if1 .taken) in (
@@ -88,7 +88,7 @@ returns c =
 
 returns-2 : tie.Need-returns-2
 unfolding strided
-returns-2 c = (unmoved (c .before .before .before .before .before .before .args .s) (c .before .before .before .before .before .before .pre .0), inr refl)
+returns-2 c = let s = c .before .before .before .before .before .before .before in (unmoved (s .args .s) (s .pre .0), inr refl)
 
 pub tried-spec : {M : Type 1} → statement M
 tried-spec =
@@ -98,6 +98,6 @@ tried-spec =
     wait-rows-requires
     none-below-requires
     none-past-requires
-    mul-t15
+    mul-t17
     returns
     returns-2)

@@ -13,10 +13,10 @@ use Rattle.rows.proofs.row.none_past.Statement.{statement}
 use Rattle.rows.proofs.row.none_past.Tie as tie
 
 abbrev Inv-loop : tie.InvT-loop
-Inv-loop w ok₀ k₀ ok k = (k ≤ 8) × ((ok && every notPast (drop k (w .m))) ≡ every notPast (w .m))
+Inv-loop row ok₀ k₀ ok k = (k ≤ 8) × ((ok && every notPast (drop k (row .v))) ≡ every notPast (row .v))
 
 abbrev μ-loop : tie.MeasureT-loop
-μ-loop w ok₀ k₀ ok k = 8 - k
+μ-loop row ok₀ k₀ ok k = 8 - k
 
 loop-holds : tie.Need-loop-holds Inv-loop μ-loop
 loop-holds c = (omega arith, refl)
@@ -39,13 +39,13 @@ loop-less c = omega arith
 loop-again : tie.Need-loop-again Inv-loop μ-loop
 loop-again c =
     let t = c .before .before .before in
-    let v = t .before .args .t1 .m in
+    let v = t .before .args .t1 .v in
     (omega arith, test-more notPast v (t .loop .ok) (c .not-past .result) (t .loop .k) nan (subst (λ (n : ℕ). t .loop .k < n) (sym (t .before .pre)) (c .before .before .loop-test .taken)) (t .loop .inv .1) (c .not-past .ensures))
 
 returns : tie.Need-returns Inv-loop μ-loop
 returns c =
     let t = c .before in
-    test-all notPast (t .before .args .t1 .m) (t .loop .ok) (t .loop .k) (subst (λ (n : ℕ). n ≤ t .loop .k) (sym (t .before .pre)) (c .loop-test .left)) (t .loop .inv .1)
+    test-all notPast (t .before .args .t1 .v) (t .loop .ok) (t .loop .k) (subst (λ (n : ℕ). n ≤ t .loop .k) (sym (t .before .pre)) (c .loop-test .left)) (t .loop .inv .1)
 
 pub none-past-spec : {M : Type 1} → statement M
 none-past-spec =
