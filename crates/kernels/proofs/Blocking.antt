@@ -98,8 +98,8 @@ abbrev pub count : ℕ → ℕ → ℕ
 count k i = (i + 7 - k) / 8
 
 -- a value that stays within C of its place, one of at most eight of its lane
-turn-room : (C i : ℕ) → C ≤ 120 → i < 64 → suc C * count (laneOf i) i + C + 1 ≤ suc C * count (laneOf i) (suc i)
-turn-room C i h l =
+turn-room : (C i : ℕ) → suc C * count (laneOf i) i + C + 1 ≤ suc C * count (laneOf i) (suc i)
+turn-room C i =
     let e : count (laneOf i) (suc i) ≡ suc (count (laneOf i) i) = omega arith in
     rw e (omega arith)
 
@@ -115,26 +115,20 @@ turn-other : (C i k : ℕ) → suc C * count k i ≤ suc C * count k (suc i)
 turn-other C i k = mul-le-mul-left (suc C) (let l : count k i ≤ count k (suc i) = omega arith in l)
 
 -- A value y with an exponent d that stand for a factor g, from whatever format and in whatever way they came: lane i mod 8 then stands for its product with g.
-pub value-held : (C : ℕ) → C ≤ 120 → (i : ℕ) (s : Lanes) (fs : List Factor) (y : Float) (d : ℤ) (g : Factor) (q : Bool) → i < 64 → Stands C y d g → Held (λ (k : ℕ). suc C * count k i) s fs
+pub value-held : (C i : ℕ) (s : Lanes) (fs : List Factor) (y : Float) (d : ℤ) (g : Factor) (q : Bool) → suc C * count (laneOf i) i + C + 1 ≤ 1022 → Stands C y d g → Held (λ (k : ℕ). suc C * count k i) s fs
     → Held (λ (k : ℕ). suc C * count k (suc i)) (record { m = set (s .m) (laneOf i) (productOf 11 52 (mOf s (laneOf i)) y); e = set (s .e) (laneOf i) (eOf s (laneOf i) +ℤ d); bad = q }) (laneTimes 52 i fs g)
-value-held C c i s fs y d g q l G h =
+value-held C i s fs y d g q l G h =
     let j = laneOf i in
     let f = getD fs j (unit 52) in
     let m' = productOf 11 52 (mOf s j) y in
     held-set (λ (k : ℕ). suc C * count k i) (λ (k : ℕ). suc C * count k (suc i)) s fs j m' (eOf s j +ℤ d) (times 52 f g) q h (lane-lt i)
-    (stands-more (suc C * count j i + C + 1) (suc C * count j (suc i)) m' (eOf s j +ℤ d) (times 52 f g) (turn-room C i c l)
-    (stands-times (suc C * count j i) C (mOf s j) y (eOf s j) d f g (h .at j (lane-lt i)) G (turn-small C i c l)))
+    (stands-more (suc C * count j i + C + 1) (suc C * count j (suc i)) m' (eOf s j +ℤ d) (times 52 f g) (turn-room C i)
+    (stands-times (suc C * count j i) C (mOf s j) y (eOf s j) d f g (h .at j (lane-lt i)) G l))
     (λ k a n. turn-other C i k)
 
-split-more : (i : ℕ) (s : Lanes) (fs : List Factor) (x : Float) → i < 64 → Value x → Held (λ (k : ℕ). 1 * count k i) s fs → Held (λ (k : ℕ). 1 * count k (suc i)) (splitStep i s x) (laneTimes 52 i fs (rate x))
+pub split-more : (i : ℕ) (s : Lanes) (fs : List Factor) (x : Float) → i < 512 → Value x → Held (λ (k : ℕ). 1 * count k i) s fs → Held (λ (k : ℕ). 1 * count k (suc i)) (splitStep i s x) (laneTimes 52 i fs (rate x))
 unfolding splitStep
-split-more i s fs x l v h = value-held 0 (lit≤ tt) i s fs (split x .m) (split x .e) (rate x) (s .bad || split x .bad) l (stands-rate x) h
-
--- the same, with room for values that are not split
-pub split-among : (i : ℕ) (s : Lanes) (fs : List Factor) (x : Float) → i < 64 → Held (λ (k : ℕ). 121 * count k i) s fs → Held (λ (k : ℕ). 121 * count k (suc i)) (splitStep i s x) (laneTimes 52 i fs (rate x))
-unfolding splitStep
-split-among i s fs x l h =
-    value-held 120 (le-refl 120) i s fs (split x .m) (split x .e) (rate x) (s .bad || split x .bad) l (stands-more 0 120 (split x .m) (split x .e) (rate x) zero-le (stands-rate x)) h
+split-more i s fs x l v h = value-held 0 i s fs (split x .m) (split x .e) (rate x) (s .bad || split x .bad) (omega arith) (stands-rate x) h
 
 -- unsplit: the value is in the bounds
 pub record Near (x : Float) : Type 0 where
@@ -150,7 +144,7 @@ unsplit-more i s fs x l n h =
     let X = stands-whole 120 x (n .value) (within-good 120 (lit≤ tt) x (n .value) (n .near)) (within-exponent 119 (lit≤ tt) x (n .value) (n .near)) in
     held-same b b (record { m = t .m; e = set (s .e) j (eOf s j +ℤ pos 0); bad = s .bad }) t (laneTimes 52 i fs (rate x)) (laneTimes 52 i fs (rate x))
     refl (ap (set (s .e) j) (+ℤ-idr (eOf s j)) ∙ set-getD (s .e) j (pos 0)) refl (λ k a. le-refl (b k))
-    (value-held 120 (le-refl 120) i s fs x (pos 0) (rate x) (s .bad) l X h)
+    (value-held 120 i s fs x (pos 0) (rate x) (s .bad) (turn-small 120 i (le-refl 120) l) X h)
 
 -- ---- bringing back
 -- lanes below j are brought back, the others are as they were
@@ -221,7 +215,7 @@ module _ (s : Lanes) (fs : List Factor) (xs : List Float) (short : length xs ≤
   split-held : Each Value xs → Held (λ (k : ℕ). 0) (renorm (feed splitStep 0 s xs)) (feed (laneTimes 52) 0 fs (map rate xs))
   split-held R =
       renorm-held 968 (lit≤ tt) (feed (laneTimes 52) 0 fs (map rate xs)) (λ (k : ℕ). 1 * count k (0 + length xs)) (feed splitStep 0 s xs) (λ k a. omega (arith, few k a))
-      (feed-related splitStep (laneTimes 52) rate Value (λ (i : ℕ). Held (λ (k : ℕ). 1 * count k i)) 64 split-more 0 s fs R (omega arith) (begins 1))
+      (feed-related splitStep (laneTimes 52) rate Value (λ (i : ℕ). Held (λ (k : ℕ). 1 * count k i)) 512 split-more 0 s fs R (omega arith) (begins 1))
 
   unsplit-held : Each Near xs → Held (λ (k : ℕ). 0) (renorm (feed unsplitStep 0 s xs)) (feed (laneTimes 52) 0 fs (map rate xs))
   unsplit-held R =

@@ -1,11 +1,11 @@
--- Rows of at most a block, each multiplied unsplit or split by the test of its least square: either every lane waits for its factor and the mark is right, or a lane
+-- At most 32 rows, each multiplied unsplit or split by the test of its least square: either every lane waits for its factor and the mark is right, or a lane
 -- is an infinity or a NaN, which it stays. Where all rows are split, the lanes stand for their factors. Assumes nothing.
 use Prim.Native.Nat.{ℕ, zero, suc, _+_, _-_, _*_, _≤_, _<_, zero-le}
 use mathlib.Core.Path.{_≡_, refl, sym, ap, _∙_, subst}
 use mathlib.Core.Bool.{Bool, true, false, not, cond, _&&_, _||_, true≢false}
 use mathlib.Core.List.{List, [], _∷_, _++_, map, map-append}
 use mathlib.Core.Logic.{_⊎_, inl, inr}
-use native.Mathlib.Nat.{zero-add}
+use native.Mathlib.Nat.{zero-add, le-trans}
 use native.Mathlib.Omega.{arith}
 use lib.ListN.{length, getD, set, length-map, length-append, length-set}
 use lib.Seq.{set-getD}
@@ -28,7 +28,7 @@ use Rattle.kernels.proofs.LaneSizes.{lanes-le, unsplit-small, split-small}
 use Rattle.kernels.proofs.Stepwise.{unsplit-again}
 use Rattle.kernels.proofs.Standing.{stands-rate}
 use Rattle.kernels.proofs.Least.{least-lesser}
-use Rattle.kernels.proofs.Blocking.{Value, count, split-among, held-same, renorm-held, renorm-each, renorm-mark, split-mark, unsplit-mark}
+use Rattle.kernels.proofs.Blocking.{Value, count, split-more, held-same, renorm-held, renorm-each, renorm-mark, split-mark, unsplit-mark}
 use Rattle.rows.specs.Waiting.{square, squareAt, lesser, notBelow, notPast, leastSquare, notLow, guarded}
 use Rattle.rows.proofs.Squares.{square-nan}
 use Rattle.rows.proofs.Waits.{Waits, waits-more, waits-times, waits-split, stands-waits}
@@ -116,7 +116,7 @@ lost-value i s (x ∷ xs) (suc k) l h e = lost-value (suc i) (unsplitStep i s x)
 turn-room : (i : ℕ) → 15 * count (laneOf i) i + 15 ≡ 15 * count (laneOf i) (suc i)
 turn-room i = omega arith
 
-turn-small : (i : ℕ) → i < 64 → 15 * count (laneOf i) i + 15 ≤ 1022
+turn-small : (i : ℕ) → i < 256 → 15 * count (laneOf i) i + 15 ≤ 1022
 turn-small i h = omega arith
 
 turn-other : (i k : ℕ) → 15 * count k i ≤ 15 * count k (suc i)
@@ -126,7 +126,7 @@ turn-other i k = omega arith
 abbrev Out : ℕ → Lanes → List Factor → Type 0
 Out i t fs = WaitHeld (depth i) t fs ⊎ LostLane (t .m)
 
-value-waits : (i : ℕ) (s : Lanes) (fs : List Factor) (y : Float) (d : ℤ) (g : Factor) (q : Bool) → i < 64 → Waits 15 y d g → WaitHeld (depth i) s fs
+value-waits : (i : ℕ) (s : Lanes) (fs : List Factor) (y : Float) (d : ℤ) (g : Factor) (q : Bool) → i < 256 → Waits 15 y d g → WaitHeld (depth i) s fs
     → Out (suc i) (record { m = set (s .m) (laneOf i) (productOf 11 52 (mOf s (laneOf i)) y); e = set (s .e) (laneOf i) (eOf s (laneOf i) +ℤ d); bad = q }) (laneTimes 52 i fs g)
 value-waits i s fs y d g q l G h = go (waits-times (depth i j) 15 (mOf s j) y (eOf s j) d f g (h .at j (lane-lt i)) G (turn-small i l))
   where
@@ -144,13 +144,13 @@ value-waits i s fs y d g q l G h = go (waits-times (depth i j) 15 (mOf s j) y (e
         inl (wait-set (depth i) (depth (suc i)) s fs j p (eOf s j +ℤ d) (times 52 f g) q h (lane-lt i) (subst (λ (n : ℕ). Waits n p (eOf s j +ℤ d) (times 52 f g)) (turn-room i) W) (λ k a n. turn-other i k))
     go (inr e) = inr (lost-here (s .m) j p (h .m-long) (lane-lt i) e)
 
-split-out : (i : ℕ) (s : Lanes) (fs : List Factor) (x : Float) → i < 64 → Value x → Out i s fs → Out (suc i) (splitStep i s x) (laneTimes 52 i fs (rate x))
+split-out : (i : ℕ) (s : Lanes) (fs : List Factor) (x : Float) → i < 256 → Value x → Out i s fs → Out (suc i) (splitStep i s x) (laneTimes 52 i fs (rate x))
 unfolding splitStep
 split-out i s fs x l v (inl h) =
     value-waits i s fs (split x .m) (split x .e) (rate x) (s .bad || split x .bad) l (waits-more 0 15 (split x .m) (split x .e) (rate x) zero-le (stands-waits (split x .m) (split x .e) (rate x) (stands-rate x))) h
 split-out i s fs x l v (inr p) = inr (lost-stays (s .m) (laneOf i) (split x .m) (lane-lt i) p)
 
-unsplit-out : (i : ℕ) (s : Lanes) (fs : List Factor) (x : Float) → i < 64 → Guarded x → Out i s fs → Out (suc i) (unsplitStep i s x) (laneTimes 52 i fs (rate x))
+unsplit-out : (i : ℕ) (s : Lanes) (fs : List Factor) (x : Float) → i < 256 → Guarded x → Out i s fs → Out (suc i) (unsplitStep i s x) (laneTimes 52 i fs (rate x))
 unfolding unsplitStep
 unsplit-out i s fs x l g (inr p) = inr (lost-stays (s .m) (laneOf i) x (lane-lt i) p)
 unsplit-out i s fs x l g (inl h) = go (guard-cases x g)
@@ -297,11 +297,11 @@ every-split : (all : Bool) (t : Lanes) (row : List Float) → all ≡ true → f
 unfolding guarded
 every-split all t row a = sym (ap (λ (b : Bool). cond (not b && notLow row) (feed unsplitStep 0 t row) (feed splitStep 0 t row)) a)
 
-module _ (i : ℕ) (t : Lanes) (gs : List Factor) (row : List Float) (eight : length row ≡ 8) (l : i < 8) (v : Each Value row) where
+module _ (i : ℕ) (t : Lanes) (gs : List Factor) (row : List Float) (eight : length row ≡ 8) (l : i < 32) (v : Each Value row) where
   plain-on : feed (laneTimes 52) (8 * i) gs (map rate row) ≡ feed (laneTimes 52) 0 gs (map rate row)
   plain-on = feed-eights (laneTimes 52) (times-again 52) i gs (map rate row)
 
-  within : 8 * i + length row ≤ 64
+  within : 8 * i + length row ≤ 256
   within = omega (arith, eight)
 
   counted : 8 * i + length row ≡ 8 * suc i
@@ -315,20 +315,20 @@ module _ (i : ℕ) (t : Lanes) (gs : List Factor) (row : List Float) (eight : le
       (subst (λ (u : Lanes). R (8 * suc i) u (feed (laneTimes 52) (8 * i) gs (map rate row))) (feed-eights step again i t row)
       (subst (λ (n : ℕ). R n (feed step (8 * i) t row) (feed (laneTimes 52) (8 * i) gs (map rate row))) counted h))
 
-  row-held : Held (λ (k : ℕ). 121 * count k (8 * i)) t gs → Held (λ (k : ℕ). 121 * count k (8 * suc i)) (feed splitStep 0 t row) (feed (laneTimes 52) 0 gs (map rate row))
+  row-held : Held (λ (k : ℕ). 1 * count k (8 * i)) t gs → Held (λ (k : ℕ). 1 * count k (8 * suc i)) (feed splitStep 0 t row) (feed (laneTimes 52) 0 gs (map rate row))
   row-held h =
-      shifted (λ (n : ℕ). Held (λ (k : ℕ). 121 * count k n)) splitStep split-again
-      (feed-related splitStep (laneTimes 52) rate Value (λ (n : ℕ). Held (λ (k : ℕ). 121 * count k n)) 64 (λ n s fs x a b c. split-among n s fs x a c) (8 * i) t gs v within h)
+      shifted (λ (n : ℕ). Held (λ (k : ℕ). 1 * count k n)) splitStep split-again
+      (feed-related splitStep (laneTimes 52) rate Value (λ (n : ℕ). Held (λ (k : ℕ). 1 * count k n)) 512 split-more (8 * i) t gs v (le-trans within (lit≤ tt)) h)
 
   row-out : (all : Bool) → length (t .m) ≡ 8 → Out (8 * i) t gs → Out (8 * suc i) (guarded all t row) (feed (laneTimes 52) 0 gs (map rate row))
   unfolding guarded
   row-out all long h = go all (notLow row) refl
     where
       splits : Out (8 * suc i) (feed splitStep 0 t row) (feed (laneTimes 52) 0 gs (map rate row))
-      splits = shifted Out splitStep split-again (feed-related splitStep (laneTimes 52) rate Value Out 64 split-out (8 * i) t gs v within h)
+      splits = shifted Out splitStep split-again (feed-related splitStep (laneTimes 52) rate Value Out 256 split-out (8 * i) t gs v within h)
 
       low : Each Guarded row ⊎ Hit row → Out (8 * suc i) (feed unsplitStep 0 t row) (feed (laneTimes 52) 0 gs (map rate row))
-      low (inl g) = shifted Out unsplitStep unsplit-again (feed-related unsplitStep (laneTimes 52) rate Guarded Out 64 unsplit-out (8 * i) t gs g within h)
+      low (inl g) = shifted Out unsplitStep unsplit-again (feed-related unsplitStep (laneTimes 52) rate Guarded Out 256 unsplit-out (8 * i) t gs g within h)
       low (inr k) = inr (lost-value 0 t row (k .lane) long (subst (λ (n : ℕ). k .lane < n) (sym eight) (k .below)) (k .lost))
 
       go : (a b : Bool) → notLow row ≡ b → Out (8 * suc i) (cond (not a && b) (feed unsplitStep 0 t row) (feed splitStep 0 t row)) (feed (laneTimes 52) 0 gs (map rate row))
@@ -360,7 +360,7 @@ pub record Mixed (all : Bool) (n : ℕ) (s : Lanes) (xs : List Float) (i : ℕ) 
   pub count-is : length xs ≡ 8 * i
   pub small : SmallLanes (n + 8192 * i) t
   pub waits : (fs : List Factor) → Held zeros s fs → Out (8 * i) t (feed (laneTimes 52) 0 fs (map rate xs))
-  pub held : all ≡ true → (fs : List Factor) → Held zeros s fs → Held (λ (k : ℕ). 121 * count k (8 * i)) t (feed (laneTimes 52) 0 fs (map rate xs))
+  pub held : all ≡ true → (fs : List Factor) → Held zeros s fs → Held (λ (k : ℕ). 1 * count k (8 * i)) t (feed (laneTimes 52) 0 fs (map rate xs))
   pub mark : (t .bad ≡ (s .bad || some isBad xs)) ⊎ (LostLane (t .m) × (all ≡ false))
 
 pub mixed-none : (all : Bool) (n : ℕ) (s : Lanes) → length (s .m) ≡ 8 → SmallLanes n s → Mixed all n s [] 0 s
@@ -377,11 +377,11 @@ mixed-none all n s l h = record {
         f-long = H .f-long;
         at = λ k i. waits-more 0 (depth (8 * 0) k) (mOf s k) (eOf s k) (getD fs k (unit 52)) zero-le (stands-waits (mOf s k) (eOf s k) (getD fs k (unit 52)) (H .at k i));
       });
-  held = λ e fs H. held-same zeros (λ (k : ℕ). 121 * count k (8 * 0)) s s fs fs refl refl refl (λ k a. zero-le) H;
+  held = λ e fs H. held-same zeros (λ (k : ℕ). 1 * count k (8 * 0)) s s fs fs refl refl refl (λ k a. zero-le) H;
   mark = inl (sym (or-none (s .bad)));
 }
 
-pub mixed-more : (all : Bool) (n : ℕ) (s : Lanes) (xs : List Float) (i : ℕ) (t u : Lanes) (row : List Float) → Mixed all n s xs i t → i < 8 → length row ≡ 8 → Each Value row → u ≡ guarded all t row → Mixed all n s (xs ++ row) (suc i) u
+pub mixed-more : (all : Bool) (n : ℕ) (s : Lanes) (xs : List Float) (i : ℕ) (t u : Lanes) (row : List Float) → Mixed all n s xs i t → i < 32 → length row ≡ 8 → Each Value row → u ≡ guarded all t row → Mixed all n s (xs ++ row) (suc i) u
 mixed-more all n s xs i t u row R l e v g =
     subst (Mixed all n s (xs ++ row) (suc i)) (sym g)
     (record {
@@ -390,8 +390,8 @@ mixed-more all n s xs i t u row R l e v g =
       small = lanes-le (n + 8192 * i + 8192) (n + 8192 * suc i) (guarded all t row) (omega arith) (guarded-small all (n + 8192 * i) t row e (R .small));
       waits = λ fs H. subst (Out (8 * suc i) (guarded all t row)) (sym (whole fs)) (row-out i t (feed (laneTimes 52) 0 fs (map rate xs)) row e l v all (R .long) (R .waits fs H));
       held = λ a fs H.
-          subst (Held (λ (k : ℕ). 121 * count k (8 * suc i)) (guarded all t row)) (sym (whole fs))
-          (subst (λ (w : Lanes). Held (λ (k : ℕ). 121 * count k (8 * suc i)) w (feed (laneTimes 52) 0 (feed (laneTimes 52) 0 fs (map rate xs)) (map rate row))) (every-split all t row a)
+          subst (Held (λ (k : ℕ). 1 * count k (8 * suc i)) (guarded all t row)) (sym (whole fs))
+          (subst (λ (w : Lanes). Held (λ (k : ℕ). 1 * count k (8 * suc i)) w (feed (laneTimes 52) 0 (feed (laneTimes 52) 0 fs (map rate xs)) (map rate row))) (every-split all t row a)
           (row-held i t (feed (laneTimes 52) 0 fs (map rate xs)) row e l v (R .held a fs H)));
       mark = marked (R .mark) (row-mark i t [] row e l v all (R .long));
     })
@@ -415,7 +415,7 @@ mixed-more all n s xs i t u row R l e v g =
         ∙ ap (λ (b : Bool). s .bad || b) (sym (some-append isBad xs row)))
 
 -- brought back, they are what the values make of the lanes, if all rows were split or no lane is lost
-pub mixed-fed : (all : Bool) (n : ℕ) (s : Lanes) (xs : List Float) (i : ℕ) (t : Lanes) → Mixed all n s xs i t → i ≤ 8 → (all || every notPast (t .m)) ≡ true → Fed s xs (renorm t)
+pub mixed-fed : (all : Bool) (n : ℕ) (s : Lanes) (xs : List Float) (i : ℕ) (t : Lanes) → Mixed all n s xs i t → i ≤ 32 → (all || every notPast (t .m)) ≡ true → Fed s xs (renorm t)
 mixed-fed all n s xs i t R l e = go all refl e
   where
     not-lost : every notPast (t .m) ≡ true → LostLane (t .m) → ⊥
@@ -431,7 +431,7 @@ mixed-fed all n s xs i t R l e = go all refl e
 
     go : (a : Bool) → all ≡ a → (a || every notPast (t .m)) ≡ true → Fed s xs (renorm t)
     go true a p = record {
-      held = λ fs H. renorm-held 968 (lit≤ tt) (feed (laneTimes 52) 0 fs (map rate xs)) (λ (k : ℕ). 121 * count k (8 * i)) t (λ k b. omega arith) (R .held a fs H);
+      held = λ fs H. renorm-held 968 (lit≤ tt) (feed (laneTimes 52) 0 fs (map rate xs)) (λ (k : ℕ). 1 * count k (8 * i)) t (λ k b. omega arith) (R .held a fs H);
       mark = λ fs H. marked (R .mark) (λ k f. true≢false (sym a ∙ f));
     }
     go false a p = record { held = λ fs H. back p (feed (laneTimes 52) 0 fs (map rate xs)) (R .waits fs H); mark = λ fs H. marked (R .mark) (λ k f. not-lost p k) }

@@ -47,7 +47,7 @@ module _ (all : Bool) (N : ℕ) (s : Lanes) (xs : List Float) (b d : ℤ) (n : �
       let l = length-strided xs (b +ℤ d *ℤ pos (8 * i)) d k in
       subst (Each Value) (sym (row-padded ys (subst (λ (m : ℕ). m ≤ 8) (sym l) h))) (padded-values ys (8 - length ys) (strided-values xs v (b +ℤ d *ℤ pos (8 * i)) d k))
 
-  module _ (v : (i : ℕ) → T (fits binary64 (getD xs i nan))) (i : ℕ) (t u : Lanes) (R : Rows all N s xs b d n i t) (few : i < 8) (more-left : 8 * i < n) (g : u ≡ guarded all t (rowOf (strided xs (b +ℤ d *ℤ pos (8 * i)) d (min 8 (n - 8 * i))))) where
+  module _ (v : (i : ℕ) → T (fits binary64 (getD xs i nan))) (i : ℕ) (t u : Lanes) (R : Rows all N s xs b d n i t) (few : i < 32) (more-left : 8 * i < n) (g : u ≡ guarded all t (rowOf (strided xs (b +ℤ d *ℤ pos (8 * i)) d (min 8 (n - 8 * i))))) where
     before : Mixed all N s (strided xs b d (8 * i)) i t
     before = R .whole (le-of-lt more-left)
 
@@ -73,7 +73,7 @@ module _ (all : Bool) (N : ℕ) (s : Lanes) (xs : List Float) (b d : ℤ) (n : �
     pub rows-next : Rows all N s xs b d n (suc i) u
     rows-next = record { long = joined .long; small = joined .small; whole = λ h. subst (λ (l : List Float). Mixed all N s l (suc i) u) (full h) joined; last = λ h. subst (λ (l : List Float). Mixed all N s l (suc i) u) (rest h) joined }
 
-  pub rows-fed : N ≤ 2 ^ 58 → (i : ℕ) (t : Lanes) → Rows all N s xs b d n i t → i ≤ 8 → n ≤ 8 * i → 8 * i < n + 8 → (all || every notPast (t .m)) ≡ true → Stepped s (strided xs b d n) t
+  pub rows-fed : N ≤ 2 ^ 58 → (i : ℕ) (t : Lanes) → Rows all N s xs b d n i t → i ≤ 32 → n ≤ 8 * i → 8 * i < n + 8 → (all || every notPast (t .m)) ≡ true → Stepped s (strided xs b d n) t
   rows-fed room i t R few up down ok = go (ltb n (8 * i)) refl
     where
       go : (c : Bool) → ltb n (8 * i) ≡ c → Stepped s (strided xs b d n) t

@@ -19,7 +19,7 @@ pub record Progress (left hold done : ℕ) : Type 0 where
   pub rows : (done % 8 ≡ 0) ⊎ (done ≡ left)
   pub moves : 0 < left → done ≡ 0 → hold ≡ 0
 
--- blocks that are guarded before the next try
+-- steps that are guarded before the next try
 unfoldable pub holdAfter : ℕ → ℕ → ℕ
-holdAfter hold zero = 64
+holdAfter hold zero = 16
 holdAfter hold (suc n) = hold - 1

@@ -17,12 +17,12 @@ use kernels::blocks::Lanes;
 
 const LANES: usize = StableProductFloatAcc::LANES;
 
-// Rows that lanes wait for at most, the values of a block, and blocks from a failed try to the next.
+// Rows that lanes wait for at most, values that are guarded together, and such steps from a failed try to the next.
 const MOST_ROWS: usize = 64;
 
-const BLOCK: usize = StableProductFloatAcc::BLOCK;
+const GUARDED: usize = 256;
 
-const HOLD: usize = 64;
+const HOLD: usize = 16;
 
 // Lanes that wait to be brought back, and how many values went to them.
 pub struct Step {
@@ -107,10 +107,10 @@ fn tried(s: Lanes, values: &[f64], start: i64, stride: i64, rows: usize) -> Step
     Step { lanes: s, done: 0 }
 }
 
-// Up to a block of 64 values, a row split where it must be, or all of them. Unless all are, the lanes count only if none is infinite or a NaN.
+// Up to 256 values, a row split where it must be, or all of them. Unless all are, the lanes count only if none is infinite or a NaN.
 // m, e and bad are kept apart: copied as a whole, lanes take the bytes that fill them up with them, row after row.
 fn rows_in(s: Lanes, values: &[f64], start: i64, stride: i64, len: usize, all: bool) -> Lanes
-    requires { ⌜ SmallLanes (2 ^ 56) s × (length (s .m) ≡ 8) × (len ≤ 64) × Inside (length (now values)) start stride len ⌝ }
+    requires { ⌜ SmallLanes (2 ^ 56) s × (length (s .m) ≡ 8) × (len ≤ 256) × Inside (length (now values)) start stride len ⌝ }
     ensures { λ r. ⌜ ((all || every notPast (r .m)) ≡ true → Stepped s (strided (now (values .entry)) start stride len) r) ⌝ }
     ensures long { λ r. ⌜ length (r .m) ≡ 8 ⌝ }
 {
@@ -134,9 +134,9 @@ fn rows_in(s: Lanes, values: &[f64], start: i64, stride: i64, len: usize, all: b
     Lanes { m, e, bad }
 }
 
-// Up to a block of 64 values. If a lane ends infinite or a NaN, the block is done again, every row split.
+// Up to 256 values. If a lane ends infinite or a NaN, they are done again, every row split.
 fn guarded(s: Lanes, values: &[f64], start: i64, stride: i64, len: usize) -> Lanes
-    requires { ⌜ SmallLanes (2 ^ 56) s × (length (s .m) ≡ 8) × (len ≤ 64) × Inside (length (now values)) start stride len ⌝ }
+    requires { ⌜ SmallLanes (2 ^ 56) s × (length (s .m) ≡ 8) × (len ≤ 256) × Inside (length (now values)) start stride len ⌝ }
     ensures { λ r. ⌜ Stepped s (strided (now (values .entry)) start stride len) r ⌝ }
 {
     let mut t = s;
@@ -170,12 +170,12 @@ fn next_step(s: Lanes, values: &[f64], at: i64, stride: i64, left: usize, hold: 
             return tried(s, values, at, stride, n);
         }
     }
-    let done = least(BLOCK, left);
+    let done = least(GUARDED, left);
     let lanes = guarded(s, values, at, stride, done);
     Step { lanes, done }
 }
 
-// After a try that failed, so many blocks are guarded before the next.
+// After a try that failed, so many steps are guarded before the next.
 fn next_hold(hold: usize, done: usize) -> usize
     ensures { λ r. ⌜ r ≡ holdAfter hold done ⌝ }
 {

@@ -25,19 +25,19 @@ tried-progress left hold n done e h l (inl d) = record { upto = omega arith; row
     whole n d = omega arith
 tried-progress left hold n done e h l (inr d) = record { upto = omega arith; rows = inl (ap (λ (k : ℕ). k % 8) d); moves = λ p z. h }
 
--- a block, or all that is left
-guarded-progress : (left hold done : ℕ) → done ≡ min 64 left → Progress left hold done
-guarded-progress left hold done e = record { upto = omega arith; rows = go (ltb left 64) refl; moves = λ p z. absurd (omega arith) }
+-- 256 values, or all that is left
+guarded-progress : (left hold done : ℕ) → done ≡ min 256 left → Progress left hold done
+guarded-progress left hold done e = record { upto = omega arith; rows = go (ltb left 256) refl; moves = λ p z. absurd (omega arith) }
   where
-    all : left < 64 → done ≡ left
+    all : left < 256 → done ≡ left
     all h = omega arith
 
-    block : 64 ≤ left → done % 8 ≡ 0
-    block h = ap (λ (k : ℕ). k % 8) (let z : done ≡ 64 = omega arith in z)
+    block : 256 ≤ left → done % 8 ≡ 0
+    block h = ap (λ (k : ℕ). k % 8) (let z : done ≡ 256 = omega arith in z)
 
-    go : (b : Bool) → ltb left 64 ≡ b → (done % 8 ≡ 0) ⊎ (done ≡ left)
-    go true q = inr (all (ltb-true left 64 q))
-    go false q = inl (block (ltb-false left 64 q))
+    go : (b : Bool) → ltb left 256 ≡ b → (done % 8 ≡ 0) ⊎ (done ≡ left)
+    go true q = inr (all (ltb-true left 256 q))
+    go false q = inl (block (ltb-false left 256 q))
 
 least-requires : tie.Need-least-requires
 least-requires c κs = search needs
@@ -74,10 +74,10 @@ guarded-requires c κs =
     simp (toZ-ofZ w64 (s .args .at) (s .fits .at), toZ-ofZ w64 (s .args .stride) (s .fits .stride))
     (s .pre .0, s .pre .1, few _ _ e, inside-less (length (s .args .values .now)) (s .args .at) (s .args .stride) (s .args .left) (c .least2 .result) (s .pre .3) (within _ _ e))
   where
-    few : (n l : ℕ) → n ≡ min 64 l → n ≤ 64
+    few : (n l : ℕ) → n ≡ min 256 l → n ≤ 256
     few n l e = omega arith
 
-    within : (n l : ℕ) → n ≡ min 64 l → n ≤ l
+    within : (n l : ℕ) → n ≡ min 256 l → n ≤ l
     within n l e = omega arith
 
 returns-2 : tie.Need-returns-2
