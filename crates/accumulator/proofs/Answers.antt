@@ -6,9 +6,9 @@ use native.Mathlib.Nat.{le-trans}
 use lib.IntN.{natAbs}
 use lib.Dec.{lit≤}
 use borrow.Author.Tests.{leb-true}
-use Rattle.binary64.specs.Magnitude.{inUnit}
+use Rattle.floats.specs.Magnitude.{inUnit}
 use Rattle.accumulator.specs.declared.StableProductFloatAcc.{StableProductFloatAcc}
-use Rattle.accumulator.specs.Joining.{combined, withinLimit, stands, Told, accumulator, refusal, answered, joined}
+use Rattle.accumulator.specs.Joining.{combined, withinLimit, inLimits, Answer, accumulator, refusal, answered, joined}
 use Rattle.accumulator.proofs.Combining.{combined-bad}
 
 and-both : (p q : Bool) → (p && q) ≡ true → (p ≡ true) × (q ≡ true)
@@ -17,42 +17,42 @@ and-both true false h = absurd (true≢false (sym h))
 and-both false q h = absurd (true≢false (sym h))
 
 -- ---- what it is to stand
-pub stands-unit : (a : StableProductFloatAcc) → stands a ≡ true → inUnit (a .m) ≡ true
-unfolding stands
+pub stands-unit : (a : StableProductFloatAcc) → inLimits a ≡ true → inUnit (a .m) ≡ true
+unfolding inLimits
 stands-unit a h = and-both (inUnit (a .m)) (withinLimit (a .e)) h .0
 
-pub stands-limit : (a : StableProductFloatAcc) → stands a ≡ true → withinLimit (a .e) ≡ true
-unfolding stands
+pub stands-limit : (a : StableProductFloatAcc) → inLimits a ≡ true → withinLimit (a .e) ≡ true
+unfolding inLimits
 stands-limit a h = and-both (inUnit (a .m)) (withinLimit (a .e)) h .1
 
-pub stands-small : (a : StableProductFloatAcc) → stands a ≡ true → natAbs (a .e) ≤ 2 ^ 61
+pub stands-small : (a : StableProductFloatAcc) → inLimits a ≡ true → natAbs (a .e) ≤ 2 ^ 61
 stands-small a h = le-trans (leb-true (natAbs (a .e)) (2 ^ 52) (stands-limit a h)) (lit≤ tt)
 
 -- ---- the answer
 module _ (a b : StableProductFloatAcc) where
-  abbrev whole : Told
+  abbrev whole : Answer
   whole = accumulator (combined a b .m) (combined a b .e) (combined a b .bad)
 
-  abbrev second : Bool → Told
+  abbrev second : Bool → Answer
   second t = cond (not (a .bad || b .bad) && not t) (refusal 10) whole
 
-  pub refused-left : stands a ≡ false → refusal 9 ≡ joined a b
+  pub refused-left : inLimits a ≡ false → refusal 9 ≡ joined a b
   unfolding joined
-  refused-left h = ap (λ (t : Bool). cond (not (t && stands b)) (refusal 9) (answered a b)) (sym h)
+  refused-left h = ap (λ (t : Bool). cond (not (t && inLimits b)) (refusal 9) (answered a b)) (sym h)
 
-  pub refused-right : stands a ≡ true → stands b ≡ false → refusal 9 ≡ joined a b
+  pub refused-right : inLimits a ≡ true → inLimits b ≡ false → refusal 9 ≡ joined a b
   unfolding joined
-  refused-right h k = ap (λ (t : Bool). cond (not (true && t)) (refusal 9) (answered a b)) (sym k) ∙ ap (λ (t : Bool). cond (not (t && stands b)) (refusal 9) (answered a b)) (sym h)
+  refused-right h k = ap (λ (t : Bool). cond (not (true && t)) (refusal 9) (answered a b)) (sym k) ∙ ap (λ (t : Bool). cond (not (t && inLimits b)) (refusal 9) (answered a b)) (sym h)
 
-  given : stands a ≡ true → stands b ≡ true → answered a b ≡ joined a b
+  given : inLimits a ≡ true → inLimits b ≡ true → answered a b ≡ joined a b
   unfolding joined
-  given h k = ap (λ (t : Bool). cond (not (true && t)) (refusal 9) (answered a b)) (sym k) ∙ ap (λ (t : Bool). cond (not (t && stands b)) (refusal 9) (answered a b)) (sym h)
+  given h k = ap (λ (t : Bool). cond (not (true && t)) (refusal 9) (answered a b)) (sym k) ∙ ap (λ (t : Bool). cond (not (t && inLimits b)) (refusal 9) (answered a b)) (sym h)
 
   and-no : (p : Bool) → (p && false) ≡ false
   and-no true = refl
   and-no false = refl
 
-  pub accepted : stands a ≡ true → stands b ≡ true → withinLimit (combined a b .e) ≡ true → whole ≡ joined a b
+  pub accepted : inLimits a ≡ true → inLimits b ≡ true → withinLimit (combined a b .e) ≡ true → whole ≡ joined a b
   unfolding answered
   accepted h k l =
       ap (λ (t : Bool). cond t (refusal 10) whole) (sym (and-no (not (a .bad || b .bad))))
@@ -60,14 +60,14 @@ module _ (a b : StableProductFloatAcc) where
       ∙ given h k
 
   -- a bad one keeps the left e, which is within the limit
-  good : stands a ≡ true → withinLimit (combined a b .e) ≡ false → (a .bad || b .bad) ≡ false
+  good : inLimits a ≡ true → withinLimit (combined a b .e) ≡ false → (a .bad || b .bad) ≡ false
   good h l = go (a .bad || b .bad) refl
     where
       go : (t : Bool) → (a .bad || b .bad) ≡ t → (a .bad || b .bad) ≡ false
       go true e = absurd (true≢false (sym (stands-limit a h) ∙ ap (λ (r : StableProductFloatAcc). withinLimit (r .e)) (sym (combined-bad a b e)) ∙ l))
       go false e = e
 
-  pub refused-joined : stands a ≡ true → stands b ≡ true → withinLimit (combined a b .e) ≡ false → refusal 10 ≡ joined a b
+  pub refused-joined : inLimits a ≡ true → inLimits b ≡ true → withinLimit (combined a b .e) ≡ false → refusal 10 ≡ joined a b
   unfolding answered
   refused-joined h k l =
       ap (λ (t : Bool). cond (not t && true) (refusal 10) whole) (sym (good h l))
@@ -75,7 +75,7 @@ module _ (a b : StableProductFloatAcc) where
       ∙ given h k
 
   -- a bad one gives the left m and e and the mark
-  pub joined-bad : stands a ≡ true → stands b ≡ true → (a .bad || b .bad) ≡ true → joined a b ≡ accumulator (a .m) (a .e) true
+  pub joined-bad : inLimits a ≡ true → inLimits b ≡ true → (a .bad || b .bad) ≡ true → joined a b ≡ accumulator (a .m) (a .e) true
   joined-bad h k q =
       sym (accepted h k (ap (λ (r : StableProductFloatAcc). withinLimit (r .e)) (combined-bad a b q) ∙ stands-limit a h))
       ∙ ap (λ (r : StableProductFloatAcc). accumulator (r .m) (r .e) (r .bad)) (combined-bad a b q)

@@ -6,9 +6,9 @@ use lib.IntN.{ℤ, pos, natAbs, _+ℤ_}
 use lib.Ieee.{Float, mul, ofBits, binary64}
 use mir.Syntax.{w64}
 use mir.Val.{toZ, ofZ}
-use Rattle.binary64.specs.Product.{productOf}
-use Rattle.binary64.specs.Magnitude.{twoOrMore}
-use Rattle.binary64.proofs.Product.{mul-binary64}
+use Rattle.floats.specs.Product.{productOf}
+use Rattle.floats.specs.Magnitude.{twoOrMore}
+use Rattle.floats.proofs.Product.{mul-binary64}
 use Rattle.accumulator.specs.declared.StableProductFloatAcc.{StableProductFloatAcc}
 use Rattle.accumulator.specs.Joining.{half, multiplied, combined}
 use Rattle.accumulator.proofs.Exponents.{held, sum, sum-held, more-held}

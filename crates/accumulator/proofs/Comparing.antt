@@ -10,7 +10,7 @@ use lib.Dec.{ltb, leb, eqb}
 use lib.Ieee.{Float, nan, inf, fin, up, down, le, lt, neg, ofBits, binary64}
 use lib.Ieee.Fits.{down-pos}
 use borrow.Author.Tests.{lt-ltb, le-ltb, lt-leb, eq-eqb, ne-eqb, eqb-true, eqb-false, leb-true, leb-false}
-use Rattle.binary64.specs.Magnitude.{inUnit, twoOrMore}
+use Rattle.floats.specs.Magnitude.{inUnit, twoOrMore}
 
 -- ---- tests on numbers
 -- a < b or a = b

@@ -9,7 +9,7 @@ use lib.Signed.{mag, leZ}
 use mir.Syntax.{w64}
 use mir.Val.{SFits, toZ, ofZ}
 use mir.ValLaws.{toZ-ofZ}
-use Rattle.binary64.proofs.Factor.{add-size}
+use Rattle.floats.proofs.Factor.{add-size}
 use Rattle.accumulator.specs.Joining.{withinLimit}
 
 -- ---- sizes

@@ -8,27 +8,27 @@ use native.Mathlib.Omega.{arith}
 use lib.IntN.{ℤ, pos, natAbs, _+ℤ_, +ℤ-idr}
 use lib.Dec.{T, lit<}
 use lib.Ieee.{Float, binary64, fits}
-use Rattle.binary64.specs.Product.{productOf}
-use Rattle.binary64.specs.Factor.{Factor, Normal, unit, times, floatOf}
-use Rattle.binary64.specs.Magnitude.{inUnit, twoOrMore, factorAt, moved}
-use Rattle.binary64.proofs.Bridge.{floatOf-fits}
-use Rattle.binary64.proofs.Magnitude.{unit-float, below-two, from-two, factor-at-float}
-use Rattle.binary64.proofs.Units.{both, up, both-normal, up-le, unit-product, halved}
+use Rattle.floats.specs.Product.{productOf}
+use Rattle.floats.specs.Factor.{Factor, Normalised, unit, times, floatOf}
+use Rattle.floats.specs.Magnitude.{inUnit, twoOrMore, factorAt, withExponent}
+use Rattle.floats.proofs.Bridge.{floatOf-fits}
+use Rattle.floats.proofs.Magnitude.{unit-float, below-two, from-two, factor-at-float}
+use Rattle.floats.proofs.Units.{both, up, both-normal, up-le, unit-product, halved}
 use borrow.Author.Tests.{leb-true}
 use Rattle.accumulator.specs.declared.StableProductFloatAcc.{StableProductFloatAcc}
-use Rattle.accumulator.specs.Joining.{identityAcc, factorOfAcc, half, multiplied, combined, withinLimit, stands, accumulator, refusal, joined}
+use Rattle.accumulator.specs.Joining.{identityAcc, factorOfAcc, half, multiplied, combined, withinLimit, inLimits, accumulator, refusal, joined}
 use Rattle.accumulator.proofs.Combining.{multiplied-two, multiplied-less, combined-bad, combined-good}
 use Rattle.accumulator.proofs.Answers.{stands-unit, refused-left, refused-right, accepted, refused-joined}
 
 -- ---- joining two that are not bad
 -- m is the float of `times` at the exponent 0, and e the sum of the exponents with the carry
 pub record Settled (h : Factor) (c : ℕ) (e d : ℤ) (r : StableProductFloatAcc) : Type 0 where
-  pub m-is : r .m ≡ floatOf 11 52 (moved h (pos 0))
+  pub m-is : r .m ≡ floatOf 11 52 (withExponent h (pos 0))
   pub e-is : r .e ≡ e +ℤ d +ℤ pos c
   pub mark : r .bad ≡ false
 
 module _ (a b : StableProductFloatAcc) (fa : T (fits binary64 (a .m))) (fb : T (fits binary64 (b .m))) (ua : inUnit (a .m) ≡ true) (ub : inUnit (b .m) ≡ true) where
-  N : Normal 52 (both (a .m) (b .m) fa fb ua ub)
+  N : Normalised 52 (both (a .m) (b .m) fa fb ua ub)
   N = both-normal (a .m) (b .m) fa fb ua ub
 
   pub settled : Settled (both (a .m) (b .m) fa fb ua ub) (up (a .m) (b .m) fa fb ua ub) (a .e) (b .e) (multiplied a b)
@@ -37,10 +37,10 @@ module _ (a b : StableProductFloatAcc) (fa : T (fits binary64 (a .m))) (fb : T (
       k : Factor
       k = both (a .m) (b .m) fa fb ua ub
 
-      two-is : (c : Bool) (z : ℤ) → productOf 11 52 (a .m) (b .m) ≡ floatOf 11 52 (moved k z) → twoOrMore (floatOf 11 52 (moved k z)) ≡ c → twoOrMore (productOf 11 52 (a .m) (b .m)) ≡ c
+      two-is : (c : Bool) (z : ℤ) → productOf 11 52 (a .m) (b .m) ≡ floatOf 11 52 (withExponent k z) → twoOrMore (floatOf 11 52 (withExponent k z)) ≡ c → twoOrMore (productOf 11 52 (a .m) (b .m)) ≡ c
       two-is c z p q = ap twoOrMore p ∙ q
 
-      go : (c : ℕ) → c ≤ 1 → productOf 11 52 (a .m) (b .m) ≡ floatOf 11 52 (moved k (pos c)) → Settled k c (a .e) (b .e) (multiplied a b)
+      go : (c : ℕ) → c ≤ 1 → productOf 11 52 (a .m) (b .m) ≡ floatOf 11 52 (withExponent k (pos c)) → Settled k c (a .e) (b .e) (multiplied a b)
       go zero l p =
           let w = multiplied-less a b (two-is false (pos 0) p (below-two binary64 11 52 refl refl (lit< tt) k N)) in
           record {
@@ -61,7 +61,7 @@ module _ (a b : StableProductFloatAcc) (fa : T (fits binary64 (a .m))) (fb : T (
   multiplied-unit = ap inUnit (settled .m-is) ∙ unit-float binary64 11 52 refl refl (lit< tt) (both (a .m) (b .m) fa fb ua ub) N
 
   pub multiplied-fits : T (fits binary64 (multiplied a b .m))
-  multiplied-fits = subst (λ (x : Float). T (fits binary64 x)) (sym (settled .m-is)) (floatOf-fits binary64 11 52 refl refl (moved (both (a .m) (b .m) fa fb ua ub) (pos 0)))
+  multiplied-fits = subst (λ (x : Float). T (fits binary64 x)) (sym (settled .m-is)) (floatOf-fits binary64 11 52 refl refl (withExponent (both (a .m) (b .m) fa fb ua ub) (pos 0)))
 
   -- the joined factor is `times` of the two
   pub multiplied-times : factorOfAcc (multiplied a b) ≡ times 52 (factorOfAcc a) (factorOfAcc b)
@@ -71,12 +71,12 @@ module _ (a b : StableProductFloatAcc) (fa : T (fits binary64 (a .m))) (fb : T (
       let e = multiplied a b .e in
       ap (λ (x : Float). factorAt 52 x e) (settled .m-is)
       ∙ factor-at-float binary64 11 52 refl refl (lit< tt) k e N
-      ∙ ap (moved k) (settled .e-is)
+      ∙ ap (withExponent k) (settled .e-is)
 
 -- ---- every accepted answer
 pub record Accepted (a b : StableProductFloatAcc) (m : Float) (e : ℤ) (q : Bool) : Type 0 where
-  pub left : stands a ≡ true
-  pub right : stands b ≡ true
+  pub left : inLimits a ≡ true
+  pub right : inLimits b ≡ true
   pub m-is : m ≡ combined a b .m
   pub e-is : e ≡ combined a b .e
   pub q-is : q ≡ combined a b .bad
@@ -87,7 +87,7 @@ refusal-no n m e q p = let z : _≡_ {A = ℕ} 0 1 = cc in omega arith
 
 -- an answer that is an accumulator is the combined one, of two that stand
 pub accepted-is : (a b : StableProductFloatAcc) (m : Float) (e : ℤ) (q : Bool) → joined a b ≡ accumulator m e q → Accepted a b m e q
-accepted-is a b m e q p = first (stands a) refl
+accepted-is a b m e q p = first (inLimits a) refl
   where
     r : StableProductFloatAcc
     r = combined a b
@@ -101,18 +101,18 @@ accepted-is a b m e q p = first (stands a) refl
     q-same : accumulator (r .m) (r .e) (r .bad) ≡ accumulator m e q → q ≡ r .bad
     q-same w = cc
 
-    third : stands a ≡ true → stands b ≡ true → (t : Bool) → withinLimit (r .e) ≡ t → Accepted a b m e q
+    third : inLimits a ≡ true → inLimits b ≡ true → (t : Bool) → withinLimit (r .e) ≡ t → Accepted a b m e q
     third h k true l =
         let w = accepted a b h k l ∙ p in
         record { left = h; right = k; m-is = m-same w; e-is = e-same w; q-is = q-same w; limit = ap (λ (z : ℤ). withinLimit z) (e-same w) ∙ l }
     third h k false l = absurd (refusal-no 10 m e q (refused-joined a b h k l ∙ p))
 
-    second : stands a ≡ true → (t : Bool) → stands b ≡ t → Accepted a b m e q
+    second : inLimits a ≡ true → (t : Bool) → inLimits b ≡ t → Accepted a b m e q
     second h true k = third h k (withinLimit (r .e)) refl
     second h false k = absurd (refusal-no 9 m e q (refused-right a b h k ∙ p))
 
-    first : (t : Bool) → stands a ≡ t → Accepted a b m e q
-    first true h = second h (stands b) refl
+    first : (t : Bool) → inLimits a ≡ t → Accepted a b m e q
+    first true h = second h (inLimits b) refl
     first false h = absurd (refusal-no 9 m e q (refused-left a b h ∙ p))
 
 module _ (a b : StableProductFloatAcc) (fa : T (fits binary64 (a .m))) (fb : T (fits binary64 (b .m))) (m : Float) (e : ℤ) (q : Bool) (p : joined a b ≡ accumulator m e q) where
@@ -164,6 +164,6 @@ pub identity-factor : factorOfAcc identityAcc ≡ unit 52
 unfolding factorAt
 identity-factor = refl
 
-pub identity-stands : stands identityAcc ≡ true
-unfolding stands inUnit
+pub identity-stands : inLimits identityAcc ≡ true
+unfolding inLimits inUnit
 identity-stands = refl

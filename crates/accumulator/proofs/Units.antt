@@ -8,14 +8,14 @@ use lib.Ieee.{Float, binary64, fits, mul}
 use mir.Syntax.{w64}
 use mir.Val.{SFits, toZ, ofZ}
 use mir.ValLaws.{toZ-ofZ}
-use Rattle.binary64.specs.declared.Split.{Split}
-use Rattle.binary64.specs.Factor.{Factor, floatOf}
-use Rattle.binary64.specs.Magnitude.{inUnit, moved}
-use Rattle.binary64.specs.Splitting.{rate, split}
-use Rattle.binary64.proofs.Product.{mul-binary64}
-use Rattle.binary64.proofs.Magnitude.{near-range, moved-normal}
-use Rattle.binary64.proofs.Splitting.{split-m, split-e, float-rate}
-use Rattle.binary64.proofs.Units.{both, up, both-normal, up-le, unit-product}
+use Rattle.floats.specs.declared.Split.{Split}
+use Rattle.floats.specs.Factor.{Factor, floatOf}
+use Rattle.floats.specs.Magnitude.{inUnit, withExponent}
+use Rattle.floats.specs.Splitting.{rateFactor, split}
+use Rattle.floats.proofs.Product.{mul-binary64}
+use Rattle.floats.proofs.Magnitude.{near-range, moved-normal}
+use Rattle.floats.proofs.Splitting.{split-m, split-e, float-rate}
+use Rattle.floats.proofs.Units.{both, up, both-normal, up-le, unit-product}
 use Rattle.accumulator.specs.declared.StableProductFloatAcc.{StableProductFloatAcc}
 use Rattle.accumulator.specs.Joining.{multiplied, combined}
 use Rattle.accumulator.proofs.Exponents.{sum, near-fits, near-held}
@@ -36,15 +36,15 @@ module _ (a b : StableProductFloatAcc) (fa : T (fits binary64 (a .m))) (fb : T (
   abbrev raw : Float
   raw = mul binary64 (a .m) (b .m)
 
-  raw-rate : rate raw ≡ moved k (pos c)
+  raw-rate : rateFactor raw ≡ withExponent k (pos c)
   raw-rate =
-      ap rate (mul-binary64 (a .m) (b .m) ∙ unit-product (a .m) (b .m) fa fb ua ub)
-      ∙ float-rate (moved k (pos c)) (moved-normal 52 k (pos c) (both-normal (a .m) (b .m) fa fb ua ub)) (near-range binary64 11 52 refl refl (lit< tt) k c c-le)
+      ap rateFactor (mul-binary64 (a .m) (b .m) ∙ unit-product (a .m) (b .m) fa fb ua ub)
+      ∙ float-rate (withExponent k (pos c)) (moved-normal 52 k (pos c) (both-normal (a .m) (b .m) fa fb ua ub)) (near-range binary64 11 52 refl refl (lit< tt) k c c-le)
 
   -- the code's way, from what it holds of the split
   module _ (p : Split) (is : p ≡ split raw) (hx : natAbs (a .e) ≤ 2 ^ 61) (hy : natAbs (b .e) ≤ 2 ^ 61) (pe : SFits w64 (p .e)) where
     m-is : p .m ≡ multiplied a b .m
-    m-is = ap (λ (s : Split). s .m) is ∙ split-m raw ∙ ap (λ (f : Factor). floatOf 11 52 (moved f (pos 0))) raw-rate ∙ sym (settled a b fa fb ua ub .m-is)
+    m-is = ap (λ (s : Split). s .m) is ∙ split-m raw ∙ ap (λ (f : Factor). floatOf 11 52 (withExponent f (pos 0))) raw-rate ∙ sym (settled a b fa fb ua ub .m-is)
 
     e-is : toZ w64 (ofZ w64 (p .e)) ≡ pos c
     e-is = toZ-ofZ w64 (p .e) pe ∙ ap (λ (s : Split). s .e) is ∙ split-e raw ∙ ap (λ (f : Factor). f .exp) raw-rate

@@ -4,9 +4,9 @@ use mathlib.Core.Bool.{Bool, true, false, not, cond, _&&_, _||_}
 use lib.IntN.{ℤ, pos, negsuc, natAbs, _+ℤ_}
 use lib.Dec.{leb}
 use lib.Ieee.{Float, fin}
-use Rattle.binary64.specs.Product.{productOf}
-use Rattle.binary64.specs.Factor.{Factor}
-use Rattle.binary64.specs.Magnitude.{inUnit, twoOrMore, factorAt}
+use Rattle.floats.specs.Product.{productOf}
+use Rattle.floats.specs.Factor.{Factor}
+use Rattle.floats.specs.Magnitude.{inUnit, twoOrMore, factorAt}
 use Rattle.accumulator.specs.declared.StableProductFloatAcc.{StableProductFloatAcc}
 use Rattle.accumulator.specs.declared.Reduced.{Reduced}
 use Rattle.accumulator.specs.declared.Reduced.the-variants.{Acc, Refused}
@@ -39,26 +39,26 @@ abbrev pub withinLimit : ℤ → Bool
 withinLimit e = leb (natAbs e) (2 ^ 52)
 
 -- what refusal 9 asks of a given accumulator, bad or not: 1 <= |m| < 2 and |e| <= 2^52
-unfoldable pub stands : StableProductFloatAcc → Bool
-stands a = inUnit (a .m) && withinLimit (a .e)
+unfoldable pub inLimits : StableProductFloatAcc → Bool
+inLimits a = inUnit (a .m) && withinLimit (a .e)
 
 -- What an answer tells: an accumulator's values, or a refusal's number with nothing beside it.
-pub data Told : Type 0 where
-  accumulator : Float → ℤ → Bool → Told
-  refusal : ℕ → Told
+pub data Answer : Type 0 where
+  accumulator : Float → ℤ → Bool → Answer
+  refusal : ℕ → Answer
 
-abbrev pub told : Reduced → Told
-told (Acc a) = accumulator (a .m) (a .e) (a .bad)
-told (Refused n) = refusal n
+abbrev pub answerOf : Reduced → Answer
+answerOf (Acc a) = accumulator (a .m) (a .e) (a .bad)
+answerOf (Refused n) = refusal n
 
 -- of two that stand: 10 if neither is bad and the joined |e| would be above 2^52; else the joined accumulator
-unfoldable pub answered : StableProductFloatAcc → StableProductFloatAcc → Told
+unfoldable pub answered : StableProductFloatAcc → StableProductFloatAcc → Answer
 unfolding combined
 answered a b =
     let r = combined a b in
     cond (not (a .bad || b .bad) && not (withinLimit (r .e))) (refusal 10) (accumulator (r .m) (r .e) (r .bad))
 
 -- 9 if either does not stand
-unfoldable pub joined : StableProductFloatAcc → StableProductFloatAcc → Told
-unfolding stands answered
-joined a b = cond (not (stands a && stands b)) (refusal 9) (answered a b)
+unfoldable pub joined : StableProductFloatAcc → StableProductFloatAcc → Answer
+unfolding inLimits answered
+joined a b = cond (not (inLimits a && inLimits b)) (refusal 9) (answered a b)

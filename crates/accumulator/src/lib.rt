@@ -3,8 +3,8 @@ ghost use mathlib.Core.Path.{_≡_};
 ghost use mathlib.Core.Bool.{true};
 ghost use Prim.Native.Nat.{_^_, _≤_};
 ghost use lib.IntN.{natAbs};
-ghost use Rattle.binary64.specs.Magnitude.{inUnit, twoOrMore};
-ghost use Rattle.accumulator.specs.Joining.{identityAcc, combined, withinLimit, stands, told, joined};
+ghost use Rattle.floats.specs.Magnitude.{inUnit, twoOrMore};
+ghost use Rattle.accumulator.specs.Joining.{identityAcc, combined, withinLimit, inLimits, answerOf, joined};
 
 // The largest exponent, either way, of an accumulator that is given or answered: 2^52.
 const LIMIT: i64 = 4503599627370496;
@@ -71,7 +71,7 @@ fn within_limit(e: i64) -> bool
 
 // What refusal 9 asks of a given accumulator, bad or not.
 pub fn stands_up(a: StableProductFloatAcc) -> bool
-    ensures { λ r. ⌜ r ≡ stands a ⌝ }
+    ensures { λ r. ⌜ r ≡ inLimits a ⌝ }
 {
     in_unit(a.m) && within_limit(a.e)
 }
@@ -118,7 +118,7 @@ pub fn combine_units(
         kept.bad = true;
         return kept;
     }
-    let p = binary64::split_f64(lhs.m * rhs.m);
+    let p = floats::split_f64(lhs.m * rhs.m);
     let e = lhs.e + rhs.e;
     let raised = e + p.e;
     StableProductFloatAcc {
@@ -130,7 +130,7 @@ pub fn combine_units(
 
 // Joins two accumulators, the first on the left.
 pub fn join(a: StableProductFloatAcc, b: StableProductFloatAcc) -> Reduced
-    ensures { λ r. ⌜ told r ≡ joined a b ⌝ }
+    ensures { λ r. ⌜ answerOf r ≡ joined a b ⌝ }
 {
     if !stands_up(a) {
         return Reduced::Refused(GIVEN_OUT_OF_RANGE);

@@ -12,12 +12,13 @@ use Rattle.accumulator.proofs.Reduced.{the-type}
 use Rattle.accumulator.specs.declared.StableProductFloatAcc.{StableProductFloatAcc}
 use Rattle.accumulator.specs.declared.Reduced.{Reduced}
 use Rattle.accumulator.specs.declared.Reduced.the-variants.{Acc, Refused}
-use Rattle.accumulator.specs.Joining.{factorOfAcc, stands}
+use Rattle.accumulator.specs.Joining.{factorOfAcc, inLimits}
 use Rattle.accumulator.proofs.Answers.{stands-unit}
-use Rattle.binary64.specs.Factor.{floatOf}
-use Rattle.binary64.proofs.Magnitude.{at-normal}
+use Rattle.floats.specs.Factor.{floatOf}
+use Rattle.floats.proofs.Magnitude.{at-normal}
 use Rattle.finishing.specs.Once.{roundedOnce}
-use Rattle.finishing.specs.Finishing.{codeOf, Ended, value, refusal, valueOfAcc, finishedOf}
+use Rattle.finishing.specs.InnerFinishing.{codeOf}
+use Rattle.finishing.specs.Finishing.{FinalAnswer, value, refusal, valueOfAcc, finishedOf}
 use Rattle.finishing.proofs.Once.{once-is}
 
 -- ---- by the tag of an answer: 0 is an accumulator, 1 a refusal
@@ -37,26 +38,26 @@ handed-out (Refused n) h = refl
 
 -- ---- an accumulator
 module _ (r : Reduced) (a : StableProductFloatAcc) (p : r ≡ Acc a) where
-  abbrev at : Bool → Bool → Ended
+  abbrev at : Bool → Bool → FinalAnswer
   at s b = cond (not s) (refusal 9) (value (cond b nan (roundedOnce (factorOfAcc a))))
 
-  by-tests : (s b : Bool) → stands a ≡ s → a .bad ≡ b → at s b ≡ finishedOf r
+  by-tests : (s b : Bool) → inLimits a ≡ s → a .bad ≡ b → at s b ≡ finishedOf r
   unfolding finishedOf valueOfAcc
-  by-tests s b h k = ap (λ (t : Bool). at t b) (sym h) ∙ ap (at (stands a)) (sym k) ∙ sym (ap finishedOf p)
+  by-tests s b h k = ap (λ (t : Bool). at t b) (sym h) ∙ ap (at (inLimits a)) (sym k) ∙ sym (ap finishedOf p)
 
-  pub refused : stands a ≡ false → refusal 9 ≡ finishedOf r
+  pub refused : inLimits a ≡ false → refusal 9 ≡ finishedOf r
   refused h = by-tests false (a .bad) h refl
 
   -- 0 / 0 is the NaN
-  pub bad-nan : stands a ≡ true → a .bad ≡ true → value (div binary64 (ofBits binary64 0) (ofBits binary64 0)) ≡ finishedOf r
+  pub bad-nan : inLimits a ≡ true → a .bad ≡ true → value (div binary64 (ofBits binary64 0) (ofBits binary64 0)) ≡ finishedOf r
   unfolding div ofBits
   bad-nan h k = by-tests true true h k
 
-  pub good-value : stands a ≡ true → a .bad ≡ false → value (roundedOnce (factorOfAcc a)) ≡ finishedOf r
+  pub good-value : inLimits a ≡ true → a .bad ≡ false → value (roundedOnce (factorOfAcc a)) ≡ finishedOf r
   good-value h k = by-tests true false h k
 
 -- ---- finishing an accumulator that stands is never a refusal
-module _ (a : StableProductFloatAcc) (h : stands a ≡ true) where
+module _ (a : StableProductFloatAcc) (h : inLimits a ≡ true) where
   pub finished-bad : a .bad ≡ true → finishedOf (Acc a) ≡ value nan
   finished-bad k = sym (by-tests (Acc a) a refl true true h k)
 

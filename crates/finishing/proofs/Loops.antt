@@ -17,17 +17,17 @@ use mir.Val.{SFits}
 use borrow.Author.Tests.{lt-ltb, ne-eqb}
 use Rattle.integers.proofs.Difference.{ints, atoms}
 use Rattle.integers.proofs.Machine.{nonneg-pos}
-use Rattle.binary64.specs.Rounding.{tiesToEven}
-use Rattle.binary64.specs.Factor.{Normal, floatOf}
-use Rattle.binary64.specs.Magnitude.{inUnit, isMinus, factorAt}
-use Rattle.binary64.proofs.Product.{mul-binary64}
-use Rattle.binary64.proofs.Bridge.{floatOf-value}
-use Rattle.binary64.proofs.Magnitude.{at-normal, float-at}
-use Rattle.binary64.proofs.Overflow.{float-above}
+use Rattle.floats.specs.Rounding.{tiesToEven}
+use Rattle.floats.specs.Factor.{Normalised, floatOf}
+use Rattle.floats.specs.Magnitude.{inUnit, isMinus, factorAt}
+use Rattle.floats.proofs.Product.{mul-binary64}
+use Rattle.floats.proofs.Bridge.{floatOf-value}
+use Rattle.floats.proofs.Magnitude.{at-normal, float-at}
+use Rattle.floats.proofs.Overflow.{float-above}
 use Rattle.accumulator.specs.Joining.{withinLimit}
 use Rattle.accumulator.proofs.Exponents.{limits}
-use Rattle.finishing.specs.Once.{counted, above, normal, roundedOnce}
-use Rattle.finishing.specs.Finishing.{isInfinite}
+use Rattle.finishing.specs.Once.{counted, pastLargest, fromLeastNormal, roundedOnce}
+use Rattle.finishing.specs.InnerFinishing.{isInfinite}
 use Rattle.finishing.proofs.Once.{range, float-low, once-is}
 use Rattle.finishing.proofs.Scaling.{times-power}
 
@@ -115,7 +115,7 @@ limited e h = record { low = both .0; high = both .1 }
 
 -- e below -1076, where |m| × 2^e is less than half of the least positive number
 module _ (e : ℤ) where
-  tiny-low : ltZ e (negsuc 1075) ≡ true → normal e ≡ false
+  tiny-low : ltZ e (negsuc 1075) ≡ true → fromLeastNormal e ≡ false
   tiny-low = simp ints (simp atoms (omega arith))
 
   tiny-digits : (n : ℕ) → negsuc 1021 -ℤ e ≡ pos n → ltZ e (negsuc 1075) ≡ true → 54 ≤ n
@@ -125,28 +125,28 @@ module _ (e : ℤ) where
   tiny-pos = simp ints (simp atoms (omega arith))
 
 module _ (k e : ℤ) where
-  raised-over : k +ℤ pos 1023 ≡ e → above k ≡ true → above e ≡ true
+  raised-over : k +ℤ pos 1023 ≡ e → pastLargest k ≡ true → pastLargest e ≡ true
   raised-over = simp ints (simp atoms (omega arith))
 
   raised-sum : k ≡ e → k -ℤ pos 1023 +ℤ pos 1023 ≡ e
   raised-sum = simp ints (simp atoms (omega arith))
 
-  raised-plus : above k ≡ true → ltZ (pos 0) (k -ℤ pos 1023) ≡ true
+  raised-plus : pastLargest k ≡ true → ltZ (pos 0) (k -ℤ pos 1023) ≡ true
   raised-plus = simp ints (simp atoms (omega arith))
 
   lowered-sum : k ≡ e → k +ℤ pos 1022 -ℤ pos 1022 ≡ e
   lowered-sum = simp ints (simp atoms (omega arith))
 
-  lowered-minus : normal k ≡ false → ltZ (k +ℤ pos 1022) (pos 0) ≡ true
+  lowered-minus : fromLeastNormal k ≡ false → ltZ (k +ℤ pos 1022) (pos 0) ≡ true
   lowered-minus = simp ints (simp atoms (omega arith))
 
-  not-minus : ltZ k (pos 0) ≡ true → above k ≡ true → ⊥
+  not-minus : ltZ k (pos 0) ≡ true → pastLargest k ≡ true → ⊥
   not-minus = simp ints (simp atoms (omega arith))
 
-  not-plus : ltZ (pos 0) k ≡ true → normal k ≡ false → ⊥
+  not-plus : ltZ (pos 0) k ≡ true → fromLeastNormal k ≡ false → ⊥
   not-plus = simp ints (simp atoms (omega arith))
 
-  lowered-tiny : k -ℤ pos 1022 ≡ e → normal k ≡ false → ltZ e (negsuc 1075) ≡ true
+  lowered-tiny : k -ℤ pos 1022 ≡ e → fromLeastNormal k ≡ false → ltZ e (negsuc 1075) ≡ true
   lowered-tiny = simp ints (simp atoms (omega arith))
 
   zero-sum : k ≡ e → pos 0 +ℤ k ≡ e
@@ -177,32 +177,32 @@ module _ (k : ℤ) where
   raised-sizes : (a b : ℕ) → k ≡ pos a → k -ℤ pos 1023 ≡ pos b → b < a
   raised-sizes a b = simp ints (simp atoms (omega arith))
 
-  raised-signs : above k ≡ true → (ltZ k (pos 0) ≡ false) × (ltZ (k -ℤ pos 1023) (pos 0) ≡ false)
+  raised-signs : pastLargest k ≡ true → (ltZ k (pos 0) ≡ false) × (ltZ (k -ℤ pos 1023) (pos 0) ≡ false)
   raised-signs = simp ints (simp atoms (omega arith))
 
-  pub raised-less : above k ≡ true → natAbs (k -ℤ pos 1023) < natAbs k
+  pub raised-less : pastLargest k ≡ true → natAbs (k -ℤ pos 1023) < natAbs k
   raised-less h = raised-sizes (natAbs k) (natAbs (k -ℤ pos 1023)) (nonneg-pos k (raised-signs h .0)) (nonneg-pos (k -ℤ pos 1023) (raised-signs h .1))
 
   lowered-sizes : (a b : ℕ) → negℤ k ≡ pos a → negℤ (k +ℤ pos 1022) ≡ pos b → b < a
   lowered-sizes a b = simp ints (simp atoms (omega arith))
 
-  lowered-signs : normal k ≡ false → (ltZ (negℤ k) (pos 0) ≡ false) × (ltZ (negℤ (k +ℤ pos 1022)) (pos 0) ≡ false)
+  lowered-signs : fromLeastNormal k ≡ false → (ltZ (negℤ k) (pos 0) ≡ false) × (ltZ (negℤ (k +ℤ pos 1022)) (pos 0) ≡ false)
   lowered-signs = simp ints (simp atoms (omega arith))
 
-  pub lowered-less : normal k ≡ false → natAbs (k +ℤ pos 1022) < natAbs k
+  pub lowered-less : fromLeastNormal k ≡ false → natAbs (k +ℤ pos 1022) < natAbs k
   lowered-less h =
       lowered-sizes (natAbs k) (natAbs (k +ℤ pos 1022)) (nonneg-pos (negℤ k) (lowered-signs h .0) ∙ ap pos (abs-turned k))
       (nonneg-pos (negℤ (k +ℤ pos 1022)) (lowered-signs h .1) ∙ ap pos (abs-turned (k +ℤ pos 1022)))
 
   -- the tests of the second loop, as the code has them
-  pub under-taken : ltZ k (negsuc 1021) ≡ true → normal k ≡ false
+  pub under-taken : ltZ k (negsuc 1021) ≡ true → fromLeastNormal k ≡ false
   under-taken = simp ints (simp atoms (omega arith))
 
-  pub under-left : ltZ k (negsuc 1021) ≡ false → normal k ≡ true
+  pub under-left : ltZ k (negsuc 1021) ≡ false → fromLeastNormal k ≡ true
   under-left = simp ints (simp atoms (omega arith))
 
   -- a step up keeps k at most 1023
-  pub lowered-below : normal k ≡ false → above (k +ℤ pos 1022) ≡ false
+  pub lowered-below : fromLeastNormal k ≡ false → pastLargest (k +ℤ pos 1022) ≡ false
   lowered-below = simp ints (simp atoms (omega arith))
 
 -- ---- the loops
@@ -225,7 +225,7 @@ held-fits m e x k l (raised p q r) = raised-fits k e (limited e l .low) (limited
 held-fits m e x k l (lowered p q r) = lowered-fits k e (limited e l .low) (limited e l .high) q
 
 module _ (m : Float) (fm : T (fits binary64 m)) (um : inUnit m ≡ true) where
-  N : (d : ℤ) → Normal 52 (factorAt 52 m d)
+  N : (d : ℤ) → Normalised 52 (factorAt 52 m d)
   N d = at-normal binary64 11 52 refl refl (lit< tt) m fm um d
 
   begin : at m (pos 0) ≡ m
@@ -235,11 +235,11 @@ module _ (m : Float) (fm : T (fits binary64 m)) (um : inUnit m ≡ true) where
   once e = sym (once-is (factorAt 52 m e) (N e))
 
   -- one more factor 2^z, of a normal number
-  step : (d z : ℤ) → above d ≡ false → normal d ≡ true → mul binary64 (at m d) (fin false 1 z) ≡ at m (d +ℤ z)
+  step : (d z : ℤ) → pastLargest d ≡ false → fromLeastNormal d ≡ true → mul binary64 (at m d) (fin false 1 z) ≡ at m (d +ℤ z)
   unfolding factorAt
   step d z h k = mul-binary64 (at m d) (fin false 1 z) ∙ times-power (factorAt 52 m d) (N d) (range d 52 m h k) z
 
-  over : (d : ℤ) → above d ≡ true → at m d ≡ inf (isMinus m)
+  over : (d : ℤ) → pastLargest d ≡ true → at m d ≡ inf (isMinus m)
   unfolding factorAt
   over d h = float-above (factorAt 52 m d) (N d) h
 
@@ -252,13 +252,13 @@ module _ (m : Float) (fm : T (fits binary64 m)) (um : inUnit m ≡ true) where
       float-low f (N d) (tiny-low d h)
       ∙ ap (λ (x : ℕ). counted (isMinus m) x 0) (ties-none (f .sig) n (N d .most) (tiny-digits d n (nonneg-pos (negsuc 1021 -ℤ d) (tiny-pos d h)) h))
 
-  normal-value : (d : ℤ) (h : above d ≡ false) (k : normal d ≡ true) → HasValue (at m d) (factorAt 52 m d .sign) (factorAt 52 m d .sig * 2 ^ range d 52 m h k .place) (2 ^ 1074)
+  normal-value : (d : ℤ) (h : pastLargest d ≡ false) (k : fromLeastNormal d ≡ true) → HasValue (at m d) (factorAt 52 m d .sign) (factorAt 52 m d .sig * 2 ^ range d 52 m h k .place) (2 ^ 1074)
   normal-value d h k = floatOf-value binary64 11 52 refl refl (factorAt 52 m d) (N d) (range d 52 m h k)
 
-  finite : (d : ℤ) → above d ≡ false → normal d ≡ true → isInfinite (at m d) ≡ false
+  finite : (d : ℤ) → pastLargest d ≡ false → fromLeastNormal d ≡ true → isInfinite (at m d) ≡ false
   finite d h k = value-finite (at m d) (factorAt 52 m d .sign) (factorAt 52 m d .sig * 2 ^ range d 52 m h k .place) (2 ^ 1074) (normal-value d h k)
 
-  nonzero : (d : ℤ) → above d ≡ false → normal d ≡ true → eq (at m d) (fin false 0 (pos 0)) ≡ false
+  nonzero : (d : ℤ) → pastLargest d ≡ false → fromLeastNormal d ≡ true → eq (at m d) (fin false 0 (pos 0)) ≡ false
   nonzero d h k =
       let j = range d 52 m h k .place in
       value-nonzero (at m d) (factorAt 52 m d .sign) (factorAt 52 m d .sig * 2 ^ j) (2 ^ 1074)
@@ -266,32 +266,32 @@ module _ (m : Float) (fm : T (fits binary64 m)) (um : inUnit m ≡ true) where
 
   module _ (e : ℤ) (x : Float) (k : ℤ) where
     -- the product of the first loop, and of the second
-    rise : (d : ℤ) → x ≡ at m d → above d ≡ false → normal d ≡ true → mul binary64 x most ≡ at m (d +ℤ pos 1023)
+    rise : (d : ℤ) → x ≡ at m d → pastLargest d ≡ false → fromLeastNormal d ≡ true → mul binary64 x most ≡ at m (d +ℤ pos 1023)
     rise d p h g = ap (λ (y : Float). mul binary64 y most) p ∙ ap (mul binary64 (at m d)) most-is ∙ step d (pos 1023) h g
 
-    fall : (d : ℤ) → x ≡ at m d → above d ≡ false → normal d ≡ true → mul binary64 x least ≡ at m (d +ℤ negsuc 1021)
+    fall : (d : ℤ) → x ≡ at m d → pastLargest d ≡ false → fromLeastNormal d ≡ true → mul binary64 x least ≡ at m (d +ℤ negsuc 1021)
     fall d p h g = ap (λ (y : Float). mul binary64 y least) p ∙ ap (mul binary64 (at m d)) least-is ∙ step d (negsuc 1021) h g
 
     -- k is above 1023, and the product is infinite: the second time
-    pub raised-all : Held m e x k → above k ≡ true → isInfinite (mul binary64 x most) ≡ true → mul binary64 x most ≡ roundedOnce (factorAt 52 m e)
+    pub raised-all : Held m e x k → pastLargest k ≡ true → isInfinite (mul binary64 x most) ≡ true → mul binary64 x most ≡ roundedOnce (factorAt 52 m e)
     raised-all (begun p q) h i = absurd (clash (isInfinite (mul binary64 x most)) i (ap isInfinite (rise (pos 0) (p ∙ sym begin) refl refl) ∙ finite (pos 1023) refl refl))
     raised-all (raised p q r) h i = rise (pos 1023) p refl refl ∙ over (pos 2046) refl ∙ sym (over e (raised-over k e q h)) ∙ once e
     raised-all (lowered p q r) h i = absurd (not-minus k e r h)
 
     -- and it is not: the first time
-    pub raised-more : Held m e x k → above k ≡ true → isInfinite (mul binary64 x most) ≡ false → Held m e (mul binary64 x most) (k -ℤ pos 1023)
+    pub raised-more : Held m e x k → pastLargest k ≡ true → isInfinite (mul binary64 x most) ≡ false → Held m e (mul binary64 x most) (k -ℤ pos 1023)
     raised-more (begun p q) h i = raised (rise (pos 0) (p ∙ sym begin) refl refl) (raised-sum k e q) (raised-plus k e h)
     raised-more (raised p q r) h i = absurd (clash (isInfinite (mul binary64 x most)) (ap isInfinite (rise (pos 1023) p refl refl ∙ over (pos 2046) refl) ∙ infinite-is (isMinus m)) i)
     raised-more (lowered p q r) h i = absurd (not-minus k e r h)
 
     -- k is below -1022, and the product is zero: the second time
-    pub lowered-all : Held m e x k → normal k ≡ false → eq (mul binary64 x least) nought ≡ true → mul binary64 x least ≡ roundedOnce (factorAt 52 m e)
+    pub lowered-all : Held m e x k → fromLeastNormal k ≡ false → eq (mul binary64 x least) nought ≡ true → mul binary64 x least ≡ roundedOnce (factorAt 52 m e)
     lowered-all (begun p q) h i = absurd (clash (eq (mul binary64 x least) nought) i (ap (eq (mul binary64 x least)) nought-is ∙ ap (λ (y : Float). eq y (fin false 0 (pos 0))) (fall (pos 0) (p ∙ sym begin) refl refl) ∙ nonzero (negsuc 1021) refl refl))
     lowered-all (raised p q r) h i = absurd (not-plus k e r h)
     lowered-all (lowered p q r) h i = fall (negsuc 1021) p refl refl ∙ tiny (negsuc 2043) refl ∙ sym (tiny e (lowered-tiny k e q h)) ∙ once e
 
     -- and it is not: the first time
-    pub lowered-more : Held m e x k → normal k ≡ false → eq (mul binary64 x least) nought ≡ false → Held m e (mul binary64 x least) (k +ℤ pos 1022)
+    pub lowered-more : Held m e x k → fromLeastNormal k ≡ false → eq (mul binary64 x least) nought ≡ false → Held m e (mul binary64 x least) (k +ℤ pos 1022)
     lowered-more (begun p q) h i = lowered (fall (pos 0) (p ∙ sym begin) refl refl) (lowered-sum k e q) (lowered-minus k e h)
     lowered-more (raised p q r) h i = absurd (not-plus k e r h)
     lowered-more (lowered p q r) h i = absurd (clash (eq (mul binary64 x least) nought) (ap (eq (mul binary64 x least)) nought-is ∙ ap (λ (y : Float). eq y (fin false 0 (pos 0))) (fall (negsuc 1021) p refl refl ∙ tiny (negsuc 2043) refl) ∙ zero-is (isMinus m)) i)

@@ -13,30 +13,30 @@ use lib.Ieee.Nearest.{closest}
 use borrow.Author.Tests.{lt-ltb}
 use Rattle.integers.proofs.Difference.{ints, atoms}
 use Rattle.integers.proofs.Machine.{nonneg-pos}
-use Rattle.binary64.specs.Rounding.{lowest, tiesToEven, delivered, rounded}
-use Rattle.binary64.specs.Factor.{Factor, Normal, InRange, floatOf}
-use Rattle.binary64.specs.Magnitude.{factorAt}
-use Rattle.binary64.proofs.Nearest.{ties-is, kept-le-max, size-is}
-use Rattle.binary64.proofs.Bridge.{floatOf-is}
-use Rattle.binary64.proofs.Overflow.{float-above}
-use Rattle.finishing.specs.Once.{counted, above, normal, roundedOnce}
+use Rattle.floats.specs.Rounding.{unitPlaces, tiesToEven, delivered, rounded}
+use Rattle.floats.specs.Factor.{Factor, Normalised, NormalExponent, floatOf}
+use Rattle.floats.specs.Magnitude.{factorAt}
+use Rattle.floats.proofs.Nearest.{ties-is, kept-le-max, size-is}
+use Rattle.floats.proofs.Bridge.{floatOf-is}
+use Rattle.floats.proofs.Overflow.{float-above}
+use Rattle.finishing.specs.Once.{counted, pastLargest, fromLeastNormal, roundedOnce}
 
 -- ---- `delivered`, below the overflow
-delivered-below : (p em : ℕ) (s : Bool) (n j : ℕ) → n * 2 ^ j < 2 ^ (lowest p em + suc em) → delivered p em s n j ≡ odd (suc p) s n j (lowest p em)
+delivered-below : (p em : ℕ) (s : Bool) (n j : ℕ) → n * 2 ^ j < 2 ^ (unitPlaces p em + suc em) → delivered p em s n j ≡ odd (suc p) s n j (unitPlaces p em)
 unfolding delivered
-delivered-below p em s n j h = ap (λ (t : Bool). cond t (odd (suc p) s n j (lowest p em)) (inf s)) (lt-ltb (n * 2 ^ j) (2 ^ (lowest p em + suc em)) h)
+delivered-below p em s n j h = ap (λ (t : Bool). cond t (odd (suc p) s n j (unitPlaces p em)) (inf s)) (lt-ltb (n * 2 ^ j) (2 ^ (unitPlaces p em + suc em)) h)
 
 -- a significand of t + 1 digits, at a place of at most twice the largest exponent less 1
-room : (t em S j : ℕ) → S < 2 ^ (t + 1) → j < 2 * em → S * 2 ^ j < 2 ^ (lowest (t + 1) em + suc em)
+room : (t em S j : ℕ) → S < 2 ^ (t + 1) → j < 2 * em → S * 2 ^ j < 2 ^ (unitPlaces (t + 1) em + suc em)
 room t em S j h k = lt-of-lt-of-le (mul-lt-mul-of-pos-right h (pow-pos j)) (le-trans (le-of-eq (sym (pow-add 2 (t + 1) j))) (pow-mono (omega arith)))
 
 -- what is left of S below the least normal number
-low-room : (t em n : ℕ) → 1 < em → n ≤ 2 ^ (t + 1) → n * 2 ^ 0 < 2 ^ (lowest (t + 1) em + suc em)
+low-room : (t em n : ℕ) → 1 < em → n ≤ 2 ^ (t + 1) → n * 2 ^ 0 < 2 ^ (unitPlaces (t + 1) em + suc em)
 low-room t em n e h = lt-of-le-of-lt (le-trans (le-of-eq (mul-one n)) h) (pow-lt (omega arith))
 
 -- ---- `rounded` below the least normal number: S divided by 2^(j + 1) counts units
 rounded-low : (t em : ℕ) (s : Bool) (S j : ℕ) → 1 < em → 2 ^ t ≤ S → S < 2 ^ (t + 1)
-    → rounded (t + 1) em s S (negsuc j) ≡ odd (suc (t + 1)) s (tiesToEven S (2 ^ suc j)) 0 (lowest (t + 1) em)
+    → rounded (t + 1) em s S (negsuc j) ≡ odd (suc (t + 1)) s (tiesToEven S (2 ^ suc j)) 0 (unitPlaces (t + 1) em)
 unfolding rounded
 rounded-low t em s S j e lo hi =
     let z : size S ≡ suc t = size-is S t lo (lt-of-lt-of-le hi (le-of-eq (ap (λ (x : ℕ). 2 ^ x) (omega arith)))) in
@@ -49,44 +49,44 @@ rounded-low t em s S j e lo hi =
 
 -- ---- the place e + 1022 of an exponent
 module _ (e : ℤ) where
-  from-zero : normal e ≡ true → ltZ (e +ℤ pos 1022) (pos 0) ≡ false
+  from-zero : fromLeastNormal e ≡ true → ltZ (e +ℤ pos 1022) (pos 0) ≡ false
   from-zero = simp ints (simp atoms (omega arith))
 
-  below-least : normal e ≡ false → ltZ (negsuc 1021 -ℤ e) (pos 0) ≡ false
+  below-least : fromLeastNormal e ≡ false → ltZ (negsuc 1021 -ℤ e) (pos 0) ≡ false
   below-least = simp ints (simp atoms (omega arith))
 
-  place-below : (j : ℕ) → e +ℤ pos 1022 ≡ pos j → above e ≡ false → j < 2046
+  place-below : (j : ℕ) → e +ℤ pos 1022 ≡ pos j → pastLargest e ≡ false → j < 2046
   place-below j = simp ints (simp atoms (omega arith))
 
-  place-under : (n : ℕ) → negsuc 1021 -ℤ e ≡ pos n → normal e ≡ false → e +ℤ pos 1022 ≡ negsuc (n - 1)
+  place-under : (n : ℕ) → negsuc 1021 -ℤ e ≡ pos n → fromLeastNormal e ≡ false → e +ℤ pos 1022 ≡ negsuc (n - 1)
   place-under n = simp ints (simp atoms (omega arith))
 
-  under-pos : (n : ℕ) → negsuc 1021 -ℤ e ≡ pos n → normal e ≡ false → 1 ≤ n
+  under-pos : (n : ℕ) → negsuc 1021 -ℤ e ≡ pos n → fromLeastNormal e ≡ false → 1 ≤ n
   under-pos n = simp ints (simp atoms (omega arith))
 
-  place-is : normal e ≡ true → e +ℤ pos 1022 ≡ pos (natAbs (e +ℤ pos 1022))
+  place-is : fromLeastNormal e ≡ true → e +ℤ pos 1022 ≡ pos (natAbs (e +ℤ pos 1022))
   place-is h = nonneg-pos (e +ℤ pos 1022) (from-zero h)
 
   -- e from -1022 to 1023 is the exponent of a normal number
-  pub range : (t : ℕ) (m : Float) → above e ≡ false → normal e ≡ true → InRange 11 (factorAt t m e)
+  pub range : (t : ℕ) (m : Float) → pastLargest e ≡ false → fromLeastNormal e ≡ true → NormalExponent 11 (factorAt t m e)
   unfolding factorAt
   range t m h k = record { place = natAbs (e +ℤ pos 1022); above = place-is k; below = place-below (natAbs (e +ℤ pos 1022)) (place-is k) h }
 
 -- ---- the three ranges of e
-module _ (f : Factor) (N : Normal 52 f) where
+module _ (f : Factor) (N : Normalised 52 f) where
   abbrev j : ℕ
   j = natAbs (f .exp +ℤ pos 1022)
 
   abbrev n : ℕ
   n = natAbs (negsuc 1021 -ℤ f .exp)
 
-  pub float-normal : above (f .exp) ≡ false → normal (f .exp) ≡ true → floatOf 11 52 f ≡ counted (f .sign) (f .sig) j
+  pub float-normal : pastLargest (f .exp) ≡ false → fromLeastNormal (f .exp) ≡ true → floatOf 11 52 f ≡ counted (f .sign) (f .sig) j
   unfolding counted
   float-normal h k =
       let p = place-is (f .exp) k in
       floatOf-is 11 52 f j N p ∙ delivered-below 53 1023 (f .sign) (f .sig) j (room 52 1023 (f .sig) j (N .most) (place-below (f .exp) j p h))
 
-  pub float-low : normal (f .exp) ≡ false → floatOf 11 52 f ≡ counted (f .sign) (tiesToEven (f .sig) (2 ^ n)) 0
+  pub float-low : fromLeastNormal (f .exp) ≡ false → floatOf 11 52 f ≡ counted (f .sign) (tiesToEven (f .sig) (2 ^ n)) 0
   unfolding counted floatOf
   float-low k =
       let p = nonneg-pos (negsuc 1021 -ℤ f .exp) (below-least (f .exp) k) in
@@ -97,9 +97,9 @@ module _ (f : Factor) (N : Normal 52 f) where
 
   pub once-is : roundedOnce f ≡ floatOf 11 52 f
   unfolding roundedOnce
-  once-is = go (above (f .exp)) (normal (f .exp)) refl refl
+  once-is = go (pastLargest (f .exp)) (fromLeastNormal (f .exp)) refl refl
     where
-      go : (a b : Bool) → above (f .exp) ≡ a → normal (f .exp) ≡ b
+      go : (a b : Bool) → pastLargest (f .exp) ≡ a → fromLeastNormal (f .exp) ≡ b
           → cond a (inf (f .sign)) (cond b (counted (f .sign) (f .sig) j) (counted (f .sign) (tiesToEven (f .sig) (2 ^ n)) 0)) ≡ floatOf 11 52 f
       go true b h k = sym (float-above f N h)
       go false true h k = sym (float-normal h k)

@@ -12,8 +12,8 @@ use mir.Val.{SFits, Fits}
 use borrow.Author.Tests.{lt-leb, ne-eqb, leb-true, leb-false}
 use Rattle.integers.proofs.Difference.{ints, atoms, diff, at-pos, at-neg}
 use Rattle.integers.proofs.Machine.{nonneg-pos}
-use Rattle.finishing.specs.Once.{above, normal}
-use Rattle.finishing.specs.Finishing.{isInfinite}
+use Rattle.finishing.specs.Once.{pastLargest, fromLeastNormal}
+use Rattle.finishing.specs.InnerFinishing.{isInfinite}
 
 -- ---- infinity
 abbrev pub infinity : Float
@@ -92,17 +92,17 @@ module _ (x : ℕ) (h : x < 2046) where
   power-number = subst (λ (t : Bool). T (not (t && not (eqb (bits % 4503599627370496) 0)))) (sym (ap (λ (y : ℕ). eqb y 2047) field ∙ not-all)) tt
 
 -- ---- an exponent from -1022 to 1023
-module _ (e : ℤ) (h : above e ≡ false) (k : normal e ≡ true) where
-  range-fits : (e : ℤ) → above e ≡ false → normal e ≡ true → SFits w64 (e +ℤ pos 1023)
+module _ (e : ℤ) (h : pastLargest e ≡ false) (k : fromLeastNormal e ≡ true) where
+  range-fits : (e : ℤ) → pastLargest e ≡ false → fromLeastNormal e ≡ true → SFits w64 (e +ℤ pos 1023)
   range-fits e = simp ints (simp atoms (omega arith))
 
-  from-zero : (e : ℤ) → normal e ≡ true → ltZ (e +ℤ pos 1023) (pos 0) ≡ false
+  from-zero : (e : ℤ) → fromLeastNormal e ≡ true → ltZ (e +ℤ pos 1023) (pos 0) ≡ false
   from-zero e = simp ints (simp atoms (omega arith))
 
-  field-low : (e : ℤ) (n : ℕ) → e +ℤ pos 1023 ≡ pos n → normal e ≡ true → 1 ≤ n
+  field-low : (e : ℤ) (n : ℕ) → e +ℤ pos 1023 ≡ pos n → fromLeastNormal e ≡ true → 1 ≤ n
   field-low e n = simp ints (simp atoms (omega arith))
 
-  field-high : (e : ℤ) (n : ℕ) → e +ℤ pos 1023 ≡ pos n → above e ≡ false → n ≤ 2046
+  field-high : (e : ℤ) (n : ℕ) → e +ℤ pos 1023 ≡ pos n → pastLargest e ≡ false → n ≤ 2046
   field-high e n = simp ints (simp atoms (omega arith))
 
   abbrev pub n : ℕ

@@ -7,13 +7,13 @@ use lib.IntN.{ℤ, pos, _+ℤ_, +ℤ-assoc, +ℤ-comm}
 use lib.Ieee.{Float, nan, inf, fin, binary64, up, down}
 use lib.Ieee.Fits.{down-pos}
 use lib.Ieee.Exact.{HasValue}
-use Rattle.binary64.specs.Rounding.{rounded}
-use Rattle.binary64.specs.Product.{signs, product, productOf}
-use Rattle.binary64.specs.Factor.{Factor, Normal, InRange, floatOf}
-use Rattle.binary64.specs.Magnitude.{moved}
-use Rattle.binary64.proofs.Powers.{up-add}
-use Rattle.binary64.proofs.Rounding.{rounded-same}
-use Rattle.binary64.proofs.Bridge.{floatOf-value}
+use Rattle.floats.specs.Rounding.{rounded}
+use Rattle.floats.specs.Product.{signs, product, productOf}
+use Rattle.floats.specs.Factor.{Factor, Normalised, NormalExponent, floatOf}
+use Rattle.floats.specs.Magnitude.{withExponent}
+use Rattle.floats.proofs.Powers.{up-add}
+use Rattle.floats.proofs.Rounding.{rounded-same}
+use Rattle.floats.proofs.Bridge.{floatOf-value}
 
 signs-plus : (s : Bool) → signs s false ≡ s
 signs-plus true = refl
@@ -57,7 +57,7 @@ value-power (fin u m e) s S i z h =
     (up-add e z)
     (ap (λ (x : ℕ). up w * x) (sym (one-mul (down z))) ∙ up-add (pos i) z))
 
-pub times-power : (f : Factor) → Normal 52 f → InRange 11 f → (z : ℤ) → productOf 11 52 (floatOf 11 52 f) (fin false 1 z) ≡ floatOf 11 52 (moved f (f .exp +ℤ z))
+pub times-power : (f : Factor) → Normalised 52 f → NormalExponent 11 f → (z : ℤ) → productOf 11 52 (floatOf 11 52 f) (fin false 1 z) ≡ floatOf 11 52 (withExponent f (f .exp +ℤ z))
 unfolding floatOf
 times-power f N R z =
     value-power (floatOf 11 52 f) (f .sign) (f .sig) (R .place) z (floatOf-value binary64 11 52 refl refl f N R)

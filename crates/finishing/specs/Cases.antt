@@ -4,9 +4,9 @@ use mathlib.Core.Bool.{Bool, true, false, _&&_, Bool·beq}
 use lib.Dec.{eqb}
 use lib.IntN.{ℤ, pos, negsuc}
 use lib.Ieee.{Float, nan, inf, fin}
-use Rattle.integers.specs.Checked.{eqZ}
+use Rattle.integers.specs.Integers.{eqZ}
 use Rattle.accumulator.specs.declared.Reduced.the-variants.{Acc}
-use Rattle.finishing.specs.Finishing.{Ended, value, refusal, finishedOf}
+use Rattle.finishing.specs.Finishing.{FinalAnswer, value, refusal, finishedOf}
 
 -- the same number, with its sign; a zero's counts too. Nothing is the same as a NaN.
 unfoldable pub sameFloat : Float → Float → Bool
@@ -19,7 +19,7 @@ sameFloat (inf s) nan = false
 sameFloat nan y = false
 
 -- the answer is this number
-unfoldable pub is : Ended → Float → Bool
+unfoldable pub is : FinalAnswer → Float → Bool
 unfolding sameFloat
 is (value x) y = sameFloat x y
 is (refusal n) y = false

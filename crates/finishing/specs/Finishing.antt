@@ -1,34 +1,23 @@
 -- Finishing an answer: the paper's number or value for each case. Definitions only.
 use Prim.Native.Nat.{ℕ}
-use mathlib.Core.Bool.{Bool, true, false, not, cond}
-use lib.Ieee.{Float, nan, inf, fin}
-use Rattle.accumulator.specs.Joining.{factorOfAcc, stands}
+use mathlib.Core.Bool.{not, cond}
+use lib.Ieee.{Float, nan}
+use Rattle.finishing.specs.declared.Finished.the-variants as finished
+use Rattle.accumulator.specs.Joining.{factorOfAcc, inLimits}
 use Rattle.accumulator.specs.declared.StableProductFloatAcc.{StableProductFloatAcc}
 use Rattle.accumulator.specs.declared.Reduced.{Reduced}
 use Rattle.accumulator.specs.declared.Reduced.the-variants.{Acc, Refused}
 use Rattle.finishing.specs.declared.Finished.{Finished}
-use Rattle.finishing.specs.declared.Finished.the-variants as finished
 use Rattle.finishing.specs.Once.{roundedOnce}
 
--- an infinity of either sign
-unfoldable pub isInfinite : Float → Bool
-isInfinite nan = false
-isInfinite (inf s) = true
-isInfinite (fin s m e) = false
-
--- the refusal's number of an answer; an accumulator has none
-unfoldable pub codeOf : Reduced → ℕ
-codeOf (Acc a) = 0
-codeOf (Refused n) = n
-
 -- What a finishing call tells: a value, or a refusal's number with nothing beside it.
-pub data Ended : Type 0 where
-  value : Float → Ended
-  refusal : ℕ → Ended
+pub data FinalAnswer : Type 0 where
+  value : Float → FinalAnswer
+  refusal : ℕ → FinalAnswer
 
-abbrev pub ended : Finished → Ended
-ended (finished.Number x) = value x
-ended (finished.Refused n) = refusal n
+abbrev pub finalAnswerOf : Finished → FinalAnswer
+finalAnswerOf (finished.Number x) = value x
+finalAnswerOf (finished.Refused n) = refusal n
 
 -- of an accumulator that stands: bad gives the NaN, whose pattern is 0x7FF8000000000000; else m × 2^e rounded once
 unfoldable pub valueOfAcc : StableProductFloatAcc → Float
@@ -36,7 +25,7 @@ unfolding roundedOnce
 valueOfAcc a = cond (a .bad) nan (roundedOnce (factorOfAcc a))
 
 -- A refusal handed in comes out unchanged, whatever its number. Else 9 of an accumulator that does not stand, bad or not. Else its value.
-unfoldable pub finishedOf : Reduced → Ended
-unfolding stands valueOfAcc
+unfoldable pub finishedOf : Reduced → FinalAnswer
+unfolding inLimits valueOfAcc
 finishedOf (Refused n) = refusal n
-finishedOf (Acc a) = cond (not (stands a)) (refusal 9) (value (valueOfAcc a))
+finishedOf (Acc a) = cond (not (inLimits a)) (refusal 9) (value (valueOfAcc a))

@@ -2,3 +2,4 @@
 pub mod Once
 pub mod Finishing
 pub mod Cases
+pub mod InnerFinishing

@@ -3,10 +3,11 @@ use accumulator::Reduced;
 ghost use mathlib.Core.Path.{_≡_};
 ghost use mathlib.Core.Bool.{true, false};
 ghost use lib.Ieee.{fin};
-ghost use Rattle.binary64.specs.Magnitude.{inUnit, factorAt};
+ghost use Rattle.floats.specs.Magnitude.{inUnit, factorAt};
 ghost use Rattle.accumulator.specs.Joining.{withinLimit};
-ghost use Rattle.finishing.specs.Once.{above, normal, roundedOnce};
-ghost use Rattle.finishing.specs.Finishing.{isInfinite, codeOf, ended, finishedOf};
+ghost use Rattle.finishing.specs.Once.{pastLargest, fromLeastNormal, roundedOnce};
+ghost use Rattle.finishing.specs.InnerFinishing.{isInfinite, codeOf};
+ghost use Rattle.finishing.specs.Finishing.{finalAnswerOf, finishedOf};
 
 // Exponent fields 1, 2046 and 2047: 2^-1022, 2^1023 and infinity.
 const TWO_POW_M1022: u64 = 1u64 << 52;
@@ -34,7 +35,7 @@ fn is_infinite(m: f64) -> bool
 
 // 2^e, of an exponent from -1022 to 1023: the field is e + 1023, the fraction 0.
 fn power_of_two(e: i64) -> f64
-    requires { ⌜ (above e ≡ false) × (normal e ≡ true) ⌝ }
+    requires { ⌜ (pastLargest e ≡ false) × (fromLeastNormal e ≡ true) ⌝ }
     ensures { λ r. ⌜ r ≡ fin false 1 e ⌝ }
 {
     f64::from_bits(((e + 1023) as u64) << 52)
@@ -76,7 +77,7 @@ fn code_of(answer: Reduced) -> u32
 
 // Finishes a reduction's answer: a refusal comes out unchanged; 9; else the NaN of a bad mark, or m × 2^e rounded once.
 pub fn finish(answer: Reduced) -> Finished
-    ensures { λ r. ⌜ ended r ≡ finishedOf answer ⌝ }
+    ensures { λ r. ⌜ finalAnswerOf r ≡ finishedOf answer ⌝ }
 {
     let Reduced::Acc(a) = answer else {
         let n = code_of(answer);

@@ -14,7 +14,8 @@ use mir.Syntax.{w64}
 use borrow.Author.Tests.{lt-ltb, le-ltb, ltb-true, ltb-false, eq-eqb, eqb-true}
 use Rattle.integers.specs.declared.CheckedU64.{CheckedU64}
 use Rattle.integers.specs.declared.CheckedI64.{CheckedI64}
-use Rattle.integers.specs.Checked.{fitsI64, eqZ, keepU, keepI, narrowU, narrow}
+use Rattle.integers.specs.Integers.{fitsI64, eqZ}
+use Rattle.integers.specs.InnerChecked.{keepU, keepI, narrowU64, narrowI64}
 use Rattle.integers.proofs.Difference.{ints, atoms}
 
 -- one step towards 0 from a negative number
@@ -44,20 +45,20 @@ natAbs-fits (pos n) f = let h = f .sfits in omega arith
 natAbs-fits (negsuc n) f = let h = f .sfits in omega arith
 
 -- ---- what a checked step answers
-pub narrowU-yes : (n : ℕ) → n < 2 ^ 64 → narrowU n ≡ record { ok = true; value = n }
-unfolding narrowU
+pub narrowU-yes : (n : ℕ) → n < 2 ^ 64 → narrowU64 n ≡ record { ok = true; value = n }
+unfolding narrowU64
 narrowU-yes n h = ap (λ (b : Bool). keepU b n) (lt-ltb n (2 ^ 64) h)
 
-pub narrowU-no : (n : ℕ) → 2 ^ 64 ≤ n → narrowU n ≡ record { ok = false; value = 0 }
-unfolding narrowU
+pub narrowU-no : (n : ℕ) → 2 ^ 64 ≤ n → narrowU64 n ≡ record { ok = false; value = 0 }
+unfolding narrowU64
 narrowU-no n h = ap (λ (b : Bool). keepU b n) (le-ltb n (2 ^ 64) h)
 
-pub narrow-yes : (z : ℤ) → SFits w64 z → narrow z ≡ record { ok = true; value = z }
-unfolding narrow fitsI64
+pub narrow-yes : (z : ℤ) → SFits w64 z → narrowI64 z ≡ record { ok = true; value = z }
+unfolding narrowI64 fitsI64
 narrow-yes z f = ap (λ (b : Bool). keepI b z) (lt-ltb (mag z) (2 ^ 63) (f .sfits))
 
-pub narrow-no : (z : ℤ) → (SFits w64 z → ⊥) → narrow z ≡ record { ok = false; value = pos 0 }
-unfolding narrow fitsI64
+pub narrow-no : (z : ℤ) → (SFits w64 z → ⊥) → narrowI64 z ≡ record { ok = false; value = pos 0 }
+unfolding narrowI64 fitsI64
 narrow-no z f = ap (λ (b : Bool). keepI b z) (le-ltb (mag z) (2 ^ 63) (over (λ h. f (record { sfits = h }))))
   where
     over : (mag z < 2 ^ 63 → ⊥) → 2 ^ 63 ≤ mag z
@@ -104,8 +105,8 @@ pub toZ-small : (p : ℕ) → p < 2 ^ 63 → toZ w64 p ≡ pos p
 toZ-small p h = toZ-ofZ {w = w64} {z = pos p} (record { sfits = h })
 
 -- what an answer of `narrowU` says
-pub narrowU-ok : (r : CheckedU64) (n : ℕ) → r ≡ narrowU n → r .ok ≡ true → (r .value ≡ n) × (n < 2 ^ 64)
-unfolding narrowU
+pub narrowU-ok : (r : CheckedU64) (n : ℕ) → r ≡ narrowU64 n → r .ok ≡ true → (r .value ≡ n) × (n < 2 ^ 64)
+unfolding narrowU64
 narrowU-ok r n e = go (ltb n (2 ^ 64)) refl
   where
     go : (b : Bool) → ltb n (2 ^ 64) ≡ b → r .ok ≡ true → (r .value ≡ n) × (n < 2 ^ 64)
@@ -115,8 +116,8 @@ narrowU-ok r n e = go (ltb n (2 ^ 64)) refl
         let l : true ≡ false = sym k ∙ ap (λ (r : CheckedU64). r .ok) h in
         absurd (subst T l tt)
 
-pub narrowU-not-ok : (r : CheckedU64) (n : ℕ) → r ≡ narrowU n → r .ok ≡ false → 2 ^ 64 ≤ n
-unfolding narrowU
+pub narrowU-not-ok : (r : CheckedU64) (n : ℕ) → r ≡ narrowU64 n → r .ok ≡ false → 2 ^ 64 ≤ n
+unfolding narrowU64
 narrowU-not-ok r n e = go (ltb n (2 ^ 64)) refl
   where
     go : (b : Bool) → ltb n (2 ^ 64) ≡ b → r .ok ≡ false → 2 ^ 64 ≤ n
@@ -128,31 +129,31 @@ narrowU-not-ok r n e = go (ltb n (2 ^ 64)) refl
 
 -- ---- a signed product, by its magnitude p
 module _ (a : ℤ) (n p : ℕ) (e : p ≡ natAbs a * n) where
-  pub signed-neg : ltZ a (pos 0) ≡ true → p < 2 ^ 63 → narrow (a *ℤ pos n) ≡ record { ok = true; value = pos 0 -ℤ pos p }
+  pub signed-neg : ltZ a (pos 0) ≡ true → p < 2 ^ 63 → narrowI64 (a *ℤ pos n) ≡ record { ok = true; value = pos 0 -ℤ pos p }
   signed-neg l h = rw (times-neg a n l, ← e) (narrow-yes (pos 0 -ℤ pos p) (neg-fits p (omega arith)))
 
-  pub signed-pos : ltZ a (pos 0) ≡ false → p < 2 ^ 63 → narrow (a *ℤ pos n) ≡ record { ok = true; value = pos p }
+  pub signed-pos : ltZ a (pos 0) ≡ false → p < 2 ^ 63 → narrowI64 (a *ℤ pos n) ≡ record { ok = true; value = pos p }
   signed-pos l h = rw (times-pos a n l, ← e) (narrow-yes (pos p) (pos-fits p h))
 
-  pub signed-least : ltZ a (pos 0) ≡ true → p ≡ 2 ^ 63 → narrow (a *ℤ pos n) ≡ record { ok = true; value = negsuc 9223372036854775807 }
+  pub signed-least : ltZ a (pos 0) ≡ true → p ≡ 2 ^ 63 → narrowI64 (a *ℤ pos n) ≡ record { ok = true; value = negsuc 9223372036854775807 }
   signed-least l h = rw (times-neg a n l, ← e, h) (narrow-yes (negsuc 9223372036854775807) (record { sfits = omega arith }))
 
-  pub signed-over : ltZ a (pos 0) ≡ true → 2 ^ 63 < p → narrow (a *ℤ pos n) ≡ record { ok = false; value = pos 0 }
+  pub signed-over : ltZ a (pos 0) ≡ true → 2 ^ 63 < p → narrowI64 (a *ℤ pos n) ≡ record { ok = false; value = pos 0 }
   signed-over l h = rw (times-neg a n l, ← e) (narrow-no (pos 0 -ℤ pos p) (λ f. clash (neg-fits-only p f)))
     where
       clash : p ≤ 2 ^ 63 → ⊥
       clash k = omega arith
 
-  pub unsigned-over : ltZ a (pos 0) ≡ false → 2 ^ 63 ≤ p → narrow (a *ℤ pos n) ≡ record { ok = false; value = pos 0 }
+  pub unsigned-over : ltZ a (pos 0) ≡ false → 2 ^ 63 ≤ p → narrowI64 (a *ℤ pos n) ≡ record { ok = false; value = pos 0 }
   unsigned-over l h = rw (times-pos a n l, ← e) (narrow-no (pos p) (λ f. clash (f .sfits)))
     where
       clash : p < 2 ^ 63 → ⊥
       clash k = omega arith
 
-  pub far-over : 2 ^ 64 ≤ p → narrow (a *ℤ pos n) ≡ record { ok = false; value = pos 0 }
+  pub far-over : 2 ^ 64 ≤ p → narrowI64 (a *ℤ pos n) ≡ record { ok = false; value = pos 0 }
   far-over h = go (ltZ a (pos 0)) refl
     where
-      go : (b : Bool) → ltZ a (pos 0) ≡ b → narrow (a *ℤ pos n) ≡ record { ok = false; value = pos 0 }
+      go : (b : Bool) → ltZ a (pos 0) ≡ b → narrowI64 (a *ℤ pos n) ≡ record { ok = false; value = pos 0 }
       go true l = signed-over l (omega arith)
       go false l = unsigned-over l (omega arith)
 
@@ -196,8 +197,8 @@ pub fits-test : (z : ℤ) → SFits w64 z → fitsI64 z ≡ true
 unfolding fitsI64
 fits-test z f = lt-ltb (mag z) (2 ^ 63) (f .sfits)
 
-pub narrow-ok : (r : CheckedI64) (z : ℤ) → r ≡ narrow z → r .ok ≡ true → (r .value ≡ z) × (fitsI64 z ≡ true)
-unfolding narrow
+pub narrow-ok : (r : CheckedI64) (z : ℤ) → r ≡ narrowI64 z → r .ok ≡ true → (r .value ≡ z) × (fitsI64 z ≡ true)
+unfolding narrowI64
 narrow-ok r z e = go (fitsI64 z) refl
   where
     go : (b : Bool) → fitsI64 z ≡ b → r .ok ≡ true → (r .value ≡ z) × (fitsI64 z ≡ true)
@@ -207,8 +208,8 @@ narrow-ok r z e = go (fitsI64 z) refl
         let l : true ≡ false = sym k ∙ ap (λ (r : CheckedI64). r .ok) h in
         absurd (subst T l tt)
 
-pub narrow-not-ok : (r : CheckedI64) (z : ℤ) → r ≡ narrow z → r .ok ≡ false → fitsI64 z ≡ false
-unfolding narrow
+pub narrow-not-ok : (r : CheckedI64) (z : ℤ) → r ≡ narrowI64 z → r .ok ≡ false → fitsI64 z ≡ false
+unfolding narrowI64
 narrow-not-ok r z e = go (fitsI64 z) refl
   where
     go : (b : Bool) → fitsI64 z ≡ b → r .ok ≡ false → fitsI64 z ≡ false

@@ -2,7 +2,7 @@
 ghost use mathlib.Core.Path.{_≡_};
 ghost use Prim.Native.Nat.{_*_};
 ghost use lib.IntN.{pos, negℤ, natAbs, _*ℤ_};
-ghost use Rattle.integers.specs.Checked.{narrow, narrowU};
+ghost use Rattle.integers.specs.InnerChecked.{narrowI64, narrowU64};
 
 pub const I64_MAX: u64 = 0x7fff_ffff_ffff_ffff;
 
@@ -31,7 +31,7 @@ pub fn magnitude(x: i64) -> u64
 }
 
 pub fn checked_mul_u64(a: u64, b: u64) -> CheckedU64
-    ensures { λ r. ⌜ r ≡ narrowU (a * b) ⌝ }
+    ensures { λ r. ⌜ r ≡ narrowU64 (a * b) ⌝ }
 {
     if b == 0 {
         return CheckedU64 { ok: true, value: 0 };
@@ -49,7 +49,7 @@ pub fn checked_mul_u64(a: u64, b: u64) -> CheckedU64
 }
 
 pub fn checked_neg_i64(x: i64) -> CheckedI64
-    ensures { λ r. ⌜ r ≡ narrow (negℤ x) ⌝ }
+    ensures { λ r. ⌜ r ≡ narrowI64 (negℤ x) ⌝ }
 {
     if magnitude(x) == I64_MAX + 1 {
         return CheckedI64 {
@@ -65,7 +65,7 @@ pub fn checked_neg_i64(x: i64) -> CheckedI64
 
 // A product of a signed and an unsigned number: the magnitudes are multiplied, then the sign is put on.
 pub fn checked_mul_i64(a: i64, n: u64) -> CheckedI64
-    ensures { λ r. ⌜ r ≡ narrow (a *ℤ pos n) ⌝ }
+    ensures { λ r. ⌜ r ≡ narrowI64 (a *ℤ pos n) ⌝ }
 {
     let m = checked_mul_u64(magnitude(a), n);
     let p = m.value;

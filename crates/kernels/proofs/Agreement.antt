@@ -10,16 +10,16 @@ use mathlib.Core.Bool.{Bool, true, false, _&&_, _||_}
 use mathlib.Core.List.{List, [], _∷_, map, map-map, foldl}
 use lib.Dec.{T}
 use lib.Ieee.{Float, binary64, fits}
-use Rattle.binary64.specs.Factor.{Factor, Normal, times}
-use Rattle.binary64.specs.Fields.{factorOf}
-use Rattle.binary64.specs.Splitting.{bitsOf, isBad, rate}
-use Rattle.binary64.proofs.Factor.{times-normal}
-use Rattle.binary64.proofs.Fields.{factor-normal}
+use Rattle.floats.specs.Factor.{Factor, Normalised, times}
+use Rattle.floats.specs.Fields.{factorOf}
+use Rattle.floats.specs.Splitting.{bitsOf, isBad, rateFactor}
+use Rattle.floats.proofs.Factor.{times-normal}
+use Rattle.floats.proofs.Fields.{factor-normal}
 use Rattle.accumulator.specs.declared.StableProductFloatAcc.{StableProductFloatAcc}
-use Rattle.accumulator.specs.Joining.{combined, withinLimit, stands}
+use Rattle.accumulator.specs.Joining.{combined, withinLimit, inLimits}
 use Rattle.kernels.specs.Lanes.{Each, none, more, some}
 use Rattle.kernels.specs.Plain.{pieceProduct, listProduct, plainProduct}
-use Rattle.kernels.specs.Pieces.{Rate, Piece, worked, workedPiece, joinedPieces, GoodPiece, Admitted, patternsOf, accOf}
+use Rattle.kernels.specs.Pieces.{GoodRate, Piece, worked, workedPiece, joinedPieces, GoodPiece, Admitted, patternsOf, accOf}
 use Rattle.kernels.proofs.Feeding.{each-map, or-assoc, or-none}
 use Rattle.kernels.proofs.Factors.{piece-normal}
 use Rattle.kernels.proofs.Joining.{combined-mark, combined-times, identity-is}
@@ -31,26 +31,26 @@ use Rattle.kernels.proofs.Bounded.{ValuePiece, FullPiece, joined-within
 abbrev factors : List Float → List Factor
 factors xs = map (factorOf 11 52) (map bitsOf xs)
 
-factors-is : (xs : List Float) → map rate xs ≡ factors xs
-unfolding rate
+factors-is : (xs : List Float) → map rateFactor xs ≡ factors xs
+unfolding rateFactor
 factors-is xs = sym (map-map (factorOf 11 52) bitsOf xs)
 
 abbrev piece : List Float → Factor
 piece xs = pieceProduct 52 (factors xs)
 
-normal : (xs : List Float) → Normal 52 (piece xs)
+normal : (xs : List Float) → Normalised 52 (piece xs)
 normal xs = piece-normal 52 (all (map bitsOf xs))
   where
-    all : (bs : List ℕ) → Each (Normal 52) (map (factorOf 11 52) bs)
+    all : (bs : List ℕ) → Each (Normalised 52) (map (factorOf 11 52) bs)
     all [] = none
     all (b ∷ bs) = more (factor-normal 11 52 b) (all bs)
 
 -- one piece, in either way
-pub worked-agrees : (inBlocks : Bool) {xs : List Float} → Each Rate xs → worked inBlocks xs ≡ accOf (pieceProduct 52 (factors xs))
+pub worked-agrees : (inBlocks : Bool) {xs : List Float} → Each GoodRate xs → worked inBlocks xs ≡ accOf (pieceProduct 52 (factors xs))
 worked-agrees true {xs} R = contiguous-agrees R ∙ ap (λ (fs : List Factor). accOf (pieceProduct 52 fs)) (factors-is xs)
 worked-agrees false {xs} R = stepped-agrees R ∙ ap (λ (fs : List Factor). accOf (pieceProduct 52 fs)) (factors-is xs)
 
-joined-on : (f : Factor) → Normal 52 f → {ps : List Piece} → Each GoodPiece ps
+joined-on : (f : Factor) → Normalised 52 f → {ps : List Piece} → Each GoodPiece ps
     → foldl combined (accOf f) (map workedPiece ps) ≡ accOf (foldl (times 52) f (map (pieceProduct 52) (map (map (factorOf 11 52)) (patternsOf ps))))
 joined-on f F none = refl
 joined-on f F (more {x = p} {xs = ps} R Rs) =
@@ -69,10 +69,10 @@ pub agreement : (ps : List Piece) → Admitted ps → joinedPieces ps ≡ accOf 
 agreement ps a = joined-agree (a .pieces)
 
 -- and they are an accumulator that can be joined and finished: 1 <= |m| < 2, |e| <= 2^52
-pub agreement-stands : (ps : List Piece) → Admitted ps → stands (joinedPieces ps) ≡ true
-unfolding stands
+pub agreement-stands : (ps : List Piece) → Admitted ps → inLimits (joinedPieces ps) ≡ true
+unfolding inLimits
 agreement-stands ps a =
-    let r = joined-within (each-map GoodPiece FullPiece (λ p g. record { some-rate = g .some-rate; values = each-map Rate (λ (x : Float). T (fits binary64 x)) (λ x v. v .value) (g .good) }) (a .pieces)) in
+    let r = joined-within (each-map GoodPiece FullPiece (λ p g. record { some-rate = g .some-rate; values = each-map GoodRate (λ (x : Float). T (fits binary64 x)) (λ x v. v .value) (g .good) }) (a .pieces)) in
     ap (λ (t : Bool). t && withinLimit (joinedPieces ps .e)) (r .0 .in-unit)
     ∙ le-leb (natAbs (joinedPieces ps .e)) (2 ^ 52) (le-trans (r .1) (let z = a .few in omega arith))
 

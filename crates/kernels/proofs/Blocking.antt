@@ -13,20 +13,20 @@ use lib.Arith.{lt-of-le-ne}
 use lib.Dec.{T, ltb, lit≤}
 use lib.Ieee.{Float, nan, fin, binary64, fits, isNan}
 use borrow.Author.Tests.{lt-ltb, le-ltb, ltb-false}
-use Rattle.binary64.specs.Product.{productOf}
-use Rattle.binary64.specs.Factor.{Factor, unit, times}
-use Rattle.binary64.specs.Splitting.{isBad, rate, split}
-use Rattle.binary64.proofs.Splitting.{split-bad}
+use Rattle.floats.specs.Product.{productOf}
+use Rattle.floats.specs.Factor.{Factor, unit, times}
+use Rattle.floats.specs.Splitting.{isBad, rateFactor, split}
+use Rattle.floats.proofs.Splitting.{split-bad}
 use Rattle.accumulator.specs.declared.StableProductFloatAcc.{StableProductFloatAcc}
 use Rattle.accumulator.specs.Joining.{identityAcc}
-use Rattle.kernels.specs.declared.blocks.Lanes.{Lanes}
+use Rattle.kernels.specs.declared.lanes.Lanes.{Lanes}
 use Rattle.kernels.specs.Lanes.{Each, none, more, feed, laneOf, inOrder, every, some}
 use Rattle.kernels.specs.Plain.{laneTimes, lanes, pieceProduct}
 use Rattle.kernels.specs.Blocks.{startLanes, mOf, eOf, unsplitStep, splitStep, inBounds, renormLane, renorm, unsplit, block, blocks, laneIn, lanesIn, contiguous}
-use Rattle.kernels.specs.Pieces.{Rate, accOf}
+use Rattle.kernels.specs.Pieces.{GoodRate, accOf}
 use Rattle.kernels.proofs.Feeding.{feed-related, feed-append, feed-eights, feed-mark, order-keeps, order-related, and-both, every-each, each-map, each-both, each-take, each-drop, some-append, some-none, or-none, or-assoc, neither}
 use Rattle.kernels.proofs.Factors.{lane-lt, set-cases, times-again}
-use Rattle.kernels.specs.Standing.{Stands, Held}
+use Rattle.kernels.specs.InnerLanes.{Represents, LanesRepresent}
 use Rattle.kernels.proofs.Standing.{stands-more, stands-times, stands-split, stands-rate, stands-whole, stands-one, stands-acc}
 use Rattle.kernels.proofs.Bounds.{within-good, within-exponent}
 
@@ -35,26 +35,26 @@ abbrev pub Value : Float → Type 0
 Value x = T (fits binary64 x)
 
 -- values of which none is bad
-pub each-rate : {xs : List Float} → Each Value xs → some isBad xs ≡ false → Each Rate xs
+pub each-rate : {xs : List Float} → Each Value xs → some isBad xs ≡ false → Each GoodRate xs
 unfolding some
 each-rate none e = none
 each-rate (more {x = x} {xs = xs} v vs) e = let p = neither (isBad x) (some isBad xs) e in more (record { value = v; good = p .0 }) (each-rate vs (p .1))
 
 -- ---- eight lanes
-pub held-same : (b b' : ℕ → ℕ) (s s' : Lanes) (fs fs' : List Factor) → s .m ≡ s' .m → s .e ≡ s' .e → fs ≡ fs' → ((k : ℕ) → k < 8 → b k ≤ b' k) → Held b s fs → Held b' s' fs'
+pub held-same : (b b' : ℕ → ℕ) (s s' : Lanes) (fs fs' : List Factor) → s .m ≡ s' .m → s .e ≡ s' .e → fs ≡ fs' → ((k : ℕ) → k < 8 → b k ≤ b' k) → LanesRepresent b s fs → LanesRepresent b' s' fs'
 held-same b b' s s' fs fs' p q r l h = record {
   m-long = ap length (sym p) ∙ h .m-long;
   e-long = ap length (sym q) ∙ h .e-long;
   f-long = ap length (sym r) ∙ h .f-long;
   at = λ k i.
       stands-more (b k) (b' k) (mOf s' k) (eOf s' k) (getD fs' k (unit 52)) (l k i)
-      (subst (λ (l : List Float). Stands (b k) (getD l k nan) (eOf s' k) (getD fs' k (unit 52))) p
-      (subst (λ (l : List ℤ). Stands (b k) (mOf s k) (getD l k (pos 0)) (getD fs' k (unit 52))) q
-      (subst (λ (l : List Factor). Stands (b k) (mOf s k) (eOf s k) (getD l k (unit 52))) r (h .at k i))));
+      (subst (λ (l : List Float). Represents (b k) (getD l k nan) (eOf s' k) (getD fs' k (unit 52))) p
+      (subst (λ (l : List ℤ). Represents (b k) (mOf s k) (getD l k (pos 0)) (getD fs' k (unit 52))) q
+      (subst (λ (l : List Factor). Represents (b k) (mOf s k) (eOf s k) (getD l k (unit 52))) r (h .at k i))));
 }
 
 -- lane j gets a new m, e and factor
-module _ (b b' : ℕ → ℕ) (s : Lanes) (fs : List Factor) (j : ℕ) (m' : Float) (e' : ℤ) (g : Factor) (q : Bool) (h : Held b s fs) (J : j < 8) (S : Stands (b' j) m' e' g)
+module _ (b b' : ℕ → ℕ) (s : Lanes) (fs : List Factor) (j : ℕ) (m' : Float) (e' : ℤ) (g : Factor) (q : Bool) (h : LanesRepresent b s fs) (J : j < 8) (S : Represents (b' j) m' e' g)
     (l : (k : ℕ) → k < 8 → (k ≡ j → ⊥) → b k ≤ b' k) where
   in-m : j < length (s .m)
   in-m = subst (λ (n : ℕ). j < n) (sym (h .m-long)) J
@@ -65,15 +65,15 @@ module _ (b b' : ℕ → ℕ) (s : Lanes) (fs : List Factor) (j : ℕ) (m' : Flo
   in-f : j < length fs
   in-f = subst (λ (n : ℕ). j < n) (sym (h .f-long)) J
 
-  held-at : (k : ℕ) → k < 8 → Stands (b' k) (getD (set (s .m) j m') k nan) (getD (set (s .e) j e') k (pos 0)) (getD (set fs j g) k (unit 52))
+  held-at : (k : ℕ) → k < 8 → Represents (b' k) (getD (set (s .m) j m') k nan) (getD (set (s .e) j e') k (pos 0)) (getD (set fs j g) k (unit 52))
   held-at k i =
-      set-cases (λ (x : Float). Stands (b' k) x (getD (set (s .e) j e') k (pos 0)) (getD (set fs j g) k (unit 52))) (s .m) j k m' nan in-m
-      (λ p. set-cases (λ (y : ℤ). Stands (b' k) m' y (getD (set fs j g) k (unit 52))) (s .e) j k e' (pos 0) in-e
-      (λ p'. set-cases (λ (f : Factor). Stands (b' k) m' e' f) fs j k g (unit 52) in-f (λ p''. subst (λ (x : ℕ). Stands (b' x) m' e' g) (sym p) S) (λ n. absurd (n p))) (λ n. absurd (n p)))
-      (λ n. set-cases (λ (y : ℤ). Stands (b' k) (mOf s k) y (getD (set fs j g) k (unit 52))) (s .e) j k e' (pos 0) in-e (λ p. absurd (n p))
-      (λ n'. set-cases (λ (f : Factor). Stands (b' k) (mOf s k) (eOf s k) f) fs j k g (unit 52) in-f (λ p. absurd (n p)) (λ n''. stands-more (b k) (b' k) (mOf s k) (eOf s k) (getD fs k (unit 52)) (l k i n) (h .at k i))))
+      set-cases (λ (x : Float). Represents (b' k) x (getD (set (s .e) j e') k (pos 0)) (getD (set fs j g) k (unit 52))) (s .m) j k m' nan in-m
+      (λ p. set-cases (λ (y : ℤ). Represents (b' k) m' y (getD (set fs j g) k (unit 52))) (s .e) j k e' (pos 0) in-e
+      (λ p'. set-cases (λ (f : Factor). Represents (b' k) m' e' f) fs j k g (unit 52) in-f (λ p''. subst (λ (x : ℕ). Represents (b' x) m' e' g) (sym p) S) (λ n. absurd (n p))) (λ n. absurd (n p)))
+      (λ n. set-cases (λ (y : ℤ). Represents (b' k) (mOf s k) y (getD (set fs j g) k (unit 52))) (s .e) j k e' (pos 0) in-e (λ p. absurd (n p))
+      (λ n'. set-cases (λ (f : Factor). Represents (b' k) (mOf s k) (eOf s k) f) fs j k g (unit 52) in-f (λ p. absurd (n p)) (λ n''. stands-more (b k) (b' k) (mOf s k) (eOf s k) (getD fs k (unit 52)) (l k i n) (h .at k i))))
 
-  pub held-set : Held b' (record { m = set (s .m) j m'; e = set (s .e) j e'; bad = q }) (set fs j g)
+  pub held-set : LanesRepresent b' (record { m = set (s .m) j m'; e = set (s .e) j e'; bad = q }) (set fs j g)
   held-set = record {
     m-long = length-set (s .m) j m' ∙ h .m-long;
     e-long = length-set (s .e) j e' ∙ h .e-long;
@@ -81,15 +81,15 @@ module _ (b b' : ℕ → ℕ) (s : Lanes) (fs : List Factor) (j : ℕ) (m' : Flo
     at = held-at;
   }
 
-pub held-start : Held (λ (k : ℕ). 0) startLanes (replicate 8 (unit 52))
+pub held-start : LanesRepresent (λ (k : ℕ). 0) startLanes (replicate 8 (unit 52))
 held-start = record {
   m-long = length-replicate 8 (fin false 1 (pos 0));
   e-long = length-replicate 8 (pos 0);
   f-long = length-replicate 8 (unit 52);
   at = λ k i.
-      subst (λ (x : Float). Stands 0 x (getD (replicate 8 (pos 0)) k (pos 0)) (getD (replicate 8 (unit 52)) k (unit 52))) (sym (getD-replicate 8 k (fin false 1 (pos 0)) nan i))
-      (subst (λ (y : ℤ). Stands 0 (fin false 1 (pos 0)) y (getD (replicate 8 (unit 52)) k (unit 52))) (sym (getD-replicate 8 k (pos 0) (pos 0) i))
-      (subst (λ (f : Factor). Stands 0 (fin false 1 (pos 0)) (pos 0) f) (sym (getD-replicate 8 k (unit 52) (unit 52) i)) stands-one));
+      subst (λ (x : Float). Represents 0 x (getD (replicate 8 (pos 0)) k (pos 0)) (getD (replicate 8 (unit 52)) k (unit 52))) (sym (getD-replicate 8 k (fin false 1 (pos 0)) nan i))
+      (subst (λ (y : ℤ). Represents 0 (fin false 1 (pos 0)) y (getD (replicate 8 (unit 52)) k (unit 52))) (sym (getD-replicate 8 k (pos 0) (pos 0) i))
+      (subst (λ (f : Factor). Represents 0 (fin false 1 (pos 0)) (pos 0) f) (sym (getD-replicate 8 k (unit 52) (unit 52) i)) stands-one));
 }
 
 -- ---- values
@@ -115,8 +115,8 @@ turn-other : (C i k : ℕ) → suc C * count k i ≤ suc C * count k (suc i)
 turn-other C i k = mul-le-mul-left (suc C) (let l : count k i ≤ count k (suc i) = omega arith in l)
 
 -- A value y with an exponent d that stand for a factor g, from whatever format and in whatever way they came: lane i mod 8 then stands for its product with g.
-pub value-held : (C i : ℕ) (s : Lanes) (fs : List Factor) (y : Float) (d : ℤ) (g : Factor) (q : Bool) → suc C * count (laneOf i) i + C + 1 ≤ 1022 → Stands C y d g → Held (λ (k : ℕ). suc C * count k i) s fs
-    → Held (λ (k : ℕ). suc C * count k (suc i)) (record { m = set (s .m) (laneOf i) (productOf 11 52 (mOf s (laneOf i)) y); e = set (s .e) (laneOf i) (eOf s (laneOf i) +ℤ d); bad = q }) (laneTimes 52 i fs g)
+pub value-held : (C i : ℕ) (s : Lanes) (fs : List Factor) (y : Float) (d : ℤ) (g : Factor) (q : Bool) → suc C * count (laneOf i) i + C + 1 ≤ 1022 → Represents C y d g → LanesRepresent (λ (k : ℕ). suc C * count k i) s fs
+    → LanesRepresent (λ (k : ℕ). suc C * count k (suc i)) (record { m = set (s .m) (laneOf i) (productOf 11 52 (mOf s (laneOf i)) y); e = set (s .e) (laneOf i) (eOf s (laneOf i) +ℤ d); bad = q }) (laneTimes 52 i fs g)
 value-held C i s fs y d g q l G h =
     let j = laneOf i in
     let f = getD fs j (unit 52) in
@@ -126,36 +126,36 @@ value-held C i s fs y d g q l G h =
     (stands-times (suc C * count j i) C (mOf s j) y (eOf s j) d f g (h .at j (lane-lt i)) G l))
     (λ k a n. turn-other C i k)
 
-pub split-more : (i : ℕ) (s : Lanes) (fs : List Factor) (x : Float) → i < 512 → Value x → Held (λ (k : ℕ). 1 * count k i) s fs → Held (λ (k : ℕ). 1 * count k (suc i)) (splitStep i s x) (laneTimes 52 i fs (rate x))
+pub split-more : (i : ℕ) (s : Lanes) (fs : List Factor) (x : Float) → i < 512 → Value x → LanesRepresent (λ (k : ℕ). 1 * count k i) s fs → LanesRepresent (λ (k : ℕ). 1 * count k (suc i)) (splitStep i s x) (laneTimes 52 i fs (rateFactor x))
 unfolding splitStep
-split-more i s fs x l v h = value-held 0 i s fs (split x .m) (split x .e) (rate x) (s .bad || split x .bad) (omega arith) (stands-rate x) h
+split-more i s fs x l v h = value-held 0 i s fs (split x .m) (split x .e) (rateFactor x) (s .bad || split x .bad) (omega arith) (stands-rate x) h
 
 -- unsplit: the value is in the bounds
 pub record Near (x : Float) : Type 0 where
   pub value : Value x
   pub near : inBounds x ≡ true
 
-pub unsplit-more : (i : ℕ) (s : Lanes) (fs : List Factor) (x : Float) → i < 64 → Near x → Held (λ (k : ℕ). 121 * count k i) s fs → Held (λ (k : ℕ). 121 * count k (suc i)) (unsplitStep i s x) (laneTimes 52 i fs (rate x))
+pub unsplit-more : (i : ℕ) (s : Lanes) (fs : List Factor) (x : Float) → i < 64 → Near x → LanesRepresent (λ (k : ℕ). 121 * count k i) s fs → LanesRepresent (λ (k : ℕ). 121 * count k (suc i)) (unsplitStep i s x) (laneTimes 52 i fs (rateFactor x))
 unfolding unsplitStep
 unsplit-more i s fs x l n h =
     let j = laneOf i in
     let b : ℕ → ℕ = λ (k : ℕ). 121 * count k (suc i) in
     let t : Lanes = record { m = set (s .m) j (productOf 11 52 (mOf s j) x); e = s .e; bad = s .bad } in
     let X = stands-whole 120 x (n .value) (within-good 120 (lit≤ tt) x (n .value) (n .near)) (within-exponent 119 (lit≤ tt) x (n .value) (n .near)) in
-    held-same b b (record { m = t .m; e = set (s .e) j (eOf s j +ℤ pos 0); bad = s .bad }) t (laneTimes 52 i fs (rate x)) (laneTimes 52 i fs (rate x))
+    held-same b b (record { m = t .m; e = set (s .e) j (eOf s j +ℤ pos 0); bad = s .bad }) t (laneTimes 52 i fs (rateFactor x)) (laneTimes 52 i fs (rateFactor x))
     refl (ap (set (s .e) j) (+ℤ-idr (eOf s j)) ∙ set-getD (s .e) j (pos 0)) refl (λ k a. le-refl (b k))
-    (value-held 120 i s fs x (pos 0) (rate x) (s .bad) (turn-small 120 i (le-refl 120) l) X h)
+    (value-held 120 i s fs x (pos 0) (rateFactor x) (s .bad) (turn-small 120 i (le-refl 120) l) X h)
 
 -- ---- bringing back
 -- lanes below j are brought back, the others are as they were
 record Back (s : Lanes) (fs : List Factor) (j : ℕ) (t : Lanes) : Type 0 where
   m-long : length (t .m) ≡ 8
   e-long : length (t .e) ≡ 8
-  done : (k : ℕ) → k < 8 → k < j → Stands 0 (mOf t k) (eOf t k) (getD fs k (unit 52))
+  done : (k : ℕ) → k < 8 → k < j → Represents 0 (mOf t k) (eOf t k) (getD fs k (unit 52))
   left : (k : ℕ) → k < 8 → j ≤ k → (mOf t k ≡ mOf s k) × (eOf t k ≡ eOf s k)
 
 -- each lane, brought back by itself, stands for its factor: so do all of them
-module _ (s : Lanes) (fs : List Factor) (each : (k : ℕ) → k < 8 → Stands 0 (split (mOf s k) .m) (eOf s k +ℤ split (mOf s k) .e) (getD fs k (unit 52))) where
+module _ (s : Lanes) (fs : List Factor) (each : (k : ℕ) → k < 8 → Represents 0 (split (mOf s k) .m) (eOf s k +ℤ split (mOf s k) .e) (getD fs k (unit 52))) where
   back-turn : (j : ℕ) (t : Lanes) → j < 8 → Back s fs j t → Back s fs (suc j) (renormLane j t)
   unfolding renormLane
   back-turn j t J b =
@@ -163,9 +163,9 @@ module _ (s : Lanes) (fs : List Factor) (each : (k : ℕ) → k < 8 → Stands 0
         m-long = length-set (t .m) j m' ∙ b .m-long;
         e-long = length-set (t .e) j e' ∙ b .e-long;
         done = λ k i h.
-            set-cases (λ (x : Float). Stands 0 x (getD (set (t .e) j e') k (pos 0)) (getD fs k (unit 52))) (t .m) j k m' nan in-m
-            (λ p. set-cases (λ (y : ℤ). Stands 0 m' y (getD fs k (unit 52))) (t .e) j k e' (pos 0) in-e (λ q. subst (λ (x : ℕ). Stands 0 m' e' (getD fs x (unit 52))) (sym p) here) (λ n. absurd (n p)))
-            (λ n. set-cases (λ (y : ℤ). Stands 0 (mOf t k) y (getD fs k (unit 52))) (t .e) j k e' (pos 0) in-e (λ p. absurd (n p)) (λ q. b .done k i (lt-of-le-ne (le-of-lt-suc h) n)));
+            set-cases (λ (x : Float). Represents 0 x (getD (set (t .e) j e') k (pos 0)) (getD fs k (unit 52))) (t .m) j k m' nan in-m
+            (λ p. set-cases (λ (y : ℤ). Represents 0 m' y (getD fs k (unit 52))) (t .e) j k e' (pos 0) in-e (λ q. subst (λ (x : ℕ). Represents 0 m' e' (getD fs x (unit 52))) (sym p) here) (λ n. absurd (n p)))
+            (λ n. set-cases (λ (y : ℤ). Represents 0 (mOf t k) y (getD fs k (unit 52))) (t .e) j k e' (pos 0) in-e (λ p. absurd (n p)) (λ q. b .done k i (lt-of-le-ne (le-of-lt-suc h) n)));
         left = λ k i h. (
           set-cases (λ (x : Float). x ≡ mOf s k) (t .m) j k m' nan in-m (λ p. absurd (let l : j < k = h in omega (arith, p))) (λ n. b .left k i (le-of-lt h) .0),
           set-cases (λ (y : ℤ). y ≡ eOf s k) (t .e) j k e' (pos 0) in-e (λ p. absurd (let l : j < k = h in omega (arith, p))) (λ n. b .left k i (le-of-lt h) .1),
@@ -187,47 +187,47 @@ module _ (s : Lanes) (fs : List Factor) (each : (k : ℕ) → k < 8 → Stands 0
       le-of-lt-suc : {x y : ℕ} → x < suc y → x ≤ y
       le-of-lt-suc h = omega arith
 
-      here : Stands 0 m' e' (getD fs j (unit 52))
+      here : Represents 0 m' e' (getD fs j (unit 52))
       here =
-          subst (λ (x : Float). Stands 0 (split x .m) (eOf t j +ℤ split x .e) (getD fs j (unit 52))) (sym (b .left j J (le-refl j) .0))
-          (subst (λ (y : ℤ). Stands 0 (split (mOf s j) .m) (y +ℤ split (mOf s j) .e) (getD fs j (unit 52))) (sym (b .left j J (le-refl j) .1)) (each j J))
+          subst (λ (x : Float). Represents 0 (split x .m) (eOf t j +ℤ split x .e) (getD fs j (unit 52))) (sym (b .left j J (le-refl j) .0))
+          (subst (λ (y : ℤ). Represents 0 (split (mOf s j) .m) (y +ℤ split (mOf s j) .e) (getD fs j (unit 52))) (sym (b .left j J (le-refl j) .1)) (each j J))
 
-  pub renorm-each : length (s .m) ≡ 8 → length (s .e) ≡ 8 → length fs ≡ 8 → Held (λ (k : ℕ). 0) (renorm s) fs
+  pub renorm-each : length (s .m) ≡ 8 → length (s .e) ≡ 8 → length fs ≡ 8 → LanesRepresent (λ (k : ℕ). 0) (renorm s) fs
   unfolding renorm
   renorm-each m e f =
       let b = order-keeps renormLane (Back s fs) 8 (λ j t. back-turn j t) s (record { m-long = m; e-long = e; done = λ k i h. absurd (omega arith); left = λ k i h. (refl, refl) }) in
       record { m-long = b .m-long; e-long = b .e-long; f-long = f; at = λ k i. b .done k i i }
 
-pub renorm-held : (B : ℕ) → B ≤ 1022 → (fs : List Factor) (b : ℕ → ℕ) (s : Lanes) → ((k : ℕ) → k < 8 → b k ≤ B) → Held b s fs → Held (λ (k : ℕ). 0) (renorm s) fs
+pub renorm-held : (B : ℕ) → B ≤ 1022 → (fs : List Factor) (b : ℕ → ℕ) (s : Lanes) → ((k : ℕ) → k < 8 → b k ≤ B) → LanesRepresent b s fs → LanesRepresent (λ (k : ℕ). 0) (renorm s) fs
 renorm-held B small fs b s l H =
     renorm-each s fs
     (λ k i. stands-split B (mOf s k) (eOf s k) (getD fs k (unit 52)) small (stands-more (b k) B (mOf s k) (eOf s k) (getD fs k (unit 52)) (l k i) (H .at k i)))
     (H .m-long) (H .e-long) (H .f-long)
 
 -- ---- values of one block, or those that are left: at most 64
-module _ (s : Lanes) (fs : List Factor) (xs : List Float) (short : length xs ≤ 64) (H : Held (λ (k : ℕ). 0) s fs) where
-  begins : (c : ℕ) → Held (λ (k : ℕ). c * count k 0) s fs
+module _ (s : Lanes) (fs : List Factor) (xs : List Float) (short : length xs ≤ 64) (H : LanesRepresent (λ (k : ℕ). 0) s fs) where
+  begins : (c : ℕ) → LanesRepresent (λ (k : ℕ). c * count k 0) s fs
   begins c = held-same (λ (k : ℕ). 0) (λ (k : ℕ). c * count k 0) s s fs fs refl refl refl (λ k a. zero-le) H
 
   few : (k : ℕ) → k < 8 → count k (length xs) ≤ 8
   few k a = omega arith
 
-  split-held : Each Value xs → Held (λ (k : ℕ). 0) (renorm (feed splitStep 0 s xs)) (feed (laneTimes 52) 0 fs (map rate xs))
+  split-held : Each Value xs → LanesRepresent (λ (k : ℕ). 0) (renorm (feed splitStep 0 s xs)) (feed (laneTimes 52) 0 fs (map rateFactor xs))
   split-held R =
-      renorm-held 968 (lit≤ tt) (feed (laneTimes 52) 0 fs (map rate xs)) (λ (k : ℕ). 1 * count k (0 + length xs)) (feed splitStep 0 s xs) (λ k a. omega (arith, few k a))
-      (feed-related splitStep (laneTimes 52) rate Value (λ (i : ℕ). Held (λ (k : ℕ). 1 * count k i)) 512 split-more 0 s fs R (omega arith) (begins 1))
+      renorm-held 968 (lit≤ tt) (feed (laneTimes 52) 0 fs (map rateFactor xs)) (λ (k : ℕ). 1 * count k (0 + length xs)) (feed splitStep 0 s xs) (λ k a. omega (arith, few k a))
+      (feed-related splitStep (laneTimes 52) rateFactor Value (λ (i : ℕ). LanesRepresent (λ (k : ℕ). 1 * count k i)) 512 split-more 0 s fs R (omega arith) (begins 1))
 
-  unsplit-held : Each Near xs → Held (λ (k : ℕ). 0) (renorm (feed unsplitStep 0 s xs)) (feed (laneTimes 52) 0 fs (map rate xs))
+  unsplit-held : Each Near xs → LanesRepresent (λ (k : ℕ). 0) (renorm (feed unsplitStep 0 s xs)) (feed (laneTimes 52) 0 fs (map rateFactor xs))
   unsplit-held R =
-      renorm-held 968 (lit≤ tt) (feed (laneTimes 52) 0 fs (map rate xs)) (λ (k : ℕ). 121 * count k (0 + length xs)) (feed unsplitStep 0 s xs) (λ k a. omega (arith, few k a))
-      (feed-related unsplitStep (laneTimes 52) rate Near (λ (i : ℕ). Held (λ (k : ℕ). 121 * count k i)) 64 unsplit-more 0 s fs R (omega arith) (begins 121))
+      renorm-held 968 (lit≤ tt) (feed (laneTimes 52) 0 fs (map rateFactor xs)) (λ (k : ℕ). 121 * count k (0 + length xs)) (feed unsplitStep 0 s xs) (λ k a. omega (arith, few k a))
+      (feed-related unsplitStep (laneTimes 52) rateFactor Near (λ (i : ℕ). LanesRepresent (λ (k : ℕ). 121 * count k i)) 64 unsplit-more 0 s fs R (omega arith) (begins 121))
 
   -- unsplit or split, a block stands for the same factors
-  block-held : Each Value xs → Held (λ (k : ℕ). 0) (block s xs) (feed (laneTimes 52) 0 fs (map rate xs))
+  block-held : Each Value xs → LanesRepresent (λ (k : ℕ). 0) (block s xs) (feed (laneTimes 52) 0 fs (map rateFactor xs))
   unfolding block unsplit
   block-held R = go (unsplit s xs) refl
     where
-      go : (t : Bool) → unsplit s xs ≡ t → Held (λ (k : ℕ). 0) (renorm (cond t (feed unsplitStep 0 s xs) (feed splitStep 0 s xs))) (feed (laneTimes 52) 0 fs (map rate xs))
+      go : (t : Bool) → unsplit s xs ≡ t → LanesRepresent (λ (k : ℕ). 0) (renorm (cond t (feed unsplitStep 0 s xs) (feed splitStep 0 s xs))) (feed (laneTimes 52) 0 fs (map rateFactor xs))
       go true e =
           unsplit-held
           (each-map (λ (x : Float). Value x × (inBounds x ≡ true)) Near (λ x p. record { value = p .0; near = p .1 })
@@ -237,31 +237,31 @@ module _ (s : Lanes) (fs : List Factor) (xs : List Float) (short : length xs ≤
 -- ---- all of a piece
 -- the plain lanes, 64 rates at a time
 lanes-on : (fs : List Factor) (xs : List Float) → 64 ≤ length xs
-    → feed (laneTimes 52) 0 (feed (laneTimes 52) 0 fs (map rate (take 64 xs))) (map rate (drop 64 xs)) ≡ feed (laneTimes 52) 0 fs (map rate xs)
+    → feed (laneTimes 52) 0 (feed (laneTimes 52) 0 fs (map rateFactor (take 64 xs))) (map rateFactor (drop 64 xs)) ≡ feed (laneTimes 52) 0 fs (map rateFactor xs)
 lanes-on fs xs h =
     sym
-    (ap (λ (l : List Float). feed (laneTimes 52) 0 fs (map rate l)) (sym (take-append-drop 64 xs))
-    ∙ ap (feed (laneTimes 52) 0 fs) (map-append rate (take 64 xs) (drop 64 xs))
-    ∙ feed-append (laneTimes 52) 0 fs (map rate (take 64 xs)) (map rate (drop 64 xs))
-    ∙ ap (λ (n : ℕ). feed (laneTimes 52) n (feed (laneTimes 52) 0 fs (map rate (take 64 xs))) (map rate (drop 64 xs))) long
-    ∙ feed-eights (laneTimes 52) (times-again 52) 8 (feed (laneTimes 52) 0 fs (map rate (take 64 xs))) (map rate (drop 64 xs)))
+    (ap (λ (l : List Float). feed (laneTimes 52) 0 fs (map rateFactor l)) (sym (take-append-drop 64 xs))
+    ∙ ap (feed (laneTimes 52) 0 fs) (map-append rateFactor (take 64 xs) (drop 64 xs))
+    ∙ feed-append (laneTimes 52) 0 fs (map rateFactor (take 64 xs)) (map rateFactor (drop 64 xs))
+    ∙ ap (λ (n : ℕ). feed (laneTimes 52) n (feed (laneTimes 52) 0 fs (map rateFactor (take 64 xs))) (map rateFactor (drop 64 xs))) long
+    ∙ feed-eights (laneTimes 52) (times-again 52) 8 (feed (laneTimes 52) 0 fs (map rateFactor (take 64 xs))) (map rateFactor (drop 64 xs)))
   where
-    long : 0 + length (map rate (take 64 xs)) ≡ 8 * 8
-    long = omega (arith, length-map (take 64 xs) rate, length-take 64 xs)
+    long : 0 + length (map rateFactor (take 64 xs)) ≡ 8 * 8
+    long = omega (arith, length-map (take 64 xs) rateFactor, length-take 64 xs)
 
-blocks-held : (n : ℕ) (s : Lanes) (fs : List Factor) (xs : List Float) → 64 * n ≤ length xs → length xs ≤ 64 * n + 64 → Each Value xs → Held (λ (k : ℕ). 0) s fs
-    → Held (λ (k : ℕ). 0) (blocks n s xs) (feed (laneTimes 52) 0 fs (map rate xs))
+blocks-held : (n : ℕ) (s : Lanes) (fs : List Factor) (xs : List Float) → 64 * n ≤ length xs → length xs ≤ 64 * n + 64 → Each Value xs → LanesRepresent (λ (k : ℕ). 0) s fs
+    → LanesRepresent (λ (k : ℕ). 0) (blocks n s xs) (feed (laneTimes 52) 0 fs (map rateFactor xs))
 unfolding blocks
 blocks-held zero s fs xs lo hi R H = split-held s fs xs (omega arith) H R
 blocks-held (suc n) s fs xs lo hi R H =
     let ys = take 64 xs in
-    subst (Held (λ (k : ℕ). 0) (blocks n (block s ys) (drop 64 xs))) (lanes-on fs xs (omega arith))
-    (blocks-held n (block s ys) (feed (laneTimes 52) 0 fs (map rate ys)) (drop 64 xs) (omega (arith, length-drop 64 xs)) (omega (arith, length-drop 64 xs)) (each-drop Value 64 R)
+    subst (LanesRepresent (λ (k : ℕ). 0) (blocks n (block s ys) (drop 64 xs))) (lanes-on fs xs (omega arith))
+    (blocks-held n (block s ys) (feed (laneTimes 52) 0 fs (map rateFactor ys)) (drop 64 xs) (omega (arith, length-drop 64 xs)) (omega (arith, length-drop 64 xs)) (each-drop Value 64 R)
     (block-held s fs ys (omega (arith, length-take 64 xs)) H (each-take Value 64 R)))
 
 -- ---- the lanes multiplied in order
-lane-in : (s : Lanes) (fs : List Factor) (k : ℕ) (a : StableProductFloatAcc) (p : Factor) → k < 8 → Held (λ (k : ℕ). 0) s fs → Stands 0 (a .m) (a .e) p
-    → Stands 0 (laneIn s k a .m) (laneIn s k a .e) (times 52 p (getD fs k (unit 52)))
+lane-in : (s : Lanes) (fs : List Factor) (k : ℕ) (a : StableProductFloatAcc) (p : Factor) → k < 8 → LanesRepresent (λ (k : ℕ). 0) s fs → Represents 0 (a .m) (a .e) p
+    → Represents 0 (laneIn s k a .m) (laneIn s k a .e) (times 52 p (getD fs k (unit 52)))
 unfolding laneIn
 lane-in s fs k a p h H P =
     let m = productOf 11 52 (a .m) (mOf s k) in
@@ -321,31 +321,31 @@ contiguous-mark xs v = lanes-mark (blocks (length xs / 64) startLanes xs) ∙ bl
 
 -- Blocks of 64 give the m and e of the plain product of the piece's factors, whatever the rates: a bad one counts with its fraction and field.
 pub contiguous-is : {xs : List Float} → Each Value xs
-    → contiguous xs ≡ record { m = accOf (pieceProduct 52 (map rate xs)) .m; e = pieceProduct 52 (map rate xs) .exp; bad = some isBad xs }
+    → contiguous xs ≡ record { m = accOf (pieceProduct 52 (map rateFactor xs)) .m; e = pieceProduct 52 (map rateFactor xs) .exp; bad = some isBad xs }
 unfolding contiguous lanesIn pieceProduct lanes
 contiguous-is {xs} v =
     ap (λ (b : Bool). record { m = r .m; e = r .e; bad = b }) (contiguous-mark xs v)
-    ∙ ap (λ (a : StableProductFloatAcc). record { m = a .m; e = a .e; bad = some isBad xs }) (stands-acc (r .m) (r .e) (pieceProduct 52 (map rate xs)) stood)
+    ∙ ap (λ (a : StableProductFloatAcc). record { m = a .m; e = a .e; bad = some isBad xs }) (stands-acc (r .m) (r .e) (pieceProduct 52 (map rateFactor xs)) stood)
   where
     s : Lanes
     s = blocks (length xs / 64) startLanes xs
 
     fs : List Factor
-    fs = lanes 52 (map rate xs)
+    fs = lanes 52 (map rateFactor xs)
 
     r : StableProductFloatAcc
     r = contiguous xs
 
-    held : Held (λ (k : ℕ). 0) s fs
+    held : LanesRepresent (λ (k : ℕ). 0) s fs
     held = blocks-held (length xs / 64) startLanes (replicate 8 (unit 52)) xs (omega arith) (omega arith) v held-start
 
-    stood : Stands 0 (r .m) (r .e) (pieceProduct 52 (map rate xs))
+    stood : Represents 0 (r .m) (r .e) (pieceProduct 52 (map rateFactor xs))
     stood =
-        order-related (laneIn s) (λ (k : ℕ) (p : Factor). times 52 p (getD fs k (unit 52))) (λ (a : StableProductFloatAcc) (p : Factor). Stands 0 (a .m) (a .e) p) 8
+        order-related (laneIn s) (λ (k : ℕ) (p : Factor). times 52 p (getD fs k (unit 52))) (λ (a : StableProductFloatAcc) (p : Factor). Represents 0 (a .m) (a .e) p) 8
         (λ k a p h P. lane-in s fs k a p h held P) (record { m = identityAcc .m; e = identityAcc .e; bad = s .bad }) (unit 52) stands-one
 
 -- with no bad rate, blocks of 64 give the plain product of the piece
-pub contiguous-agrees : {xs : List Float} → Each Rate xs → contiguous xs ≡ accOf (pieceProduct 52 (map rate xs))
+pub contiguous-agrees : {xs : List Float} → Each GoodRate xs → contiguous xs ≡ accOf (pieceProduct 52 (map rateFactor xs))
 contiguous-agrees {xs} R =
-    contiguous-is (each-map Rate Value (λ x p. p .value) R)
-    ∙ ap (λ (b : Bool). record { m = accOf (pieceProduct 52 (map rate xs)) .m; e = pieceProduct 52 (map rate xs) .exp; bad = b }) (some-none isBad (each-map Rate (λ (x : Float). isBad x ≡ false) (λ x p. p .good) R))
+    contiguous-is (each-map GoodRate Value (λ x p. p .value) R)
+    ∙ ap (λ (b : Bool). record { m = accOf (pieceProduct 52 (map rateFactor xs)) .m; e = pieceProduct 52 (map rateFactor xs) .exp; bad = b }) (some-none isBad (each-map GoodRate (λ (x : Float). isBad x ≡ false) (λ x p. p .good) R))

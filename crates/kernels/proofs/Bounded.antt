@@ -12,20 +12,21 @@ use lib.Seq.{take-all}
 use lib.IntN.{ℤ, pos, natAbs}
 use lib.Dec.{T, lit<}
 use lib.Ieee.{Float, binary64, fits}
-use Rattle.binary64.specs.Factor.{Factor, Normal, unit, times}
-use Rattle.binary64.specs.Magnitude.{inUnit, moved}
-use Rattle.binary64.specs.Splitting.{rate}
-use Rattle.binary64.proofs.Factor.{unit-normal, times-normal, times-size}
-use Rattle.binary64.proofs.Bridge.{floatOf-fits}
-use Rattle.binary64.proofs.Magnitude.{unit-float}
-use Rattle.binary64.proofs.Splitting.{rate-normal, split-m, split-e, split-unit}
+use Rattle.floats.specs.Factor.{Factor, Normalised, unit, times}
+use Rattle.floats.specs.Magnitude.{inUnit, withExponent}
+use Rattle.floats.specs.Splitting.{rateFactor}
+use Rattle.floats.proofs.Factor.{unit-normal, times-normal, times-size}
+use Rattle.floats.proofs.Bridge.{floatOf-fits}
+use Rattle.floats.proofs.Magnitude.{unit-float}
+use Rattle.floats.proofs.Splitting.{rate-normal, split-m, split-e, split-unit}
 use Rattle.accumulator.specs.declared.StableProductFloatAcc.{StableProductFloatAcc}
 use Rattle.accumulator.specs.Joining.{identityAcc, combined}
 use Rattle.accumulator.proofs.Combining.{combined-bad, combined-good}
 use Rattle.accumulator.proofs.Joins.{multiplied-unit, multiplied-fits}
 use Rattle.kernels.specs.Lanes.{Each, none, more, feed, laneOf, inOrder}
 use Rattle.kernels.specs.Plain.{laneTimes, lanes, pieceProduct}
-use Rattle.kernels.specs.Stepped.{rateAcc, accAt, laneJoined, steppedLanes, lanesJoined, stepped, Sound, SmallAccs, UnitAccs}
+use Rattle.kernels.specs.Stepped.{rateAcc, accAt, laneJoined, steppedLanes, lanesJoined, stepped}
+use Rattle.kernels.specs.InnerStepped.{Sound, SmallAccs, UnitAccs}
 use Rattle.kernels.specs.Blocks.{contiguous}
 use Rattle.kernels.specs.Pieces.{Piece, worked, workedPiece, joinedPieces, rateCount}
 use Rattle.kernels.proofs.Feeding.{feed-keeps, order-keeps, each-of}
@@ -63,7 +64,7 @@ expSize f = natAbs (f .exp)
 module _ (t E : ℕ) where
   -- a factor whose exponent is at most E either way
   pub record Short (f : Factor) : Type 0 where
-    pub normal : Normal t f
+    pub normal : Normalised t f
     pub near : natAbs (f .exp) ≤ E
 
   record Filled (i : ℕ) (fs : List Factor) : Type 0 where
@@ -96,11 +97,11 @@ module _ (t E : ℕ) where
   plain-size {fs} F =
       let h = filled-all F in
       let ls = lanes t fs in
-      let r = order-keeps (λ (k : ℕ) (p : Factor). times t p (getD ls k (unit t))) (λ (k : ℕ) (p : Factor). Normal t p × (expSize p ≤ total expSize (take k ls) + k)) 8 (turn h) (unit t) (unit-normal t, zero-le) in
+      let r = order-keeps (λ (k : ℕ) (p : Factor). times t p (getD ls k (unit t))) (λ (k : ℕ) (p : Factor). Normalised t p × (expSize p ≤ total expSize (take k ls) + k)) 8 (turn h) (unit t) (unit-normal t, zero-le) in
       le-trans (r .1) (subst (λ (l : List Factor). total expSize l + 8 ≤ suc E * length fs + 8) (sym (take-all 8 ls (le-of-eq (h .normal .long)))) (add-le-add (h .near) (le-refl 8)))
     where
-      turn : Filled (length fs) (lanes t fs) → (k : ℕ) (p : Factor) → k < 8 → Normal t p × (expSize p ≤ total expSize (take k (lanes t fs)) + k)
-          → Normal t (times t p (getD (lanes t fs) k (unit t))) × (expSize (times t p (getD (lanes t fs) k (unit t))) ≤ total expSize (take (suc k) (lanes t fs)) + suc k)
+      turn : Filled (length fs) (lanes t fs) → (k : ℕ) (p : Factor) → k < 8 → Normalised t p × (expSize p ≤ total expSize (take k (lanes t fs)) + k)
+          → Normalised t (times t p (getD (lanes t fs) k (unit t))) × (expSize (times t p (getD (lanes t fs) k (unit t))) ≤ total expSize (take (suc k) (lanes t fs)) + suc k)
       turn h k p l r =
           let ls = lanes t fs in
           let g = getD ls k (unit t) in
@@ -116,7 +117,7 @@ identity-sound = record { value = tt; in-unit = refl }
 
 pub rate-sound : (x : Float) → Sound (rateAcc x)
 unfolding rateAcc
-rate-sound x = record { value = subst (λ (m : Float). T (fits binary64 m)) (sym (split-m x)) (floatOf-fits binary64 11 52 refl refl (moved (rate x) (pos 0))); in-unit = split-unit x }
+rate-sound x = record { value = subst (λ (m : Float). T (fits binary64 m)) (sym (split-m x)) (floatOf-fits binary64 11 52 refl refl (withExponent (rateFactor x) (pos 0))); in-unit = split-unit x }
 
 pub combined-sound : (a b : StableProductFloatAcc) → Sound a → Sound b → Sound (combined a b)
 combined-sound a b A C = go (a .bad || b .bad) refl
@@ -189,22 +190,22 @@ module _ (xs : List Float) where
           le-trans (combined-size a (accAt ls k)) (omega arith)
 
 -- ---- blocks of 64
-pub rate-short : (x : Float) → Short 52 1024 (rate x)
+pub rate-short : (x : Float) → Short 52 1024 (rateFactor x)
 rate-short x = record { normal = rate-normal x; near = subst (λ (z : ℤ). natAbs z ≤ 1024) (split-e x) (split-size x) }
 
 module _ {xs : List Float} (v : Each (λ (x : Float). T (fits binary64 x)) xs) where
   pub contiguous-size : natAbs (contiguous xs .e) ≤ 1025 * length xs + 8
   contiguous-size =
       subst (λ (z : ℤ). natAbs z ≤ 1025 * length xs + 8) (sym (ap (λ (a : StableProductFloatAcc). a .e) (contiguous-is v)))
-      (subst (λ (n : ℕ). natAbs (pieceProduct 52 (map rate xs) .exp) ≤ 1025 * n + 8) (length-map xs rate) (plain-size 52 1024 (each-of rate (λ (x : Float). T (fits binary64 x)) (Short 52 1024) (λ x f. rate-short x) v)))
+      (subst (λ (n : ℕ). natAbs (pieceProduct 52 (map rateFactor xs) .exp) ≤ 1025 * n + 8) (length-map xs rateFactor) (plain-size 52 1024 (each-of rateFactor (λ (x : Float). T (fits binary64 x)) (Short 52 1024) (λ x f. rate-short x) v)))
 
   pub contiguous-sound : Sound (contiguous xs)
   contiguous-sound =
-      let p = pieceProduct 52 (map rate xs) in
-      let N = piece-normal 52 (each-of rate (λ (x : Float). T (fits binary64 x)) (Normal 52) (λ x f. rate-normal x) v) in
+      let p = pieceProduct 52 (map rateFactor xs) in
+      let N = piece-normal 52 (each-of rateFactor (λ (x : Float). T (fits binary64 x)) (Normalised 52) (λ x f. rate-normal x) v) in
       let e = ap (λ (a : StableProductFloatAcc). a .m) (contiguous-is v) in
       record {
-        value = subst (λ (m : Float). T (fits binary64 m)) (sym e) (floatOf-fits binary64 11 52 refl refl (moved p (pos 0)));
+        value = subst (λ (m : Float). T (fits binary64 m)) (sym e) (floatOf-fits binary64 11 52 refl refl (withExponent p (pos 0)));
         in-unit = ap inUnit e ∙ unit-float binary64 11 52 refl refl (lit< tt) p N;
       }
 

@@ -13,24 +13,24 @@ use lib.Ieee.Fits.{down-pos}
 use lib.Ieee.Exact.{HasValue}
 use borrow.Author.Tests.{leb-true}
 use Rattle.integers.proofs.Difference.{ints, atoms}
-use Rattle.binary64.specs.Factor.{Factor, InRange}
-use Rattle.binary64.specs.Splitting.{isBad, rate}
-use Rattle.binary64.proofs.Splitting.{rate-normal, rate-range}
+use Rattle.floats.specs.Factor.{Factor, NormalExponent}
+use Rattle.floats.specs.Splitting.{isBad, rateFactor}
+use Rattle.floats.proofs.Splitting.{rate-normal, rate-range}
 use Rattle.accumulator.proofs.Exponents.{limits}
-use Rattle.kernels.specs.Blocks.{within}
+use Rattle.kernels.specs.Blocks.{inRange}
 use Rattle.kernels.proofs.Feeding.{and-both}
 use Rattle.kernels.proofs.Least.{reaches, reaching-good, reaching-exponent, rate-value}
 
 -- the lower bound alone
-within-reaches : (B : ℕ) (x : Float) → within B x ≡ true → reaches B x ≡ true
-unfolding within
+within-reaches : (B : ℕ) (x : Float) → inRange B x ≡ true → reaches B x ≡ true
+unfolding inRange
 within-reaches B nan w = w
 within-reaches B (inf s) w = w
 within-reaches B (fin s m e) w = and-both (leb (down e) (m * up e * 2 ^ B)) (leb (m * up e) (2 ^ B * down e)) w .0
 
 -- by any fraction a / c that the value equals: |x| ≤ 2^B
-value-most : (B : ℕ) (s : Bool) (a c : ℕ) (x : Float) → HasValue x s a c → within B x ≡ true → a ≤ 2 ^ B * c
-unfolding within
+value-most : (B : ℕ) (s : Bool) (a c : ℕ) (x : Float) → HasValue x s a c → inRange B x ≡ true → a ≤ 2 ^ B * c
+unfolding inRange
 value-most B s a c nan h w = absurd h
 value-most B s a c (inf u) h w = absurd h
 value-most B s a c (fin u m e) h w =
@@ -45,14 +45,14 @@ power-le i j h = le-of-suc-le-suc (lt-of-not-le (λ (g : j < i). strict (pow-mon
     strict : 2 ^ suc j ≤ 2 ^ i → 2 ^ i ≤ 2 ^ j → ⊥
     strict a b = omega (arith, pow-pos j)
 
-pub within-good : (B : ℕ) → B ≤ 1021 → (x : Float) → T (fits binary64 x) → within B x ≡ true → isBad x ≡ false
+pub within-good : (B : ℕ) → B ≤ 1021 → (x : Float) → T (fits binary64 x) → inRange B x ≡ true → isBad x ≡ false
 within-good B small x f w = reaching-good B small x f (within-reaches B x w)
 
 -- ---- the exponent
 most-place : (e : ℤ) (p k : ℕ) → e +ℤ pos 1022 ≡ pos p → p ≤ suc k + 1022 → leZ e (pos (suc k)) ≡ true
 most-place e p k = simp ints (simp atoms (omega arith))
 
-pub within-exponent : (k : ℕ) → suc k ≤ 1021 → (x : Float) → T (fits binary64 x) → within (suc k) x ≡ true → natAbs (rate x .exp) ≤ suc k
+pub within-exponent : (k : ℕ) → suc k ≤ 1021 → (x : Float) → T (fits binary64 x) → inRange (suc k) x ≡ true → natAbs (rateFactor x .exp) ≤ suc k
 within-exponent k small x f w =
     leb-true (natAbs (g .exp)) (suc k)
     (sym (limits k (g .exp))
@@ -63,12 +63,12 @@ within-exponent k small x f w =
     B = suc k
 
     g : Factor
-    g = rate x
+    g = rateFactor x
 
     good : isBad x ≡ false
     good = within-good B small x f w
 
-    R : InRange 11 g
+    R : NormalExponent 11 g
     R = rate-range x good
 
     p : ℕ

@@ -4,36 +4,36 @@ use mathlib.Core.Bool.{true, false}
 use mathlib.Core.List.{[]}
 use lib.IntN.{pos, negsuc}
 use lib.Ieee.{nan, fin, size, odd, toBits, isNan}
-use Rattle.binary64.specs.Rounding.{delivered, rounded}
-use Rattle.binary64.specs.Product.{product}
-use Rattle.binary64.specs.Fields.{ofParts, valueOf, badBits}
-use Rattle.binary64.specs.Splitting.{isBad, split}
+use Rattle.floats.specs.Rounding.{delivered, rounded}
+use Rattle.floats.specs.Product.{product}
+use Rattle.floats.specs.Fields.{ofParts, valueOf, badBits}
+use Rattle.floats.specs.Splitting.{isBad, split}
 use Rattle.accumulator.specs.Joining.{identityAcc}
 use Rattle.kernels.specs.Lanes.{feed, inOrder, every, some}
-use Rattle.kernels.specs.Blocks.{unsplitStep, splitStep, within, inBounds, renormLane, renorm, unsplit, block, blocks, laneIn, lanesIn, contiguous}
+use Rattle.kernels.specs.Blocks.{unsplitStep, splitStep, inRange, inBounds, renormLane, renorm, unsplit, block, blocks, laneIn, lanesIn, contiguous}
 
 -- the bounds of a block: 2^120 is in, the next double above is not; likewise 2^-120 and the next below
 pub bound-in : inBounds (fin true 1 (pos 120)) ≡ true
-unfolding within
+unfolding inRange
 bound-in = refl
 
 pub bound-out : inBounds (fin false 4503599627370497 (pos 68)) ≡ false
-unfolding within
+unfolding inRange
 bound-out = refl
 
 pub bound-in-low : inBounds (fin false 1 (negsuc 119)) ≡ true
-unfolding within
+unfolding inRange
 bound-in-low = refl
 
 pub bound-out-low : inBounds (fin false 9007199254740991 (negsuc 172)) ≡ false
-unfolding within
+unfolding inRange
 bound-out-low = refl
 
 pub bound-nan : inBounds nan ≡ false
-unfolding within
+unfolding inRange
 bound-nan = refl
 
 -- no value at all: the identity, as the Rust returns at once
 pub none-blocks : contiguous [] ≡ identityAcc
-unfolding contiguous blocks block unsplit renorm renormLane inOrder feed splitStep unsplitStep within every some laneIn lanesIn split toBits valueOf ofParts delivered isBad badBits product rounded size odd isNan
+unfolding contiguous blocks block unsplit renorm renormLane inOrder feed splitStep unsplitStep inRange every some laneIn lanesIn split toBits valueOf ofParts delivered isBad badBits product rounded size odd isNan
 none-blocks = refl

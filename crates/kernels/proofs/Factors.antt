@@ -6,8 +6,8 @@ use mathlib.Core.Logic.{_⊎_, inl, inr}
 use native.Mathlib.Omega.{arith}
 use lib.ListN.{length, getD, set, replicate, length-set, length-replicate, getD-replicate}
 use lib.Seq.{getD-set-same, getD-set-other}
-use Rattle.binary64.specs.Factor.{Factor, Normal, unit, times}
-use Rattle.binary64.proofs.Factor.{unit-normal, times-normal}
+use Rattle.floats.specs.Factor.{Factor, Normalised, unit, times}
+use Rattle.floats.proofs.Factor.{unit-normal, times-normal}
 use Rattle.kernels.specs.Lanes.{Each, laneOf}
 use Rattle.kernels.specs.Plain.{laneTimes, lanes, pieceProduct}
 use Rattle.kernels.proofs.Feeding.{feed-keeps, order-keeps}
@@ -40,25 +40,25 @@ set-cases P l j k a d h same other = go (compare k j)
 module _ (t : ℕ) where
   pub record NormalLanes (fs : List Factor) : Type 0 where
     pub long : length fs ≡ 8
-    pub at : (k : ℕ) → k < 8 → Normal t (getD fs k (unit t))
+    pub at : (k : ℕ) → k < 8 → Normalised t (getD fs k (unit t))
 
   pub units-normal : NormalLanes (replicate 8 (unit t))
-  units-normal = record { long = length-replicate 8 (unit t); at = λ k h. subst (Normal t) (sym (getD-replicate 8 k (unit t) (unit t) h)) (unit-normal t) }
+  units-normal = record { long = length-replicate 8 (unit t); at = λ k h. subst (Normalised t) (sym (getD-replicate 8 k (unit t) (unit t) h)) (unit-normal t) }
 
-  pub lane-normal : (i : ℕ) (fs : List Factor) (f : Factor) → Normal t f → NormalLanes fs → NormalLanes (laneTimes t i fs f)
+  pub lane-normal : (i : ℕ) (fs : List Factor) (f : Factor) → Normalised t f → NormalLanes fs → NormalLanes (laneTimes t i fs f)
   lane-normal i fs f F N = record {
     long = length-set fs (laneOf i) (times t (getD fs (laneOf i) (unit t)) f) ∙ N .long;
-    at = λ k h. set-cases (Normal t) fs (laneOf i) k (times t (getD fs (laneOf i) (unit t)) f) (unit t) (subst (λ (n : ℕ). laneOf i < n) (sym (N .long)) (lane-lt i)) (λ e. times-normal t (getD fs (laneOf i) (unit t)) f (N .at (laneOf i) (lane-lt i)) F) (λ n. N .at k h);
+    at = λ k h. set-cases (Normalised t) fs (laneOf i) k (times t (getD fs (laneOf i) (unit t)) f) (unit t) (subst (λ (n : ℕ). laneOf i < n) (sym (N .long)) (lane-lt i)) (λ e. times-normal t (getD fs (laneOf i) (unit t)) f (N .at (laneOf i) (lane-lt i)) F) (λ n. N .at k h);
   }
 
-  pub lanes-normal : {fs : List Factor} → Each (Normal t) fs → NormalLanes (lanes t fs)
+  pub lanes-normal : {fs : List Factor} → Each (Normalised t) fs → NormalLanes (lanes t fs)
   unfolding lanes
-  lanes-normal {fs} N = feed-keeps (laneTimes t) (Normal t) (λ (i : ℕ). NormalLanes) (length fs) (λ i s x h. lane-normal i s x) 0 (replicate 8 (unit t)) N (omega arith) units-normal
+  lanes-normal {fs} N = feed-keeps (laneTimes t) (Normalised t) (λ (i : ℕ). NormalLanes) (length fs) (λ i s x h. lane-normal i s x) 0 (replicate 8 (unit t)) N (omega arith) units-normal
 
-  pub piece-normal : {fs : List Factor} → Each (Normal t) fs → Normal t (pieceProduct t fs)
+  pub piece-normal : {fs : List Factor} → Each (Normalised t) fs → Normalised t (pieceProduct t fs)
   unfolding pieceProduct
   piece-normal {fs} N =
-      order-keeps (λ (k : ℕ) (p : Factor). times t p (getD (lanes t fs) k (unit t))) (λ (k : ℕ). Normal t) 8
+      order-keeps (λ (k : ℕ) (p : Factor). times t p (getD (lanes t fs) k (unit t))) (λ (k : ℕ). Normalised t) 8
       (λ k p h P. times-normal t p (getD (lanes t fs) k (unit t)) P (lanes-normal N .at k h)) (unit t) (unit-normal t)
 
   pub times-again : (i : ℕ) (fs : List Factor) (f : Factor) → laneTimes t (i + 8) fs f ≡ laneTimes t i fs f

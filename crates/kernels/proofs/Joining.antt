@@ -4,19 +4,19 @@ use mathlib.Core.Bool.{Bool, true, false, _||_}
 use lib.IntN.{ℤ, pos}
 use lib.Dec.{T, lit<}
 use lib.Ieee.{Float, binary64, fits}
-use Rattle.binary64.specs.Product.{productOf}
-use Rattle.binary64.specs.Factor.{Factor, Normal, unit, times, floatOf}
-use Rattle.binary64.specs.Magnitude.{inUnit, twoOrMore, factorAt, moved}
-use Rattle.binary64.specs.Splitting.{isBad, rate, split}
-use Rattle.binary64.proofs.Bridge.{floatOf-fits}
-use Rattle.binary64.proofs.Magnitude.{unit-float, factor-at-float, float-at}
-use Rattle.binary64.proofs.Splitting.{split-bad}
+use Rattle.floats.specs.Product.{productOf}
+use Rattle.floats.specs.Factor.{Factor, Normalised, unit, times, floatOf}
+use Rattle.floats.specs.Magnitude.{inUnit, twoOrMore, factorAt, withExponent}
+use Rattle.floats.specs.Splitting.{isBad, rateFactor, split}
+use Rattle.floats.proofs.Bridge.{floatOf-fits}
+use Rattle.floats.proofs.Magnitude.{unit-float, factor-at-float, float-at}
+use Rattle.floats.proofs.Splitting.{split-bad}
 use Rattle.accumulator.specs.declared.StableProductFloatAcc.{StableProductFloatAcc}
 use Rattle.accumulator.specs.Joining.{identityAcc, factorOfAcc, multiplied, combined}
 use Rattle.accumulator.proofs.Combining.{combined-bad, combined-good, multiplied-two, multiplied-less}
 use Rattle.accumulator.proofs.Joins.{multiplied-unit, multiplied-fits, multiplied-times}
 use Rattle.kernels.specs.Stepped.{rateAcc}
-use Rattle.kernels.specs.Pieces.{Rate, accOf}
+use Rattle.kernels.specs.Pieces.{GoodRate, accOf}
 use Rattle.kernels.proofs.Standing.{stands-rate, stands-one, stands-acc}
 
 -- ---- the mark
@@ -36,19 +36,19 @@ combined-mark a b = go (a .bad || b .bad) refl
     go false h = ap (λ (r : StableProductFloatAcc). r .bad) (combined-good a b h) ∙ multiplied-mark a b ∙ sym h
 
 -- ---- accumulators of factors
-acc-is : (a : StableProductFloatAcc) (f : Factor) → a .m ≡ floatOf 11 52 (moved f (pos 0)) → a .e ≡ f .exp → a .bad ≡ false → a ≡ accOf f
-acc-is a f p q r = fields (a .m) (floatOf 11 52 (moved f (pos 0))) (a .e) (f .exp) (a .bad) p q r
+acc-is : (a : StableProductFloatAcc) (f : Factor) → a .m ≡ floatOf 11 52 (withExponent f (pos 0)) → a .e ≡ f .exp → a .bad ≡ false → a ≡ accOf f
+acc-is a f p q r = fields (a .m) (floatOf 11 52 (withExponent f (pos 0))) (a .e) (f .exp) (a .bad) p q r
   where
     fields : (m m' : Float) (e e' : ℤ) (b : Bool) → m ≡ m' → e ≡ e' → b ≡ false → _≡_ {A = StableProductFloatAcc} (record { m = m; e = e; bad = b }) (record { m = m'; e = e'; bad = false })
     fields m m' e e' b p q r = cc
 
 -- two that are not bad join to their product
-pub combined-times : (f g : Factor) → Normal 52 f → Normal 52 g → combined (accOf f) (accOf g) ≡ accOf (times 52 f g)
+pub combined-times : (f g : Factor) → Normalised 52 f → Normalised 52 g → combined (accOf f) (accOf g) ≡ accOf (times 52 f g)
 unfolding factorAt
 combined-times f g F G =
     combined-good (accOf f) (accOf g) refl
     ∙ acc-is r (times 52 f g)
-    (sym (float-at binary64 11 52 refl refl (lit< tt) (r .m) (multiplied-fits a b fa fb ua ub) (multiplied-unit a b fa fb ua ub)) ∙ ap (λ (h : Factor). floatOf 11 52 (moved h (pos 0))) product)
+    (sym (float-at binary64 11 52 refl refl (lit< tt) (r .m) (multiplied-fits a b fa fb ua ub) (multiplied-unit a b fa fb ua ub)) ∙ ap (λ (h : Factor). floatOf 11 52 (withExponent h (pos 0))) product)
     (ap (λ (h : Factor). h .exp) product)
     (multiplied-mark a b)
   where
@@ -62,10 +62,10 @@ combined-times f g F G =
     r = multiplied a b
 
     fa : T (fits binary64 (a .m))
-    fa = floatOf-fits binary64 11 52 refl refl (moved f (pos 0))
+    fa = floatOf-fits binary64 11 52 refl refl (withExponent f (pos 0))
 
     fb : T (fits binary64 (b .m))
-    fb = floatOf-fits binary64 11 52 refl refl (moved g (pos 0))
+    fb = floatOf-fits binary64 11 52 refl refl (withExponent g (pos 0))
 
     ua : inUnit (a .m) ≡ true
     ua = unit-float binary64 11 52 refl refl (lit< tt) f F
@@ -83,11 +83,11 @@ pub identity-is : identityAcc ≡ accOf (unit 52)
 identity-is = stands-acc (identityAcc .m) (identityAcc .e) (unit 52) stands-one
 
 -- a rate that is not bad is the accumulator of its factor
-pub rate-is : (x : Float) → Rate x → rateAcc x ≡ accOf (rate x)
+pub rate-is : (x : Float) → GoodRate x → rateAcc x ≡ accOf (rateFactor x)
 unfolding rateAcc
 rate-is x r =
     ap (λ (b : Bool). record { m = split x .m; e = split x .e; bad = b }) (split-bad x ∙ r .good)
-    ∙ stands-acc (split x .m) (split x .e) (rate x) (stands-rate x)
+    ∙ stands-acc (split x .m) (split x .e) (rateFactor x) (stands-rate x)
 
 pub rate-mark : (x : Float) → rateAcc x .bad ≡ isBad x
 unfolding rateAcc

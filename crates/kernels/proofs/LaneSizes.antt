@@ -11,14 +11,15 @@ use lib.Dec.{lit≤}
 use lib.Ieee.{Float, fin}
 use mir.Syntax.{w64}
 use mir.Val.{SFits, toZ, ofZ}
-use Rattle.binary64.specs.Product.{productOf}
-use Rattle.binary64.specs.Splitting.{split}
-use Rattle.binary64.proofs.Factor.{add-size}
+use Rattle.floats.specs.Product.{productOf}
+use Rattle.floats.specs.Splitting.{split}
+use Rattle.floats.proofs.Factor.{add-size}
 use Rattle.accumulator.specs.declared.StableProductFloatAcc.{StableProductFloatAcc}
 use Rattle.accumulator.proofs.Exponents.{held, sum-fits, sum-held}
-use Rattle.kernels.specs.declared.blocks.Lanes.{Lanes}
+use Rattle.kernels.specs.declared.lanes.Lanes.{Lanes}
 use Rattle.kernels.specs.Lanes.{feed, laneOf, inOrder}
-use Rattle.kernels.specs.Blocks.{startLanes, mOf, eOf, unsplitStep, splitStep, renormLane, renorm, unsplit, block, blocks, laneIn, SmallLanes}
+use Rattle.kernels.specs.Blocks.{startLanes, mOf, eOf, unsplitStep, splitStep, renormLane, renorm, unsplit, block, blocks, laneIn}
+use Rattle.kernels.specs.InnerLanes.{SmallLanes}
 use Rattle.kernels.proofs.Feeding.{order-keeps}
 use Rattle.kernels.proofs.Sizes.{set-either, replicate-either, split-size}
 

@@ -17,13 +17,13 @@ use lib.Ieee.Positive.{first-pos}
 use lib.Ieee.Bits.{ofBits-toBits}
 use borrow.Author.Tests.{leb-true, le-leb, ltb-true, ltb-false, ne-eqb}
 use Rattle.integers.proofs.Difference.{ints, atoms}
-use Rattle.binary64.specs.Rounding.{delivered}
-use Rattle.binary64.specs.Factor.{Factor}
-use Rattle.binary64.specs.Fields.{signField, expField, fraction, ofParts, valueOf, badBits}
-use Rattle.binary64.specs.Splitting.{bitsOf, isBad, rate}
-use Rattle.binary64.proofs.Fields.{value-is, fraction-lt}
-use Rattle.binary64.proofs.Bridge.{delivered-units, room, floatOf-value}
-use Rattle.binary64.proofs.Splitting.{rate-normal, rate-range, rate-float}
+use Rattle.floats.specs.Rounding.{delivered}
+use Rattle.floats.specs.Factor.{Factor}
+use Rattle.floats.specs.Fields.{signField, expField, fraction, ofParts, valueOf, badBits}
+use Rattle.floats.specs.Splitting.{bitsOf, isBad, rateFactor}
+use Rattle.floats.proofs.Fields.{value-is, fraction-lt}
+use Rattle.floats.proofs.Bridge.{delivered-units, room, floatOf-value}
+use Rattle.floats.proofs.Splitting.{rate-normal, rate-range, rate-float}
 use Rattle.kernels.proofs.Comparing.{le-test, not-nought, and-no}
 
 -- a number, of a magnitude of 2^-B or more
@@ -90,23 +90,23 @@ module _ (B : ℕ) (small : B ≤ 1021) (x : Float) (f : T (fits binary64 x)) (w
 
 -- ---- the exponent
 -- a rate that is not bad, by its factor
-pub rate-value : (x : Float) → T (fits binary64 x) → (good : isBad x ≡ false) → HasValue x (rate x .sign) (rate x .sig * 2 ^ rate-range x good .place) (2 ^ 1074)
+pub rate-value : (x : Float) → T (fits binary64 x) → (good : isBad x ≡ false) → HasValue x (rateFactor x .sign) (rateFactor x .sig * 2 ^ rate-range x good .place) (2 ^ 1074)
 rate-value x f good =
-    let g = rate x in
+    let g = rateFactor x in
     let R = rate-range x good in
     subst (λ (y : Float). HasValue y (g .sign) (g .sig * 2 ^ R .place) (2 ^ 1074)) (rate-float x f good) (floatOf-value binary64 11 52 refl refl g (rate-normal x) R)
 
 least-place : (e : ℤ) (p k : ℕ) → e +ℤ pos 1022 ≡ pos p → 1022 ≤ p + suc k → leZ (negsuc k) e ≡ true
 least-place e p k = simp ints (simp atoms (omega arith))
 
-pub reaching-exponent : (k : ℕ) (x : Float) → T (fits binary64 x) → isBad x ≡ false → reaches (suc k) x ≡ true → leZ (negsuc k) (rate x .exp) ≡ true
+pub reaching-exponent : (k : ℕ) (x : Float) → T (fits binary64 x) → isBad x ≡ false → reaches (suc k) x ≡ true → leZ (negsuc k) (rateFactor x .exp) ≡ true
 reaching-exponent k x f good w = least-place (g .exp) p k (rate-range x good .above) least
   where
     B : ℕ
     B = suc k
 
     g : Factor
-    g = rate x
+    g = rateFactor x
 
     p : ℕ
     p = rate-range x good .place

@@ -9,17 +9,18 @@ use lib.ListN.{getD, set, replicate}
 use lib.IntN.{ℤ, pos, negsuc, natAbs, _+ℤ_, _-ℤ_}
 use lib.Dec.{ltb}
 use lib.Ieee.{Float}
-use Rattle.binary64.specs.Product.{productOf}
-use Rattle.binary64.specs.Fields.{expField}
-use Rattle.binary64.specs.Magnitude.{twoOrMore}
-use Rattle.binary64.specs.Splitting.{bitsOf, split}
-use Rattle.binary64.proofs.Fields.{field-lt}
-use Rattle.binary64.proofs.Factor.{add-size}
+use Rattle.floats.specs.Product.{productOf}
+use Rattle.floats.specs.Fields.{expField}
+use Rattle.floats.specs.Magnitude.{twoOrMore}
+use Rattle.floats.specs.Splitting.{bitsOf, split}
+use Rattle.floats.proofs.Fields.{field-lt}
+use Rattle.floats.proofs.Factor.{add-size}
 use Rattle.accumulator.specs.declared.StableProductFloatAcc.{StableProductFloatAcc}
 use Rattle.accumulator.specs.Joining.{identityAcc, combined, multiplied}
 use Rattle.accumulator.proofs.Combining.{combined-bad, combined-good, multiplied-two, multiplied-less}
 use Rattle.kernels.specs.Lanes.{inOrder}
-use Rattle.kernels.specs.Stepped.{rateAcc, accAt, SmallAccs}
+use Rattle.kernels.specs.Stepped.{rateAcc, accAt}
+use Rattle.kernels.specs.InnerStepped.{SmallAccs}
 use Rattle.kernels.proofs.Feeding.{order-keeps}
 
 -- a place of a list after a store: what was stored, or what was there

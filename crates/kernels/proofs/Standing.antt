@@ -8,23 +8,23 @@ use lib.IntN.{ℤ, pos, negsuc, natAbs, _+ℤ_, +ℤ-idr, +ℤ-idl}
 use lib.Dec.{T}
 use lib.Ieee.{Float, fin, binary64, fits}
 use Rattle.integers.proofs.Difference.{ints, atoms, is-diff, at-pos}
-use Rattle.binary64.specs.Product.{productOf}
-use Rattle.binary64.specs.Factor.{Factor, Normal, InRange, unit, carry, times, floatOf}
-use Rattle.binary64.specs.Magnitude.{moved}
-use Rattle.binary64.specs.Splitting.{isBad, rate, split}
-use Rattle.binary64.proofs.Factor.{factor-same, unit-normal, times-normal, carry-le, add-size}
-use Rattle.binary64.proofs.Bridge.{product-times}
-use Rattle.binary64.proofs.Magnitude.{moved-normal}
-use Rattle.binary64.proofs.Splitting.{split-m, split-e, rate-normal, rate-float, float-rate}
+use Rattle.floats.specs.Product.{productOf}
+use Rattle.floats.specs.Factor.{Factor, Normalised, NormalExponent, unit, carry, times, floatOf}
+use Rattle.floats.specs.Magnitude.{withExponent}
+use Rattle.floats.specs.Splitting.{isBad, rateFactor, split}
+use Rattle.floats.proofs.Factor.{factor-same, unit-normal, times-normal, carry-le, add-size}
+use Rattle.floats.proofs.Bridge.{product-times}
+use Rattle.floats.proofs.Magnitude.{moved-normal}
+use Rattle.floats.proofs.Splitting.{split-m, split-e, rate-normal, rate-float, float-rate}
 use Rattle.accumulator.specs.declared.StableProductFloatAcc.{StableProductFloatAcc}
 use Rattle.kernels.specs.Pieces.{accOf}
-use Rattle.kernels.specs.Standing.{Stands}
+use Rattle.kernels.specs.InnerLanes.{Represents}
 
-pub stands-more : (B C : ℕ) (m : Float) (e : ℤ) (f : Factor) → B ≤ C → Stands B m e f → Stands C m e f
+pub stands-more : (B C : ℕ) (m : Float) (e : ℤ) (f : Factor) → B ≤ C → Represents B m e f → Represents C m e f
 stands-more B C m e f h s = record { off = s .off; near = le-trans (s .near) h; m-is = s .m-is; e-is = s .e-is; normal = s .normal }
 
 -- exponents of -1022 to 1022 are those of normal numbers
-pub near-in : (f : Factor) (z : ℤ) → natAbs z ≤ 1022 → InRange 11 (moved f z)
+pub near-in : (f : Factor) (z : ℤ) → natAbs z ≤ 1022 → NormalExponent 11 (withExponent f z)
 near-in f (pos n) h = record { place = n + 1022; above = refl; below = omega arith }
 near-in f (negsuc n) h = record { place = 1022 - suc n; above = is-diff 1022 (suc n) ∙ at-pos 1022 (suc n) (1022 - suc n) (omega arith); below = omega arith }
 
@@ -32,7 +32,7 @@ exponents : (e d z y p q : ℤ) (c : ℕ) → p ≡ e +ℤ z → q ≡ d +ℤ y 
 exponents e d z y p q c = simp ints (simp atoms (omega arith))
 
 -- ---- the product
-module _ (B C : ℕ) (m x : Float) (e d : ℤ) (f g : Factor) (F : Stands B m e f) (G : Stands C x d g) (room : B + C + 1 ≤ 1022) where
+module _ (B C : ℕ) (m x : Float) (e d : ℤ) (f g : Factor) (F : Represents B m e f) (G : Represents C x d g) (room : B + C + 1 ≤ 1022) where
   c : ℕ
   c = carry 52 (f .sig * g .sig)
 
@@ -43,19 +43,19 @@ module _ (B C : ℕ) (m x : Float) (e d : ℤ) (f g : Factor) (F : Stands B m e 
   unfolding z c
   size = le-trans (add-size (F .off +ℤ G .off) (pos c)) (add-le-add (le-trans (add-size (F .off) (G .off)) (add-le-add (F .near) (G .near))) (carry-le 52 f g (F .normal) (G .normal)))
 
-  product-is : times 52 (moved f (F .off)) (moved g (G .off)) ≡ moved (times 52 f g) z
+  product-is : times 52 (withExponent f (F .off)) (withExponent g (G .off)) ≡ withExponent (times 52 f g) z
   unfolding times z c
   product-is = refl
 
-  pub stands-times : Stands (B + C + 1) (productOf 11 52 m x) (e +ℤ d) (times 52 f g)
+  pub stands-times : Represents (B + C + 1) (productOf 11 52 m x) (e +ℤ d) (times 52 f g)
   unfolding times z c
   stands-times = record {
     off = z;
     near = size;
     m-is =
         ap (λ (u : Float). productOf 11 52 u x) (F .m-is)
-        ∙ ap (productOf 11 52 (floatOf 11 52 (moved f (F .off)))) (G .m-is)
-        ∙ product-times (moved f (F .off)) (moved g (G .off)) (moved-normal 52 f (F .off) (F .normal)) (moved-normal 52 g (G .off) (G .normal))
+        ∙ ap (productOf 11 52 (floatOf 11 52 (withExponent f (F .off)))) (G .m-is)
+        ∙ product-times (withExponent f (F .off)) (withExponent g (G .off)) (moved-normal 52 f (F .off) (F .normal)) (moved-normal 52 g (G .off) (G .normal))
         (near-in f (F .off) (le-trans (F .near) (omega arith))) (near-in g (G .off) (le-trans (G .near) (omega arith)))
         (near-in (times 52 f g) z (le-trans size room));
     e-is = exponents e d (F .off) (G .off) (f .exp) (g .exp) c (F .e-is) (G .e-is);
@@ -64,30 +64,30 @@ module _ (B C : ℕ) (m x : Float) (e d : ℤ) (f g : Factor) (F : Stands B m e 
 
 -- ---- bringing back
 -- a lane whose m is normal, split, stands for the same factor with m in [1, 2)
-pub range-split : (m : Float) (e : ℤ) (f : Factor) (off : ℤ) → InRange 11 (moved f off) → m ≡ floatOf 11 52 (moved f off) → f .exp ≡ e +ℤ off → Normal 52 f → Stands 0 (split m .m) (e +ℤ split m .e) f
+pub range-split : (m : Float) (e : ℤ) (f : Factor) (off : ℤ) → NormalExponent 11 (withExponent f off) → m ≡ floatOf 11 52 (withExponent f off) → f .exp ≡ e +ℤ off → Normalised 52 f → Represents 0 (split m .m) (e +ℤ split m .e) f
 range-split m e f off R is at N =
-    let g = moved f off in
-    let r : rate m ≡ g = ap rate is ∙ float-rate g (moved-normal 52 f off N) R in
+    let g = withExponent f off in
+    let r : rateFactor m ≡ g = ap rateFactor is ∙ float-rate g (moved-normal 52 f off N) R in
     record {
       off = pos 0;
       near = le-refl 0;
-      m-is = split-m m ∙ ap (λ (k : Factor). floatOf 11 52 (moved k (pos 0))) r;
+      m-is = split-m m ∙ ap (λ (k : Factor). floatOf 11 52 (withExponent k (pos 0))) r;
       e-is = at ∙ ap (λ (y : ℤ). e +ℤ y) (sym (split-e m ∙ ap (λ (k : Factor). k .exp) r)) ∙ sym (+ℤ-idr (e +ℤ split m .e));
       normal = N;
     }
 
-pub stands-split : (B : ℕ) (m : Float) (e : ℤ) (f : Factor) → B ≤ 1022 → Stands B m e f → Stands 0 (split m .m) (e +ℤ split m .e) f
+pub stands-split : (B : ℕ) (m : Float) (e : ℤ) (f : Factor) → B ≤ 1022 → Represents B m e f → Represents 0 (split m .m) (e +ℤ split m .e) f
 stands-split B m e f h s = range-split m e f (s .off) (near-in f (s .off) (le-trans (s .near) h)) (s .m-is) (s .e-is) (s .normal)
 
 -- ---- rates
 -- a rate, split
-pub stands-rate : (x : Float) → Stands 0 (split x .m) (split x .e) (rate x)
+pub stands-rate : (x : Float) → Represents 0 (split x .m) (split x .e) (rateFactor x)
 stands-rate x = record { off = pos 0; near = le-refl 0; m-is = split-m x; e-is = sym (split-e x) ∙ sym (+ℤ-idr (split x .e)); normal = rate-normal x }
 
 -- a rate as it is, at the exponent 0
-pub stands-whole : (C : ℕ) (x : Float) → T (fits binary64 x) → isBad x ≡ false → natAbs (rate x .exp) ≤ C → Stands C x (pos 0) (rate x)
+pub stands-whole : (C : ℕ) (x : Float) → T (fits binary64 x) → isBad x ≡ false → natAbs (rateFactor x .exp) ≤ C → Represents C x (pos 0) (rateFactor x)
 stands-whole C x b h k =
-    let f = rate x in
+    let f = rateFactor x in
     record {
       off = f .exp;
       near = k;
@@ -97,7 +97,7 @@ stands-whole C x b h k =
     }
 
 -- 1.0 and 0
-pub stands-one : Stands 0 (fin false 1 (pos 0)) (pos 0) (unit 52)
+pub stands-one : Represents 0 (fin false 1 (pos 0)) (pos 0) (unit 52)
 unfolding floatOf
 stands-one = record { off = pos 0; near = le-refl 0; m-is = refl; e-is = refl; normal = unit-normal 52 }
 
@@ -111,9 +111,9 @@ acc-same : (m m' : Float) (e e' : ℤ) (q : Bool) → m ≡ m' → e ≡ e' → 
 acc-same m m' e e' q a b = cc
 
 -- brought back, m and e are those of the factor
-pub stands-acc : (m : Float) (e : ℤ) (f : Factor) → Stands 0 m e f → _≡_ {A = StableProductFloatAcc} (record { m = m; e = e; bad = false }) (accOf f)
+pub stands-acc : (m : Float) (e : ℤ) (f : Factor) → Represents 0 m e f → _≡_ {A = StableProductFloatAcc} (record { m = m; e = e; bad = false }) (accOf f)
 stands-acc m e f s =
     let z = none-off (s .off) (s .near) in
-    acc-same m (floatOf 11 52 (moved f (pos 0))) e (f .exp) false
-    (s .m-is ∙ ap (λ (y : ℤ). floatOf 11 52 (moved f y)) z)
+    acc-same m (floatOf 11 52 (withExponent f (pos 0))) e (f .exp) false
+    (s .m-is ∙ ap (λ (y : ℤ). floatOf 11 52 (withExponent f y)) z)
     (sym (s .e-is ∙ ap (λ (y : ℤ). e +ℤ y) z ∙ +ℤ-idr e))

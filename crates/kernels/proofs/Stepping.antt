@@ -9,16 +9,16 @@ use lib.ListN.{length, getD, set, take, replicate, length-set, length-replicate,
 use lib.Seq.{take-suc, take-all}
 use lib.IntN.{pos}
 use lib.Ieee.{Float, nan}
-use Rattle.binary64.specs.Factor.{Factor, Normal, unit, times}
-use Rattle.binary64.specs.Splitting.{isBad, rate}
-use Rattle.binary64.proofs.Factor.{unit-normal, times-normal}
-use Rattle.binary64.proofs.Splitting.{rate-normal}
+use Rattle.floats.specs.Factor.{Factor, Normalised, unit, times}
+use Rattle.floats.specs.Splitting.{isBad, rateFactor}
+use Rattle.floats.proofs.Factor.{unit-normal, times-normal}
+use Rattle.floats.proofs.Splitting.{rate-normal}
 use Rattle.accumulator.specs.declared.StableProductFloatAcc.{StableProductFloatAcc}
 use Rattle.accumulator.specs.Joining.{identityAcc, combined}
 use Rattle.kernels.specs.Lanes.{Each, feed, laneOf, some}
 use Rattle.kernels.specs.Plain.{laneTimes, lanes, pieceProduct}
 use Rattle.kernels.specs.Stepped.{rateAcc, accAt, laneJoined, steppedLanes, lanesJoined, stepped}
-use Rattle.kernels.specs.Pieces.{Rate, accOf}
+use Rattle.kernels.specs.Pieces.{GoodRate, accOf}
 use Rattle.kernels.proofs.Feeding.{feed-related, order-keeps, order-related, or-none, or-assoc, some-append, some-one, some-set}
 use Rattle.kernels.proofs.Factors.{lane-lt, set-cases}
 use Rattle.kernels.proofs.Joining.{combined-mark, combined-times, identity-is, rate-is, rate-mark}
@@ -30,18 +30,18 @@ noAcc = record { m = nan; e = pos 0; bad = false }
 pub record Same (ls : List StableProductFloatAcc) (fs : List Factor) : Type 0 where
   pub acc-long : length ls ≡ 8
   pub factor-long : length fs ≡ 8
-  pub at : (k : ℕ) → k < 8 → (accAt ls k ≡ accOf (getD fs k (unit 52))) × Normal 52 (getD fs k (unit 52))
+  pub at : (k : ℕ) → k < 8 → (accAt ls k ≡ accOf (getD fs k (unit 52))) × Normalised 52 (getD fs k (unit 52))
 
 same-start : Same (replicate 8 identityAcc) (replicate 8 (unit 52))
 same-start = record {
   acc-long = length-replicate 8 identityAcc;
   factor-long = length-replicate 8 (unit 52);
   at = λ k h.
-      (getD-replicate 8 k identityAcc noAcc h ∙ identity-is ∙ ap accOf (sym (getD-replicate 8 k (unit 52) (unit 52) h)), subst (Normal 52) (sym (getD-replicate 8 k (unit 52) (unit 52) h)) (unit-normal 52));
+      (getD-replicate 8 k identityAcc noAcc h ∙ identity-is ∙ ap accOf (sym (getD-replicate 8 k (unit 52) (unit 52) h)), subst (Normalised 52) (sym (getD-replicate 8 k (unit 52) (unit 52) h)) (unit-normal 52));
 }
 
 -- An accumulator that is a factor's, from whatever format it came, joined to lane i mod 8.
-pub joined-value : (i : ℕ) (ls : List StableProductFloatAcc) (fs : List Factor) (b : StableProductFloatAcc) (g : Factor) → b ≡ accOf g → Normal 52 g → Same ls fs
+pub joined-value : (i : ℕ) (ls : List StableProductFloatAcc) (fs : List Factor) (b : StableProductFloatAcc) (g : Factor) → b ≡ accOf g → Normalised 52 g → Same ls fs
     → Same (set ls (laneOf i) (combined (accAt ls (laneOf i)) b)) (laneTimes 52 i fs g)
 joined-value i ls fs b g e N s = record {
   acc-long = length-set ls j a ∙ s .acc-long;
@@ -58,7 +58,7 @@ joined-value i ls fs b g e N s = record {
     f : Factor
     f = times 52 (getD fs j (unit 52)) g
 
-    normal : Normal 52 (getD fs j (unit 52))
+    normal : Normalised 52 (getD fs j (unit 52))
     normal = s .at j (lane-lt i) .1
 
     joined : a ≡ accOf f
@@ -73,32 +73,32 @@ joined-value i ls fs b g e N s = record {
     in-factor : j < length fs
     in-factor = subst (λ (n : ℕ). j < n) (sym (s .factor-long)) (lane-lt i)
 
-    both : (k : ℕ) → k < 8 → (accAt (set ls j a) k ≡ accOf (getD (set fs j f) k (unit 52))) × Normal 52 (getD (set fs j f) k (unit 52))
+    both : (k : ℕ) → k < 8 → (accAt (set ls j a) k ≡ accOf (getD (set fs j f) k (unit 52))) × Normalised 52 (getD (set fs j f) k (unit 52))
     both k h =
-        set-cases (λ (y : Factor). (accAt (set ls j a) k ≡ accOf y) × Normal 52 y) fs j k f (unit 52) in-factor
+        set-cases (λ (y : Factor). (accAt (set ls j a) k ≡ accOf y) × Normalised 52 y) fs j k f (unit 52) in-factor
         (λ p. (set-cases (λ (c : StableProductFloatAcc). c ≡ accOf f) ls j k a noAcc in-acc (λ p'. joined) (λ n. absurd (n p)), times-normal 52 (getD fs j (unit 52)) g normal N))
         (λ n. (set-cases (λ (c : StableProductFloatAcc). c ≡ accOf (getD fs k (unit 52))) ls j k a noAcc in-acc (λ p. absurd (n p)) (λ n'. s .at k h .0), s .at k h .1))
 
-same-more : (i : ℕ) (ls : List StableProductFloatAcc) (fs : List Factor) (x : Float) → Rate x → Same ls fs → Same (laneJoined i ls x) (laneTimes 52 i fs (rate x))
+same-more : (i : ℕ) (ls : List StableProductFloatAcc) (fs : List Factor) (x : Float) → GoodRate x → Same ls fs → Same (laneJoined i ls x) (laneTimes 52 i fs (rateFactor x))
 unfolding laneJoined
-same-more i ls fs x r s = joined-value i ls fs (rateAcc x) (rate x) (rate-is x r) (rate-normal x) s
+same-more i ls fs x r s = joined-value i ls fs (rateAcc x) (rateFactor x) (rate-is x r) (rate-normal x) s
 
-same-all : {xs : List Float} → Each Rate xs → Same (steppedLanes xs) (lanes 52 (map rate xs))
+same-all : {xs : List Float} → Each GoodRate xs → Same (steppedLanes xs) (lanes 52 (map rateFactor xs))
 unfolding steppedLanes lanes
 same-all {xs} R =
-    feed-related laneJoined (laneTimes 52) rate Rate (λ (i : ℕ). Same) (length xs) (λ i s s' x h. same-more i s s' x) 0 (replicate 8 identityAcc) (replicate 8 (unit 52)) R (omega arith) same-start
+    feed-related laneJoined (laneTimes 52) rateFactor GoodRate (λ (i : ℕ). Same) (length xs) (λ i s s' x h. same-more i s s' x) 0 (replicate 8 identityAcc) (replicate 8 (unit 52)) R (omega arith) same-start
 
 -- with no bad rate, stepped lanes give the plain product of the piece
-pub stepped-agrees : {xs : List Float} → Each Rate xs → stepped xs ≡ accOf (pieceProduct 52 (map rate xs))
+pub stepped-agrees : {xs : List Float} → Each GoodRate xs → stepped xs ≡ accOf (pieceProduct 52 (map rateFactor xs))
 unfolding stepped lanesJoined pieceProduct
 stepped-agrees {xs} R =
-    order-related (λ (k : ℕ) (a : StableProductFloatAcc). combined a (accAt (steppedLanes xs) k)) (λ (k : ℕ) (p : Factor). times 52 p (getD (lanes 52 (map rate xs)) k (unit 52)))
-    (λ (a : StableProductFloatAcc) (p : Factor). (a ≡ accOf p) × Normal 52 p) 8 (λ k a p h r. turn k a p h r) identityAcc (unit 52) (identity-is, unit-normal 52) .0
+    order-related (λ (k : ℕ) (a : StableProductFloatAcc). combined a (accAt (steppedLanes xs) k)) (λ (k : ℕ) (p : Factor). times 52 p (getD (lanes 52 (map rateFactor xs)) k (unit 52)))
+    (λ (a : StableProductFloatAcc) (p : Factor). (a ≡ accOf p) × Normalised 52 p) 8 (λ k a p h r. turn k a p h r) identityAcc (unit 52) (identity-is, unit-normal 52) .0
   where
-    turn : (k : ℕ) (a : StableProductFloatAcc) (p : Factor) → k < 8 → (a ≡ accOf p) × Normal 52 p
-        → (combined a (accAt (steppedLanes xs) k) ≡ accOf (times 52 p (getD (lanes 52 (map rate xs)) k (unit 52)))) × Normal 52 (times 52 p (getD (lanes 52 (map rate xs)) k (unit 52)))
+    turn : (k : ℕ) (a : StableProductFloatAcc) (p : Factor) → k < 8 → (a ≡ accOf p) × Normalised 52 p
+        → (combined a (accAt (steppedLanes xs) k) ≡ accOf (times 52 p (getD (lanes 52 (map rateFactor xs)) k (unit 52)))) × Normalised 52 (times 52 p (getD (lanes 52 (map rateFactor xs)) k (unit 52)))
     turn k a p h r =
-        let g = getD (lanes 52 (map rate xs)) k (unit 52) in
+        let g = getD (lanes 52 (map rateFactor xs)) k (unit 52) in
         let s = same-all R .at k h in
         (ap (λ (b : StableProductFloatAcc). combined b (accAt (steppedLanes xs) k)) (r .0) ∙ ap (combined (accOf p)) (s .0) ∙ combined-times p g (r .1) (s .1), times-normal 52 p g (r .1) (s .1))
 

@@ -10,14 +10,15 @@ use lib.IntN.{ℤ, natAbs, _+ℤ_}
 use lib.Ieee.{Float, nan, mul, binary64, isNan}
 use mir.Syntax.{w64}
 use mir.Val.{SFits, toZ, ofZ}
-use Rattle.binary64.specs.Product.{productOf}
-use Rattle.binary64.specs.Splitting.{split}
-use Rattle.binary64.specs.declared.Split.{Split}
-use Rattle.binary64.proofs.Product.{mul-binary64}
+use Rattle.floats.specs.Product.{productOf}
+use Rattle.floats.specs.Splitting.{split}
+use Rattle.floats.specs.declared.Split.{Split}
+use Rattle.floats.proofs.Product.{mul-binary64}
 use Rattle.accumulator.specs.declared.StableProductFloatAcc.{StableProductFloatAcc}
-use Rattle.kernels.specs.declared.blocks.Lanes.{Lanes}
+use Rattle.kernels.specs.declared.lanes.Lanes.{Lanes}
 use Rattle.kernels.specs.Lanes.{feed, laneOf, every, some}
-use Rattle.kernels.specs.Blocks.{mOf, eOf, unsplitStep, splitStep, inBounds, renormLane, renorm, unsplit, block, laneIn, SmallLanes}
+use Rattle.kernels.specs.Blocks.{mOf, eOf, unsplitStep, splitStep, inBounds, renormLane, renorm, unsplit, block, laneIn}
+use Rattle.kernels.specs.InnerLanes.{SmallLanes}
 use Rattle.accumulator.proofs.Exponents.{sum-fits, sum-held}
 use Rattle.kernels.proofs.Factors.{lane-again}
 use Rattle.kernels.proofs.Sizes.{split-size}
@@ -26,7 +27,7 @@ use Rattle.kernels.proofs.LaneSizes.{all-fits, all-held}
 lane-is : (k : ℕ) → k < 8 → laneOf k ≡ k
 lane-is k h = mod-eq-of-lt h
 
--- value k of a row goes to lane k
+-- value k of a vector goes to lane k
 pub unsplit-lane : (s : Lanes) (k : ℕ) (x : Float) → k < 8 → _≡_ {A = Lanes} (record { m = set (s .m) k (mul binary64 (getD (s .m) k nan) x); e = s .e; bad = s .bad }) (unsplitStep k s x)
 unfolding unsplitStep
 unsplit-lane s k x h =

@@ -17,13 +17,14 @@ use Rattle.integers.proofs.Difference.{ints, atoms}
 use Rattle.accumulator.specs.declared.StableProductFloatAcc.{StableProductFloatAcc}
 use Rattle.accumulator.specs.Joining.{identityAcc, combined}
 use Rattle.kernels.specs.Lanes.{feed, laneOf}
-use Rattle.kernels.specs.Strided.{strided, Inside}
-use Rattle.kernels.specs.Stepped.{rateAcc, accAt, laneJoined, steppedLanes, SmallAccs}
+use Rattle.kernels.specs.InnerStrided.{strided, PlacesInside}
+use Rattle.kernels.specs.Stepped.{rateAcc, accAt, laneJoined, steppedLanes}
+use Rattle.kernels.specs.InnerStepped.{SmallAccs}
 use Rattle.kernels.proofs.Sizes.{accs-le}
 use Rattle.kernels.proofs.Bounded.{Joined, joined-small, joined-start, joined-more, joined-all}
 
 -- ---- places
-inside-next : (len : ℕ) (at stride : ℤ) (n : ℕ) → Inside len at stride (suc n) → Inside len (at +ℤ stride) stride n
+inside-next : (len : ℕ) (at stride : ℤ) (n : ℕ) → PlacesInside len at stride (suc n) → PlacesInside len (at +ℤ stride) stride n
 inside-next len at stride n h = record {
   least = λ i l. low i (h .least (suc i) (omega arith));
   most = λ i l. high i (h .most (suc i) (omega arith));
@@ -35,10 +36,10 @@ inside-next len at stride n h = record {
     high : (i : ℕ) → (at +ℤ stride *ℤ pos (suc i)) <ℤ pos len → (at +ℤ stride +ℤ stride *ℤ pos i) <ℤ pos len
     high i = simp ints (simp atoms (omega arith))
 
-inside-none : (len : ℕ) (at stride : ℤ) → Inside len at stride 0
+inside-none : (len : ℕ) (at stride : ℤ) → PlacesInside len at stride 0
 inside-none len at stride = record { least = λ i l. absurd (omega arith); most = λ i l. absurd (omega arith) }
 
-module _ (len : ℕ) (at stride : ℤ) (n : ℕ) (h : Inside len at stride n) where
+module _ (len : ℕ) (at stride : ℤ) (n : ℕ) (h : PlacesInside len at stride n) where
   first-least : 0 < n → pos 0 ≤ℤ at
   first-least l = go (h .least 0 l)
     where
@@ -92,7 +93,7 @@ strided-window xs at (suc n) h =
 pub strided-all : (xs : List Float) → strided xs (pos 0) (pos 1) (length xs) ≡ xs
 strided-all xs = sym (strided-window xs 0 (length xs) (omega arith)) ∙ take-all (length xs) xs (le-refl (length xs))
 
-pub inside-all : (len : ℕ) → Inside len (pos 0) (pos 1) len
+pub inside-all : (len : ℕ) → PlacesInside len (pos 0) (pos 1) len
 inside-all len = record { least = λ i l. low i; most = λ i l. high i l }
   where
     low : (i : ℕ) → pos 0 ≤ℤ (pos 0 +ℤ pos 1 *ℤ pos i)
@@ -101,7 +102,7 @@ inside-all len = record { least = λ i l. low i; most = λ i l. high i l }
     high : (i : ℕ) → i < len → (pos 0 +ℤ pos 1 *ℤ pos i) <ℤ pos len
     high i = simp ints (simp atoms (omega arith))
 
-module _ (len at : ℕ) (z : ℤ) (n : ℕ) (i : Inside len z (pos 1) n) (some : 1 ≤ n) (e : natAbs z ≡ at) where
+module _ (len at : ℕ) (z : ℤ) (n : ℕ) (i : PlacesInside len z (pos 1) n) (some : 1 ≤ n) (e : natAbs z ≡ at) where
   pub at-first : z ≡ pos at
   at-first = go z (first-natural len z (pos 1) n i some) e
     where
@@ -124,16 +125,16 @@ strided-small xs start stride n h =
 -- ---- the loop: i values are in the lanes ls, and the next is at `at`
 pub record Passed (xs : List Float) (start stride : ℤ) (n : ℕ) (ls : List StableProductFloatAcc) (at : ℤ) (i : ℕ) : Type 0 where
   pub short : i ≤ n
-  pub inside : Inside (length xs) at stride (n - i)
+  pub inside : PlacesInside (length xs) at stride (n - i)
   pub same : feed laneJoined i ls (strided xs at stride (n - i)) ≡ steppedLanes (strided xs start stride n)
   pub joined : Joined i ls
 
 module _ (xs : List Float) (start stride : ℤ) (n : ℕ) where
-  pub passed-none : (ls : List StableProductFloatAcc) → ls ≡ replicate 8 identityAcc → Inside (length xs) start stride n → Passed xs start stride n ls start 0
+  pub passed-none : (ls : List StableProductFloatAcc) → ls ≡ replicate 8 identityAcc → PlacesInside (length xs) start stride n → Passed xs start stride n ls start 0
   unfolding steppedLanes
   passed-none ls e h = record {
     short = omega arith;
-    inside = subst (Inside (length xs) start stride) (sym all) h;
+    inside = subst (PlacesInside (length xs) start stride) (sym all) h;
     same = ap (λ (k : ℕ). feed laneJoined 0 ls (strided xs start stride k)) all ∙ ap (λ (l : List StableProductFloatAcc). feed laneJoined 0 l (strided xs start stride n)) e;
     joined = subst (Joined 0) (sym e) joined-start;
   }
@@ -164,14 +165,14 @@ module _ (xs : List Float) (start stride : ℤ) (n : ℕ) where
       longer = subst (Joined (i + 1)) (sym e) (subst (λ (k : ℕ). Joined k (laneJoined i ls (getD xs (natAbs at) nan))) (sym (add-one i)) (joined-more i ls (getD xs (natAbs at) nan) (p .joined)))
 
       pub passed-more : i + 1 < n → Passed xs start stride n us (at +ℤ stride) (i + 1)
-      passed-more h = record { short = omega arith; inside = inside-next (length xs) at stride (n - (i + 1)) (subst (Inside (length xs) at stride) one-less (p .inside)); same = turned; joined = longer }
+      passed-more h = record { short = omega arith; inside = inside-next (length xs) at stride (n - (i + 1)) (subst (PlacesInside (length xs) at stride) one-less (p .inside)); same = turned; joined = longer }
 
       -- the last value: no further place is formed
       pub passed-last : n ≤ i + 1 → Passed xs start stride n us at (i + 1)
       unfolding feed strided
       passed-last h = record {
         short = omega arith;
-        inside = subst (Inside (length xs) at stride) (sym none) (inside-none (length xs) at stride);
+        inside = subst (PlacesInside (length xs) at stride) (sym none) (inside-none (length xs) at stride);
         same = ap (λ (k : ℕ). feed laneJoined (i + 1) us (strided xs at stride k)) none ∙ sym (ap (λ (k : ℕ). feed laneJoined (i + 1) us (strided xs (at +ℤ stride) stride k)) none) ∙ turned;
         joined = longer;
       }

@@ -8,7 +8,8 @@ use native.Mathlib.Numerals.{add-one}
 use native.Mathlib.Omega.{arith}
 use lib.ListN.{length, getD, take, drop, drop-of-length-le, take-append-drop, length-take, length-drop}
 use lib.Seq.{drop-cons, drop-drop, getD-take, getD-drop, ext-getD}
-use Rattle.kernels.specs.Lanes.{feed, window, every, some}
+use Rattle.kernels.specs.Lanes.{feed, every, some}
+use Rattle.kernels.specs.InnerLanes.{window}
 use Rattle.kernels.proofs.Feeding.{feed-more, feed-all, feed-append, feed-eights, or-none, or-assoc}
 
 module _ {X : Type 0} (xs : List X) (at n : ℕ) (inside : at + n ≤ length xs) where
@@ -49,12 +50,12 @@ window-window d xs at n i k h l =
         ∙ ap (λ (z : ℕ). getD xs z d) (sym (add-assoc at i j))
         ∙ sym (window-at xs (at + i) k (omega arith) j d a)
 
--- rows of eight, by a step that goes by the number mod 8
+-- vectors of eight, by a step that goes by the number mod 8
 module _ {S X : Type 0} (step : ℕ → S → X → S) (same : (i : ℕ) (s : S) (x : X) → step (i + 8) s x ≡ step i s x) (d : X) (xs : List X) (at n : ℕ) (inside : at + n ≤ length xs) where
-  pub row-more : (w t u : S) (r : ℕ) → r * 8 + 8 ≤ n → feed step (r * 8) t (drop (r * 8) (window xs at n)) ≡ w → u ≡ feed step 0 t (window xs (at + r * 8) 8)
+  pub vector-more : (w t u : S) (r : ℕ) → r * 8 + 8 ≤ n → feed step (r * 8) t (drop (r * 8) (window xs at n)) ≡ w → u ≡ feed step 0 t (window xs (at + r * 8) 8)
       → feed step ((r + 1) * 8) u (drop ((r + 1) * 8) (window xs at n)) ≡ w
-  row-more w t u r h p e =
-      ap (λ (v : S). feed step ((r + 1) * 8) v (drop ((r + 1) * 8) (window xs at n))) (e ∙ row)
+  vector-more w t u r h p e =
+      ap (λ (v : S). feed step ((r + 1) * 8) v (drop ((r + 1) * 8) (window xs at n))) (e ∙ vector)
       ∙ ap (λ (m : ℕ). feed step m (feed step (r * 8) t ys) (drop m (window xs at n))) (let z : (r + 1) * 8 ≡ r * 8 + 8 = omega arith in z)
       ∙ ap (λ (l : List X). feed step (r * 8 + 8) (feed step (r * 8) t ys) l) (sym (drop-drop 8 (r * 8) (window xs at n)))
       ∙ ap (λ (m : ℕ). feed step (r * 8 + m) (feed step (r * 8) t ys) (drop 8 (drop (r * 8) (window xs at n)))) (sym long)
@@ -68,8 +69,8 @@ module _ {S X : Type 0} (step : ℕ → S → X → S) (same : (i : ℕ) (s : S)
       long : length ys ≡ 8
       long = ap length (window-window d xs at n (r * 8) 8 inside h) ∙ window-length xs (at + r * 8) 8 (omega arith)
 
-      row : feed step 0 t (window xs (at + r * 8) 8) ≡ feed step (r * 8) t ys
-      row =
+      vector : feed step 0 t (window xs (at + r * 8) 8) ≡ feed step (r * 8) t ys
+      vector =
           ap (feed step 0 t) (sym (window-window d xs at n (r * 8) 8 inside h))
           ∙ sym (feed-eights step same r t ys)
           ∙ ap (λ (m : ℕ). feed step m t ys) (let z : 8 * r ≡ r * 8 = omega arith in z)

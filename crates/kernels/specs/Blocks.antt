@@ -1,16 +1,16 @@
 -- Blocks of 64 (`stable_float_contiguous`), over the values of a piece, bad ones too. Definitions only.
-use Prim.Native.Nat.{ℕ, zero, suc, _*_, _/_, _^_, _≤_}
+use Prim.Native.Nat.{ℕ, zero, suc, _*_, _/_, _^_}
 use mathlib.Core.List.{List}
 use mathlib.Core.Bool.{Bool, false, not, cond, _&&_, _||_}
 use lib.ListN.{length, getD, set, take, drop, replicate}
-use lib.IntN.{ℤ, pos, natAbs, _+ℤ_}
+use lib.IntN.{ℤ, pos, _+ℤ_}
 use lib.Dec.{leb}
 use lib.Ieee.{Float, nan, inf, fin, up, down, isNan}
-use Rattle.binary64.specs.Product.{productOf}
-use Rattle.binary64.specs.Splitting.{split}
+use Rattle.floats.specs.Product.{productOf}
+use Rattle.floats.specs.Splitting.{split}
 use Rattle.accumulator.specs.declared.StableProductFloatAcc.{StableProductFloatAcc}
 use Rattle.accumulator.specs.Joining.{identityAcc}
-use Rattle.kernels.specs.declared.blocks.Lanes.{Lanes}
+use Rattle.kernels.specs.declared.lanes.Lanes.{Lanes}
 use Rattle.kernels.specs.Lanes.{feed, laneOf, inOrder, every, some}
 
 -- eight lanes at 1.0, 0
@@ -34,14 +34,14 @@ splitStep i s x =
     record { m = set (s .m) k (productOf 11 52 (mOf s k) (split x .m)); e = set (s .e) k (eOf s k +ℤ split x .e); bad = s .bad || split x .bad }
 
 -- the magnitude lies in 2^-B to 2^B, both ends included; a NaN's does not
-unfoldable pub within : ℕ → Float → Bool
-within B nan = false
-within B (inf s) = false
-within B (fin s m e) = leb (down e) (m * up e * 2 ^ B) && leb (m * up e) (2 ^ B * down e)
+unfoldable pub inRange : ℕ → Float → Bool
+inRange B nan = false
+inRange B (inf s) = false
+inRange B (fin s m e) = leb (down e) (m * up e * 2 ^ B) && leb (m * up e) (2 ^ B * down e)
 
 -- the bounds of a block of f64
 abbrev pub inBounds : Float → Bool
-inBounds x = within 120 x
+inBounds x = inRange 120 x
 
 -- Lane k is brought back to [1, 2), and what that takes goes to its exponent (`stable_renorm`).
 unfoldable pub renormLane : ℕ → Lanes → Lanes
@@ -76,7 +76,3 @@ lanesIn s = inOrder (laneIn s) 8 (record { m = identityAcc .m; e = identityAcc .
 
 unfoldable pub contiguous : List Float → StableProductFloatAcc
 contiguous xs = lanesIn (blocks (length xs / 64) startLanes xs)
-
--- no lane's exponent is past n, either way
-pub record SmallLanes (n : ℕ) (s : Lanes) : Type 0 where
-  pub at : (k : ℕ) → natAbs (eOf s k) ≤ n

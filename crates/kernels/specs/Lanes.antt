@@ -1,17 +1,12 @@
 -- Eight lanes: how the values of a piece are fed to them, and how they are worked one after another. Definitions only.
 use Prim.Native.Nat.{ℕ, zero, suc, _%_}
 use mathlib.Core.List.{List, [], _∷_}
-use lib.ListN.{take, drop}
 use mathlib.Core.Bool.{Bool, true, false, _&&_, _||_}
 
 -- The values from number i on, each with its number, one after another.
 unfoldable pub feed : {S X : Type 0} → (ℕ → S → X → S) → ℕ → S → List X → S
 feed step i s [] = s
 feed step i s (x ∷ xs) = feed step (suc i) (step i s x) xs
-
--- n values of a list, from number `at` on
-abbrev pub window : {X : Type 0} → List X → ℕ → ℕ → List X
-window xs at n = take n (drop at xs)
 
 -- value i goes to lane i mod 8
 abbrev pub laneOf : ℕ → ℕ

@@ -7,9 +7,9 @@ use mathlib.Core.Bool.{Bool, false, cond}
 use lib.IntN.{pos}
 use lib.Dec.{T}
 use lib.Ieee.{Float, binary64, fits}
-use Rattle.binary64.specs.Factor.{Factor, floatOf}
-use Rattle.binary64.specs.Magnitude.{moved}
-use Rattle.binary64.specs.Splitting.{bitsOf, isBad}
+use Rattle.floats.specs.Factor.{Factor, floatOf}
+use Rattle.floats.specs.Magnitude.{withExponent}
+use Rattle.floats.specs.Splitting.{bitsOf, isBad}
 use Rattle.accumulator.specs.declared.StableProductFloatAcc.{StableProductFloatAcc}
 use Rattle.accumulator.specs.Joining.{identityAcc, combined}
 use Rattle.kernels.specs.Lanes.{Each}
@@ -17,7 +17,7 @@ use Rattle.kernels.specs.Stepped.{stepped}
 use Rattle.kernels.specs.Blocks.{contiguous}
 
 -- a rate that is not bad: a value of binary64 (as every f64 is) that a factor stands for
-pub record Rate (x : Float) : Type 0 where
+pub record GoodRate (x : Float) : Type 0 where
   pub value : T (fits binary64 x)
   pub good : isBad x ≡ false
 
@@ -46,7 +46,7 @@ rateCount (p ∷ ps) = length (p .rates) + rateCount ps
 -- the lists that the plain product is for: at least one piece, each of at least one rate, all together at most 2^40, no rate bad
 pub record GoodPiece (p : Piece) : Type 0 where
   pub some-rate : 0 < length (p .rates)
-  pub good : Each Rate (p .rates)
+  pub good : Each GoodRate (p .rates)
 
 pub record Admitted (ps : List Piece) : Type 0 where
   pub some-piece : 0 < length ps
@@ -59,4 +59,4 @@ patternsOf ps = map (λ (p : Piece). map bitsOf (p .rates)) ps
 
 -- the end factor as an accumulator: m = S / 2^52 with its sign, and e; not bad
 abbrev pub accOf : Factor → StableProductFloatAcc
-accOf f = record { m = floatOf 11 52 (moved f (pos 0)); e = f .exp; bad = false }
+accOf f = record { m = floatOf 11 52 (withExponent f (pos 0)); e = f .exp; bad = false }

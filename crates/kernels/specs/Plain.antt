@@ -3,8 +3,8 @@
 use Prim.Native.Nat.{ℕ}
 use mathlib.Core.List.{List, [], _∷_, map, foldl}
 use lib.ListN.{getD, set, replicate}
-use Rattle.binary64.specs.Factor.{Factor, unit, times}
-use Rattle.binary64.specs.Fields.{factorOf}
+use Rattle.floats.specs.Factor.{Factor, unit, times}
+use Rattle.floats.specs.Fields.{factorOf}
 use Rattle.kernels.specs.Lanes.{feed, laneOf, inOrder}
 
 -- rate i multiplies lane i mod 8, the lane on the left

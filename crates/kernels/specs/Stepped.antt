@@ -1,14 +1,11 @@
 -- Stepped lanes (`lanes_strided`), over the values of a piece, bad ones too. Definitions only.
-use Prim.Native.Nat.{ℕ, _≤_, _<_}
-use mathlib.Core.Path.{_≡_}
-use mathlib.Core.Bool.{true, false}
+use Prim.Native.Nat.{ℕ}
+use mathlib.Core.Bool.{false}
 use mathlib.Core.List.{List}
 use lib.ListN.{getD, set, replicate}
-use lib.IntN.{pos, natAbs}
-use lib.Dec.{T}
-use lib.Ieee.{Float, nan, binary64, fits}
-use Rattle.binary64.specs.Magnitude.{inUnit}
-use Rattle.binary64.specs.Splitting.{split}
+use lib.IntN.{pos}
+use lib.Ieee.{Float, nan}
+use Rattle.floats.specs.Splitting.{split}
 use Rattle.accumulator.specs.declared.StableProductFloatAcc.{StableProductFloatAcc}
 use Rattle.accumulator.specs.Joining.{identityAcc, combined}
 use Rattle.kernels.specs.Lanes.{feed, laneOf, inOrder}
@@ -35,16 +32,3 @@ lanesJoined ls = inOrder (λ (k : ℕ) (a : StableProductFloatAcc). combined a (
 
 unfoldable pub stepped : List Float → StableProductFloatAcc
 stepped xs = lanesJoined (steppedLanes xs)
-
--- no lane's exponent is past n, either way
-pub record SmallAccs (n : ℕ) (ls : List StableProductFloatAcc) : Type 0 where
-  pub at : (k : ℕ) → natAbs (accAt ls k .e) ≤ n
-
--- m is a value of binary64 with 1 <= |m| < 2
-pub record Sound (a : StableProductFloatAcc) : Type 0 where
-  pub value : T (fits binary64 (a .m))
-  pub in-unit : inUnit (a .m) ≡ true
-
--- and so of each of eight lanes
-pub record UnitAccs (ls : List StableProductFloatAcc) : Type 0 where
-  pub at : (k : ℕ) → k < 8 → Sound (accAt ls k)

@@ -3,8 +3,9 @@ ghost use mathlib.Core.Path.{_≡_};
 ghost use Prim.Native.Nat.{_<_, _≤_, _^_};
 ghost use lib.ListN.{length, set, replicate};
 ghost use Rattle.accumulator.specs.Joining.{identityAcc, combined};
-ghost use Rattle.kernels.specs.Strided.{strided, Inside};
-ghost use Rattle.kernels.specs.Stepped.{rateAcc, accAt, steppedLanes, lanesJoined, stepped, SmallAccs, UnitAccs};
+ghost use Rattle.kernels.specs.InnerStrided.{strided, PlacesInside};
+ghost use Rattle.kernels.specs.Stepped.{rateAcc, accAt, steppedLanes, lanesJoined, stepped};
+ghost use Rattle.kernels.specs.InnerStepped.{SmallAccs, UnitAccs};
 use accumulator::StableProductFloatAcc;
 
 const LANES: usize = StableProductFloatAcc::LANES;
@@ -24,7 +25,7 @@ fn identity_lanes() -> AccLanes
 fn from_value(value: f64) -> StableProductFloatAcc
     ensures { λ r. ⌜ r ≡ rateAcc value ⌝ }
 {
-    let s = binary64::split_f64(value);
+    let s = floats::split_f64(value);
     StableProductFloatAcc {
         m: s.m,
         e: s.e,
@@ -47,7 +48,7 @@ fn join_lane(t: AccLanes, lane: usize, value: f64) -> AccLanes
 
 // The lanes of a piece. No offset is formed but those of its values.
 fn stepped_lanes(values: &[f64], start: i64, stride: i64, len: usize) -> AccLanes
-    requires { ⌜ Inside (length (now values)) start stride len × (len ≤ 2 ^ 40) ⌝ }
+    requires { ⌜ PlacesInside (length (now values)) start stride len × (len ≤ 2 ^ 40) ⌝ }
     ensures { λ r. ⌜ r .lanes ≡ steppedLanes (strided (now (values .entry)) start stride len) ⌝ }
 {
     let mut t = identity_lanes();
@@ -81,7 +82,7 @@ fn joined_lanes(t: AccLanes) -> StableProductFloatAcc
 
 // A piece of `len` values that begin at `start`, `stride` apart.
 pub fn lanes_strided(values: &[f64], start: i64, stride: i64, len: usize) -> StableProductFloatAcc
-    requires { ⌜ Inside (length (now values)) start stride len × (len ≤ 2 ^ 40) ⌝ }
+    requires { ⌜ PlacesInside (length (now values)) start stride len × (len ≤ 2 ^ 40) ⌝ }
     ensures { λ r. ⌜ r ≡ stepped (strided (now (values .entry)) start stride len) ⌝ }
 {
     let t = stepped_lanes(values, start, stride, len);

@@ -17,21 +17,23 @@ use Rattle.layout.specs.declared.axis.ReduceOuterAxis.{ReduceOuterAxis}
 use Rattle.layout.specs.declared.axis.AxisTable.{AxisTable}
 use Rattle.layout.specs.declared.traversal.FullTraversal.{FullTraversal}
 use Rattle.layout.specs.declared.traversal.Compiled.{Compiled}
-use Rattle.layout.specs.Axes.{PLACES, Table, noAxis, tableOf, placesOf, held}
+use Rattle.layout.specs.Axes.{PLACES, noAxis, placesOf}
+use Rattle.layout.specs.InnerTables.{CleanTable, tableOf, tableAxes}
 use Rattle.layout.specs.declared.order.Ordered.{Ordered}
-use Rattle.layout.specs.Order.{kept, axesOf, resetsFit, orderedIf}
-use Rattle.layout.specs.Fuse.{fuse, orderedOr}
+use Rattle.layout.specs.Order.{keptAxes, axesOf, resetsFit}
+use Rattle.layout.specs.InnerAnswers.{orderedIf, orderedOr, checkedOr}
+use Rattle.layout.specs.Fuse.{fuse}
 use Rattle.layout.proofs.Ordering.{length-axes}
-use Rattle.layout.specs.Compile.{totalFrom, totalOf, checkedOr, layoutOf, emptyLayout, fusedOf, traversalAt, traversalOf, firstOf, compileRefusals, accepted, compileOf, overflows, aboveMost}
+use Rattle.layout.specs.Compile.{totalFrom, totalOf, layoutOf, emptyLayout, fusedOf, traversalAt, traversalOf, firstOf, compileRefusals, accepted, compileOf, overflows, aboveMost}
 use Rattle.layout.proofs.Tables.{held-of, table-of, table-count}
 use Rattle.layout.proofs.Fusing.{count-of, from-i, length-fuse}
 
 -- ---- rule 5: the axes after the first
 pub record Copied (t out : AxisTable) (i : ℕ) : Type 0 where
   pub after : 1 ≤ i
-  pub table : Table out
+  pub table : CleanTable out
   pub few : out .count + 1 ≡ i
-  pub copied : held out ++ drop i (held t) ≡ drop 1 (held t)
+  pub copied : tableAxes out ++ drop i (tableAxes t) ≡ drop 1 (tableAxes t)
 
 pub copied-none : (t out : AxisTable) → out ≡ tableOf [] → Copied t out 1
 copied-none t out e =
@@ -40,32 +42,32 @@ copied-none t out e =
       after = omega arith;
       table = table-of [] (omega arith);
       few = omega (arith, count-of [] (omega arith));
-      copied = ap (λ (z : List ReduceOuterAxis). z ++ drop 1 (held t)) (held-of []);
+      copied = ap (λ (z : List ReduceOuterAxis). z ++ drop 1 (tableAxes t)) (held-of []);
     })
 
-pub copied-more : (t out r : AxisTable) (i : ℕ) → Table t → i < t .count → Copied t out i → r ≡ tableOf (held out ++ getD (t .places) i noAxis ∷ []) → Copied t r (i + 1)
+pub copied-more : (t out r : AxisTable) (i : ℕ) → CleanTable t → i < t .count → Copied t out i → r ≡ tableOf (tableAxes out ++ getD (t .places) i noAxis ∷ []) → Copied t r (i + 1)
 copied-more t out r i w h p e =
     let c = table-count out (p .table) in
     let f = p .few in
     let m = w .1 in
-    let l : length (held out ++ getD (t .places) i noAxis ∷ []) ≡ length (held out) + 1 = length-append (held out) (getD (t .places) i noAxis ∷ []) in
+    let l : length (tableAxes out ++ getD (t .places) i noAxis ∷ []) ≡ length (tableAxes out) + 1 = length-append (tableAxes out) (getD (t .places) i noAxis ∷ []) in
     rw e
     (record {
       after = omega arith;
-      table = table-of (held out ++ getD (t .places) i noAxis ∷ []) (omega arith);
-      few = omega (arith, count-of (held out ++ getD (t .places) i noAxis ∷ []) (omega arith));
+      table = table-of (tableAxes out ++ getD (t .places) i noAxis ∷ []) (omega arith);
+      few = omega (arith, count-of (tableAxes out ++ getD (t .places) i noAxis ∷ []) (omega arith));
       copied =
-          ap (λ (z : List ReduceOuterAxis). z ++ drop (i + 1) (held t)) (held-of (held out ++ getD (t .places) i noAxis ∷ []))
-          ∙ append-assoc (held out) (getD (t .places) i noAxis ∷ []) (drop (i + 1) (held t))
-          ∙ ap (λ (z : List ReduceOuterAxis). held out ++ z) (sym (from-i t i w h))
+          ap (λ (z : List ReduceOuterAxis). z ++ drop (i + 1) (tableAxes t)) (held-of (tableAxes out ++ getD (t .places) i noAxis ∷ []))
+          ∙ append-assoc (tableAxes out) (getD (t .places) i noAxis ∷ []) (drop (i + 1) (tableAxes t))
+          ∙ ap (λ (z : List ReduceOuterAxis). tableAxes out ++ z) (sym (from-i t i w h))
           ∙ p .copied;
     })
 
-pub copied-all : (t out : AxisTable) (i : ℕ) → t .count ≤ i → Copied t out i → out ≡ tableOf (drop 1 (held t))
-unfolding held
+pub copied-all : (t out : AxisTable) (i : ℕ) → t .count ≤ i → Copied t out i → out ≡ tableOf (drop 1 (tableAxes t))
+unfolding tableAxes
 copied-all t out i h p =
     p .table .0
-    ∙ ap tableOf (sym (append-nil (held out)) ∙ ap (λ (z : List ReduceOuterAxis). held out ++ z) (sym (drop-of-length-le (take (t .count) (t .places)) short)) ∙ p .copied)
+    ∙ ap tableOf (sym (append-nil (tableAxes out)) ∙ ap (λ (z : List ReduceOuterAxis). tableAxes out ++ z) (sym (drop-of-length-le (take (t .count) (t .places)) short)) ∙ p .copied)
   where
     short : length (take (t .count) (t .places)) ≤ i
     short = simp length-take (omega arith)
@@ -84,21 +86,21 @@ unfolding totalFrom
 total-all ns t i h = rw (drop-of-length-le ns h)
 
 -- ---- rule 5: the layout
-pub run-none : (n : ℕ) (t out : AxisTable) → t .count ≡ 0 → out ≡ tableOf (drop 1 (held t))
-    → record { total = n; «run_len» = 1; «run_stride» = pos 1; «axis_count» = 0; «run_axes» = out .places } ≡ layoutOf n (held t)
-unfolding layoutOf tableOf held
+pub run-none : (n : ℕ) (t out : AxisTable) → t .count ≡ 0 → out ≡ tableOf (drop 1 (tableAxes t))
+    → record { total = n; «run_len» = 1; «run_stride» = pos 1; «axis_count» = 0; «run_axes» = out .places } ≡ layoutOf n (tableAxes t)
+unfolding layoutOf tableOf tableAxes
 run-none n t out z e =
     let h : take (t .count) (t .places) ≡ [] = ap (λ (k : ℕ). take k (t .places)) z in
     ap (λ (o : AxisTable). record { total = n; «run_len» = 1; «run_stride» = pos 1; «axis_count» = 0; «run_axes» = o .places }) e
     ∙ ap (λ (xs : List ReduceOuterAxis). record { total = n; «run_len» = 1; «run_stride» = pos 1; «axis_count» = 0; «run_axes» = placesOf (drop 1 xs) }) h
     ∙ ap (layoutOf n) (sym h)
 
-pub run-first : (n : ℕ) (t out : AxisTable) (a : ReduceOuterAxis) → Table t → (t .count ≡ 0 → ⊥) → out ≡ tableOf (drop 1 (held t)) → a ≡ getD (t .places) 0 noAxis
-    → record { total = n; «run_len» = a .extent; «run_stride» = a .«source_step»; «axis_count» = out .count; «run_axes» = out .places } ≡ layoutOf n (held t)
+pub run-first : (n : ℕ) (t out : AxisTable) (a : ReduceOuterAxis) → CleanTable t → (t .count ≡ 0 → ⊥) → out ≡ tableOf (drop 1 (tableAxes t)) → a ≡ getD (t .places) 0 noAxis
+    → record { total = n; «run_len» = a .extent; «run_stride» = a .«source_step»; «axis_count» = out .count; «run_axes» = out .places } ≡ layoutOf n (tableAxes t)
 unfolding layoutOf tableOf
 run-first n t out a w z e f =
     ap (λ (o : AxisTable). record { total = n; «run_len» = a .extent; «run_stride» = a .«source_step»; «axis_count» = o .count; «run_axes» = o .places }) e
-    ∙ ap (λ (x : ReduceOuterAxis). layoutOf n (x ∷ drop 1 (held t))) f
+    ∙ ap (λ (x : ReduceOuterAxis). layoutOf n (x ∷ drop 1 (tableAxes t))) f
     ∙ ap (layoutOf n) (sym (from-i t 0 w (omega arith)))
 
 pub layout-total : (t : ℕ) (xs : List ReduceOuterAxis) → (layoutOf t xs) .total ≡ t
@@ -140,21 +142,21 @@ module _ (ns : List ℕ) (ss : List ℤ) where
     fused-is xs f = at-total ∙ ap (λ (o : Option (List ReduceOuterAxis)). elim o [ none ↦ none | some xs ↦ some (layoutOf t xs) ]) f
 
     -- where rule 3 fails
-    pub no-resets : (o : Ordered) → o ≡ orderedIf (resetsFit (kept ns ss)) (axesOf ns ss) → o .ok ≡ false → traversalOf ns ss ≡ none
+    pub no-resets : (o : Ordered) → o ≡ orderedIf (resetsFit (keptAxes ns ss)) (axesOf ns ss) → o .ok ≡ false → traversalOf ns ss ≡ none
     unfolding orderedIf fusedOf
-    no-resets o q k = unfused (go (resetsFit (kept ns ss)) refl)
+    no-resets o q k = unfused (go (resetsFit (keptAxes ns ss)) refl)
       where
-        go : (b : Bool) → resetsFit (kept ns ss) ≡ b → fusedOf ns ss ≡ none
+        go : (b : Bool) → resetsFit (keptAxes ns ss) ≡ b → fusedOf ns ss ≡ none
         go true f = absurd (subst T (sym (ap (λ (o : Ordered). o .ok) (q ∙ ap (λ (b : Bool). orderedIf b (axesOf ns ss)) f)) ∙ k) tt)
         go false f = ap (λ (b : Bool). cond b (fuse (axesOf ns ss)) none) f
 
     -- where rule 3 holds
-    module _ (o : Ordered) (q : o ≡ orderedIf (resetsFit (kept ns ss)) (axesOf ns ss)) (k : o .ok ≡ true) where
-      resets : resetsFit (kept ns ss) ≡ true
+    module _ (o : Ordered) (q : o ≡ orderedIf (resetsFit (keptAxes ns ss)) (axesOf ns ss)) (k : o .ok ≡ true) where
+      resets : resetsFit (keptAxes ns ss) ≡ true
       unfolding orderedIf
-      resets = go (resetsFit (kept ns ss)) refl
+      resets = go (resetsFit (keptAxes ns ss)) refl
         where
-          go : (b : Bool) → resetsFit (kept ns ss) ≡ b → resetsFit (kept ns ss) ≡ true
+          go : (b : Bool) → resetsFit (keptAxes ns ss) ≡ b → resetsFit (keptAxes ns ss) ≡ true
           go true f = f
           go false f = absurd (subst T (sym k ∙ ap (λ (o : Ordered). o .ok) (q ∙ ap (λ (b : Bool). orderedIf b (axesOf ns ss)) f)) tt)
 
@@ -162,43 +164,43 @@ module _ (ns : List ℕ) (ss : List ℤ) where
       unfolding orderedIf
       ordered-table = ap (λ (o : Ordered). o .table) (q ∙ ap (λ (b : Bool). orderedIf b (axesOf ns ss)) resets)
 
-      pub ordered-held : length ns ≤ PLACES → Table (o .table)
+      pub ordered-held : length ns ≤ PLACES → CleanTable (o .table)
       ordered-held h = rw ordered-table (table-of (axesOf ns ss) (omega (arith, length-axes ns ss)))
 
-      fused-option : fusedOf ns ss ≡ fuse (held (o .table))
+      fused-option : fusedOf ns ss ≡ fuse (tableAxes (o .table))
       unfolding fusedOf
-      fused-option = ap (λ (b : Bool). cond b (fuse (axesOf ns ss)) none) resets ∙ ap fuse (sym (ap held ordered-table ∙ held-of (axesOf ns ss)))
+      fused-option = ap (λ (b : Bool). cond b (fuse (axesOf ns ss)) none) resets ∙ ap fuse (sym (ap tableAxes ordered-table ∙ held-of (axesOf ns ss)))
 
-      module _ (f : Ordered) (p : f ≡ orderedOr (fuse (held (o .table)))) where
+      module _ (f : Ordered) (p : f ≡ orderedOr (fuse (tableAxes (o .table)))) where
         pub no-fusing : f .ok ≡ false → traversalOf ns ss ≡ none
         unfolding orderedOr
-        no-fusing z = unfused (fused-option ∙ go (fuse (held (o .table))) refl)
+        no-fusing z = unfused (fused-option ∙ go (fuse (tableAxes (o .table))) refl)
           where
-            go : (x : Option (List ReduceOuterAxis)) → fuse (held (o .table)) ≡ x → fuse (held (o .table)) ≡ none
+            go : (x : Option (List ReduceOuterAxis)) → fuse (tableAxes (o .table)) ≡ x → fuse (tableAxes (o .table)) ≡ none
             go none g = g
             go (some xs) g = absurd (subst T (sym (ap (λ (o : Ordered). o .ok) (p ∙ ap orderedOr g)) ∙ z) tt)
 
-        fusing : f .ok ≡ true → fuse (held (o .table)) ≡ some (held (f .table))
+        fusing : f .ok ≡ true → fuse (tableAxes (o .table)) ≡ some (tableAxes (f .table))
         unfolding orderedOr
-        fusing z = go (fuse (held (o .table))) refl
+        fusing z = go (fuse (tableAxes (o .table))) refl
           where
-            go : (x : Option (List ReduceOuterAxis)) → fuse (held (o .table)) ≡ x → fuse (held (o .table)) ≡ some (held (f .table))
+            go : (x : Option (List ReduceOuterAxis)) → fuse (tableAxes (o .table)) ≡ x → fuse (tableAxes (o .table)) ≡ some (tableAxes (f .table))
             go none g = absurd (subst T (sym z ∙ ap (λ (o : Ordered). o .ok) (p ∙ ap orderedOr g)) tt)
-            go (some xs) g = g ∙ ap some (sym (ap (λ (o : Ordered). held (o .table)) (p ∙ ap orderedOr g) ∙ held-of xs))
+            go (some xs) g = g ∙ ap some (sym (ap (λ (o : Ordered). tableAxes (o .table)) (p ∙ ap orderedOr g) ∙ held-of xs))
 
-        pub fused-held : length ns ≤ PLACES → f .ok ≡ true → Table (f .table)
+        pub fused-held : length ns ≤ PLACES → f .ok ≡ true → CleanTable (f .table)
         unfolding orderedOr
         fused-held h z =
-            let l = length-fuse (held (o .table)) (held (f .table)) (fusing z) in
+            let l = length-fuse (tableAxes (o .table)) (tableAxes (f .table)) (fusing z) in
             let m = length-axes ns ss in
-            let j : length (held (o .table)) ≡ length (axesOf ns ss) = ap length (ap held ordered-table ∙ held-of (axesOf ns ss)) in
-            rw table-is (table-of (held (f .table)) (omega arith))
+            let j : length (tableAxes (o .table)) ≡ length (axesOf ns ss) = ap length (ap tableAxes ordered-table ∙ held-of (axesOf ns ss)) in
+            rw table-is (table-of (tableAxes (f .table)) (omega arith))
           where
-            table-is : f .table ≡ tableOf (held (f .table))
+            table-is : f .table ≡ tableOf (tableAxes (f .table))
             table-is = ap (λ (o : Ordered). o .table) (p ∙ ap orderedOr (fusing z))
 
-        pub is-layout : f .ok ≡ true → traversalOf ns ss ≡ some (layoutOf t (held (f .table)))
-        is-layout z = fused-is (held (f .table)) (fused-option ∙ fusing z)
+        pub is-layout : f .ok ≡ true → traversalOf ns ss ≡ some (layoutOf t (tableAxes (f .table)))
+        is-layout z = fused-is (tableAxes (f .table)) (fused-option ∙ fusing z)
 
 -- ---- the ranks
 module _ (ns : List ℕ) (ss : List ℤ) where

@@ -9,14 +9,16 @@ use native.Mathlib.Omega.{arith}
 use lib.Dec.{T}
 use lib.ListN.{length, take, drop, getD, length-append, length-take, drop-of-length-le}
 use lib.IntN.{ℤ, pos, negℤ, _*ℤ_}
-use Rattle.integers.specs.Checked.{fitsI64, eqZ}
+use Rattle.integers.specs.Integers.{fitsI64, eqZ}
 use Rattle.layout.specs.declared.axis.ReduceOuterAxis.{ReduceOuterAxis}
 use Rattle.layout.specs.declared.axis.AxisTable.{AxisTable}
 use Rattle.layout.specs.declared.fuse.Joined.{Joined}
 use Rattle.layout.specs.declared.fuse.Joined.the-variants.{One, Two, Overflow}
 use Rattle.layout.specs.declared.fuse.Fusing.{Fusing}
-use Rattle.layout.specs.Axes.{PLACES, Table, noAxis, tableOf, held, span, resetFits, axisOf}
-use Rattle.layout.specs.Fuse.{reach, joinOf, fuseFrom, fuse, nextFrom, nextOf}
+use Rattle.layout.specs.Axes.{PLACES, noAxis, span, resetFits, axisOf}
+use Rattle.layout.specs.InnerTables.{CleanTable, tableOf, tableAxes}
+use Rattle.layout.specs.Fuse.{reach, joinOf, fuseFrom, fuse}
+use Rattle.layout.specs.InnerAnswers.{nextFrom, nextOf}
 use Rattle.layout.proofs.Tables.{held-of, table-of, table-count, table-room, take-from}
 use Rattle.layout.proofs.Resets.{reset-large}
 
@@ -64,9 +66,9 @@ module _ (done : List ReduceOuterAxis) (a b : ReduceOuterAxis) (bs : List Reduce
   fused-over e = rw (e, fuseFrom)
 
 pub record Continues (done : List ReduceOuterAxis) (a b : ReduceOuterAxis) (f : Fusing) : Type 0 where
-  pub table : Table (f .done)
+  pub table : CleanTable (f .done)
   pub grows : f .done .count ≤ suc (length done)
-  pub fuses : (bs : List ReduceOuterAxis) → fuseFrom (held (f .done)) (f .last) bs ≡ fuseFrom done a (b ∷ bs)
+  pub fuses : (bs : List ReduceOuterAxis) → fuseFrom (tableAxes (f .done)) (f .last) bs ≡ fuseFrom done a (b ∷ bs)
 
 pub continues : (done : List ReduceOuterAxis) (a b : ReduceOuterAxis) → length done < PLACES → (nextOf done a b) .ok ≡ true → Continues done a b (nextOf done a b)
 unfolding nextOf nextFrom
@@ -104,16 +106,16 @@ pub record Fused (t : AxisTable) (f : Fusing) (i : ℕ) : Type 0 where
   pub after : 1 ≤ i
   pub within : i ≤ t .count
   pub ok : f .ok ≡ true
-  pub table : Table (f .done)
+  pub table : CleanTable (f .done)
   pub few : f .done .count < i
-  pub fuses : fuseFrom (held (f .done)) (f .last) (drop i (held t)) ≡ fuse (held t)
+  pub fuses : fuseFrom (tableAxes (f .done)) (f .last) (drop i (tableAxes t)) ≡ fuse (tableAxes t)
 
 -- the axis at i, and those after it
-pub from-i : (t : AxisTable) (i : ℕ) → Table t → i < t .count → drop i (held t) ≡ getD (t .places) i noAxis ∷ drop (i + 1) (held t)
-unfolding held
+pub from-i : (t : AxisTable) (i : ℕ) → CleanTable t → i < t .count → drop i (tableAxes t) ≡ getD (t .places) i noAxis ∷ drop (i + 1) (tableAxes t)
+unfolding tableAxes
 from-i t i w h = take-from (t .places) (t .count) i h (table-room t w)
 
-pub fused-first : (t : AxisTable) (f : Fusing) → Table t → (t .count ≡ 0 → ⊥) → f .ok ≡ true → f .done ≡ tableOf [] → f .last ≡ getD (t .places) 0 noAxis → Fused t f 1
+pub fused-first : (t : AxisTable) (f : Fusing) → CleanTable t → (t .count ≡ 0 → ⊥) → f .ok ≡ true → f .done ≡ tableOf [] → f .last ≡ getD (t .places) 0 noAxis → Fused t f 1
 unfolding fuse
 fused-first t f w n o d l =
     record {
@@ -126,29 +128,29 @@ fused-first t f w n o d l =
           rw (d, l, held-of []) (ap (fuseFrom [] (getD (t .places) 0 noAxis)) refl ∙ ap fuse (sym (from-i t 0 w (omega arith))));
     }
 
-pub fused-more : (t : AxisTable) (f g : Fusing) (i : ℕ) → Table t → i < t .count → Fused t f i → g ≡ nextOf (held (f .done)) (f .last) (getD (t .places) i noAxis) → g .ok ≡ true → Fused t g (i + 1)
+pub fused-more : (t : AxisTable) (f g : Fusing) (i : ℕ) → CleanTable t → i < t .count → Fused t f i → g ≡ nextOf (tableAxes (f .done)) (f .last) (getD (t .places) i noAxis) → g .ok ≡ true → Fused t g (i + 1)
 fused-more t f g i w h p e k =
     let c = table-count (f .done) (p .table) in
     let q = p .few in
     let m = w .1 in
-    let a = continues (held (f .done)) (f .last) (getD (t .places) i noAxis) (omega arith) (sym (ap (λ (f : Fusing). f .ok) e) ∙ k) in
+    let a = continues (tableAxes (f .done)) (f .last) (getD (t .places) i noAxis) (omega arith) (sym (ap (λ (f : Fusing). f .ok) e) ∙ k) in
     record {
       after = omega arith;
       within = omega arith;
       ok = k;
       table = rw e (a .table);
       few = rw e (let g = a .grows in omega arith);
-      fuses = rw e (a .fuses (drop (i + 1) (held t)) ∙ ap (fuseFrom (held (f .done)) (f .last)) (sym (from-i t i w h)) ∙ p .fuses);
+      fuses = rw e (a .fuses (drop (i + 1) (tableAxes t)) ∙ ap (fuseFrom (tableAxes (f .done)) (f .last)) (sym (from-i t i w h)) ∙ p .fuses);
     }
 
-pub fused-stop : (t : AxisTable) (f g : Fusing) (i : ℕ) → Table t → i < t .count → Fused t f i → g ≡ nextOf (held (f .done)) (f .last) (getD (t .places) i noAxis) → g .ok ≡ false → fuse (held t) ≡ none
+pub fused-stop : (t : AxisTable) (f g : Fusing) (i : ℕ) → CleanTable t → i < t .count → Fused t f i → g ≡ nextOf (tableAxes (f .done)) (f .last) (getD (t .places) i noAxis) → g .ok ≡ false → fuse (tableAxes t) ≡ none
 fused-stop t f g i w h p e k =
-    sym (p .fuses) ∙ ap (fuseFrom (held (f .done)) (f .last)) (from-i t i w h)
-    ∙ stops (held (f .done)) (f .last) (getD (t .places) i noAxis) (drop (i + 1) (held t)) (sym (ap (λ (f : Fusing). f .ok) e) ∙ k)
+    sym (p .fuses) ∙ ap (fuseFrom (tableAxes (f .done)) (f .last)) (from-i t i w h)
+    ∙ stops (tableAxes (f .done)) (f .last) (getD (t .places) i noAxis) (drop (i + 1) (tableAxes t)) (sym (ap (λ (f : Fusing). f .ok) e) ∙ k)
 
-pub fused-all : (t : AxisTable) (f : Fusing) (i : ℕ) → t .count ≤ i → Fused t f i → fuse (held t) ≡ some (held (f .done) ++ f .last ∷ [])
-unfolding held fuseFrom
-fused-all t f i h p = sym (p .fuses) ∙ ap (fuseFrom (held (f .done)) (f .last)) (drop-of-length-le (take (t .count) (t .places)) short)
+pub fused-all : (t : AxisTable) (f : Fusing) (i : ℕ) → t .count ≤ i → Fused t f i → fuse (tableAxes t) ≡ some (tableAxes (f .done) ++ f .last ∷ [])
+unfolding tableAxes fuseFrom
+fused-all t f i h p = sym (p .fuses) ∙ ap (fuseFrom (tableAxes (f .done)) (f .last)) (drop-of-length-le (take (t .count) (t .places)) short)
   where
     short : length (take (t .count) (t .places)) ≤ i
     short = simp length-take (omega arith)

@@ -11,7 +11,7 @@ use lib.IntN.{ℤ, pos}
 use borrow.Author.Tests.{lt-ltb, eq-eqb, ne-eqb}
 use Rattle.layout.specs.declared.axis.ReduceOuterAxis.{ReduceOuterAxis}
 use Rattle.layout.specs.Axes.{axisOf, resetFits}
-use Rattle.layout.specs.Order.{kept, insertAxis, orderFrom, axesOf, resetsFit}
+use Rattle.layout.specs.Order.{keptAxes, insertAxis, orderFrom, axesOf, resetsFit}
 use Rattle.layout.specs.Fuse.{fuse, fuseFrom}
 use Rattle.layout.specs.Compile.{totalFrom, totalOf, fusedOf, layoutOf, emptyLayout, traversalOf, compileOf}
 use Rattle.layout.proofs.Compiling.{no-elements, unfused, fused-is, code-0, code-3, code-4}
@@ -33,16 +33,16 @@ resets-one a true e = ap (λ (b : Bool). b && true) e
 resets-one a false e = ap (λ (b : Bool). b && true) e
 
 module _ (n : ℕ) (s : ℤ) where
-  kept-none : n ≡ 1 → kept (n ∷ []) (s ∷ []) ≡ []
-  unfolding kept
+  kept-none : n ≡ 1 → keptAxes (n ∷ []) (s ∷ []) ≡ []
+  unfolding keptAxes
   kept-none e = ap (λ (b : Bool). cond b [] (axisOf n s ∷ [])) (eq-eqb n 1 e)
 
-  kept-one : (n ≡ 1 → ⊥) → kept (n ∷ []) (s ∷ []) ≡ axisOf n s ∷ []
-  unfolding kept
+  kept-one : (n ≡ 1 → ⊥) → keptAxes (n ∷ []) (s ∷ []) ≡ axisOf n s ∷ []
+  unfolding keptAxes
   kept-one e = ap (λ (b : Bool). cond b [] (axisOf n s ∷ [])) (ne-eqb n 1 e)
 
   -- the fused axes by the kept ones
-  fused-kept : (xs : List ReduceOuterAxis) → kept (n ∷ []) (s ∷ []) ≡ xs → fusedOf (n ∷ []) (s ∷ []) ≡ cond (resetsFit xs) (fuse (orderFrom [] xs)) none
+  fused-kept : (xs : List ReduceOuterAxis) → keptAxes (n ∷ []) (s ∷ []) ≡ xs → fusedOf (n ∷ []) (s ∷ []) ≡ cond (resetsFit xs) (fuse (orderFrom [] xs)) none
   unfolding fusedOf axesOf
   fused-kept xs e = ap (λ (z : List ReduceOuterAxis). cond (resetsFit z) (fuse (orderFrom [] z)) none) e
 

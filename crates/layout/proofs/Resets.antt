@@ -9,7 +9,8 @@ use lib.IntN.{ℤ, pos, negℤ, _*ℤ_}
 use mir.Val.{SFits}
 use mir.Syntax.{w64}
 use borrow.Author.Tests.{lt-ltb, le-ltb}
-use Rattle.integers.specs.Checked.{fitsI64, keepI, narrow}
+use Rattle.integers.specs.Integers.{fitsI64}
+use Rattle.integers.specs.InnerChecked.{keepI, narrowI64}
 use Rattle.integers.specs.declared.CheckedI64.{CheckedI64}
 use Rattle.integers.proofs.Machine.{narrow-ok, narrow-not-ok, fits-test, narrow-over, pos-fits}
 use Rattle.layout.specs.Axes.{span, resetFits, axisOf}
@@ -27,7 +28,7 @@ pub reset-large : (n : ℕ) (s : ℤ) → 2 ^ 63 ≤ n - 1 → resetFits n s ≡
 unfolding resetFits
 reset-large n s h = ap (λ (b : Bool). b && fitsI64 (span n s) && fitsI64 (negℤ (span n s))) (fits-large (n - 1) h)
 
-module _ (n : ℕ) (s : ℤ) (h : n - 1 < 2 ^ 63) (r : CheckedI64) (e : r ≡ narrow (s *ℤ pos (n - 1))) where
+module _ (n : ℕ) (s : ℤ) (h : n - 1 < 2 ^ 63) (r : CheckedI64) (e : r ≡ narrowI64 (s *ℤ pos (n - 1))) where
   small : resetFits n s ≡ fitsI64 (span n s) && fitsI64 (negℤ (span n s))
   unfolding resetFits
   small = ap (λ (b : Bool). b && fitsI64 (span n s) && fitsI64 (negℤ (span n s))) (fits-small (n - 1) h)
@@ -36,8 +37,8 @@ module _ (n : ℕ) (s : ℤ) (h : n - 1 < 2 ^ 63) (r : CheckedI64) (e : r ≡ na
   unfolding span
   reset-no-span k = small ∙ ap (λ (b : Bool). b && fitsI64 (negℤ (s *ℤ pos (n - 1)))) (narrow-not-ok r (s *ℤ pos (n - 1)) e k)
 
-  pub reset-span : r .ok ≡ true → narrow (negℤ (r .value)) ≡ keepI (resetFits n s) (negℤ (span n s))
-  unfolding span narrow
+  pub reset-span : r .ok ≡ true → narrowI64 (negℤ (r .value)) ≡ keepI (resetFits n s) (negℤ (span n s))
+  unfolding span narrowI64
   reset-span k =
       let v = narrow-ok r (s *ℤ pos (n - 1)) e k in
       ap (λ (z : ℤ). keepI (fitsI64 (negℤ z)) (negℤ z)) (v .0)

@@ -10,21 +10,22 @@ use lib.ListN.{length, take, drop, getD, set, replicate, length-append, length-t
 use lib.Seq.{take-append-seam, take-append-le, drop-append-add, take-suc, length-take-le, set-at, drop-cons, getD-take}
 use Rattle.layout.specs.declared.axis.ReduceOuterAxis.{ReduceOuterAxis}
 use Rattle.layout.specs.declared.axis.AxisTable.{AxisTable}
-use Rattle.layout.specs.Axes.{PLACES, noAxis, placesOf, tableOf, held, Table}
+use Rattle.layout.specs.Axes.{PLACES, noAxis, placesOf}
+use Rattle.layout.specs.InnerTables.{tableOf, tableAxes, CleanTable}
 
-pub held-of : (xs : List ReduceOuterAxis) → held (tableOf xs) ≡ xs
-unfolding held tableOf placesOf
+pub held-of : (xs : List ReduceOuterAxis) → tableAxes (tableOf xs) ≡ xs
+unfolding tableAxes tableOf placesOf
 held-of xs = take-append-seam xs (replicate (PLACES - length xs) noAxis)
 
-pub table-of : (xs : List ReduceOuterAxis) → length xs ≤ PLACES → Table (tableOf xs)
+pub table-of : (xs : List ReduceOuterAxis) → length xs ≤ PLACES → CleanTable (tableOf xs)
 unfolding tableOf
 table-of xs h = (ap tableOf (sym (held-of xs)), h)
 
-pub table-places : (t : AxisTable) → Table t → t .places ≡ placesOf (held t)
+pub table-places : (t : AxisTable) → CleanTable t → t .places ≡ placesOf (tableAxes t)
 unfolding tableOf
 table-places t w = ap (λ (u : AxisTable). u .places) (w .0)
 
-pub table-count : (t : AxisTable) → Table t → t .count ≡ length (held t)
+pub table-count : (t : AxisTable) → CleanTable t → t .count ≡ length (tableAxes t)
 unfolding tableOf
 table-count t w = ap (λ (u : AxisTable). u .count) (w .0)
 
@@ -32,8 +33,8 @@ pub length-placesOf : (xs : List ReduceOuterAxis) → length xs ≤ PLACES → l
 unfolding placesOf
 length-placesOf xs h = simp (length-append, length-replicate) (omega arith)
 
-pub length-held : (t : AxisTable) → t .count ≤ length (t .places) → length (held t) ≡ t .count
-unfolding held
+pub length-held : (t : AxisTable) → t .count ≤ length (t .places) → length (tableAxes t) ≡ t .count
+unfolding tableAxes
 length-held t h = simp length-take (omega arith)
 
 -- one free place less
@@ -55,10 +56,10 @@ opened xs at a h k =
     longer : length (take at xs ++ a ∷ drop at xs) ≡ suc (length xs)
     longer = simp (length-append, length-take, length-drop) (omega arith)
 
-pub table-length : (t : AxisTable) → Table t → length (t .places) ≡ PLACES
-table-length t w = ap length (table-places t w) ∙ length-placesOf (held t) (subst (λ (n : ℕ). n ≤ PLACES) (table-count t w) (w .1))
+pub table-length : (t : AxisTable) → CleanTable t → length (t .places) ≡ PLACES
+table-length t w = ap length (table-places t w) ∙ length-placesOf (tableAxes t) (subst (λ (n : ℕ). n ≤ PLACES) (table-count t w) (w .1))
 
-pub table-room : (t : AxisTable) → Table t → t .count ≤ length (t .places)
+pub table-room : (t : AxisTable) → CleanTable t → t .count ≤ length (t .places)
 table-room t w = let e = table-length t w in let h = w .1 in omega arith
 
 -- the store at the count

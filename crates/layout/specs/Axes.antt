@@ -1,14 +1,11 @@
 -- Axes (document 01, "Layout", rule 3) and the table that holds them.
-use Prim.Native.Nat.{ℕ, _-_, _≤_}
-use mathlib.Core.Path.{_≡_}
-use mathlib.Core.Bool.{Bool, true, false, _&&_}
-use mathlib.Core.List.{List, [], _∷_, _++_}
-use lib.ListN.{length, take, replicate}
+use Prim.Native.Nat.{ℕ, _-_}
+use mathlib.Core.Bool.{Bool, _&&_}
+use mathlib.Core.List.{List, _++_}
+use lib.ListN.{length, replicate}
 use lib.IntN.{ℤ, pos, negℤ, _*ℤ_}
-use Rattle.integers.specs.Checked.{fitsI64}
-use Rattle.integers.specs.declared.CheckedI64.{CheckedI64}
+use Rattle.integers.specs.Integers.{fitsI64}
 use Rattle.layout.specs.declared.axis.ReduceOuterAxis.{ReduceOuterAxis}
-use Rattle.layout.specs.declared.axis.AxisTable.{AxisTable}
 
 -- how many axes a layout may have, and a table holds
 abbrev pub PLACES : ℕ
@@ -32,14 +29,3 @@ noAxis = record { extent = 0; «source_step» = pos 0; «source_reset» = pos 0 
 
 unfoldable pub placesOf : List ReduceOuterAxis → List ReduceOuterAxis
 placesOf xs = xs ++ replicate (PLACES - length xs) noAxis
-
--- the table that holds xs and nothing else
-unfoldable pub tableOf : List ReduceOuterAxis → AxisTable
-tableOf xs = record { count = length xs; places = placesOf xs }
-
-unfoldable pub held : AxisTable → List ReduceOuterAxis
-held t = take (t .count) (t .places)
-
--- a table whose places past its axes hold zeros
-abbrev pub Table : AxisTable → Type 0
-Table t = (t ≡ tableOf (held t)) × (t .count ≤ PLACES)

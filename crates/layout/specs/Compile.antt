@@ -1,17 +1,16 @@
 -- Compiling a layout: rules 1 and 5 of document 01, refusals 1 to 4, and the answer.
 use Prim.Native.Nat.{ℕ, zero, suc, _*_, _^_}
-use mathlib.Core.Bool.{Bool, true, false, cond, not, _||_}
-use mathlib.Core.List.{List, [], _∷_, _++_}
+use mathlib.Core.Bool.{Bool, true, false, cond, not}
+use mathlib.Core.List.{List, [], _∷_}
 use mathlib.Core.Option.{Option, none, some}
 use lib.ListN.{length}
 use lib.Dec.{ltb, eqb}
 use lib.IntN.{ℤ, pos}
-use Rattle.integers.specs.declared.CheckedU64.{CheckedU64}
 use Rattle.layout.specs.declared.axis.ReduceOuterAxis.{ReduceOuterAxis}
 use Rattle.layout.specs.declared.traversal.FullTraversal.{FullTraversal}
 use Rattle.layout.specs.declared.traversal.Compiled.{Compiled}
 use Rattle.layout.specs.Axes.{PLACES, placesOf}
-use Rattle.layout.specs.Order.{kept, orderFrom, axesOf, resetsFit}
+use Rattle.layout.specs.Order.{keptAxes, axesOf, resetsFit}
 use Rattle.layout.specs.Fuse.{fuse}
 
 -- rule 1: the product of the sizes, left to right, checked at each step
@@ -22,14 +21,9 @@ totalFrom t (n ∷ ns) = cond (ltb (t * n) (2 ^ 64)) (totalFrom (t * n) ns) none
 unfoldable pub totalOf : List ℕ → Option ℕ
 totalOf sizes = totalFrom 1 sizes
 
--- the total as the code answers it
-unfoldable pub checkedOr : Option ℕ → CheckedU64
-checkedOr (some t) = record { ok = true; value = t }
-checkedOr none = record { ok = false; value = 0 }
-
 -- rules 2 to 4: the fused axes, where every check holds
 unfoldable pub fusedOf : List ℕ → List ℤ → Option (List ReduceOuterAxis)
-fusedOf sizes strides = cond (resetsFit (kept sizes strides)) (fuse (axesOf sizes strides)) none
+fusedOf sizes strides = cond (resetsFit (keptAxes sizes strides)) (fuse (axesOf sizes strides)) none
 
 -- rule 5: the first axis is the run, the others are outer
 unfoldable pub layoutOf : ℕ → List ReduceOuterAxis → FullTraversal

@@ -1,16 +1,14 @@
 -- Rule 4 of document 01: from left to right, axes that meet become one.
-use Prim.Native.Nat.{ℕ, _*_}
-use mathlib.Core.Bool.{Bool, true, false, cond}
+use Prim.Native.Nat.{_*_}
+use mathlib.Core.Bool.{cond}
 use mathlib.Core.List.{List, [], _∷_, _++_}
 use mathlib.Core.Option.{Option, none, some}
 use lib.IntN.{ℤ, pos, _*ℤ_}
-use Rattle.integers.specs.Checked.{fitsI64, eqZ}
+use Rattle.integers.specs.Integers.{fitsI64, eqZ}
 use Rattle.layout.specs.declared.axis.ReduceOuterAxis.{ReduceOuterAxis}
-use Rattle.layout.specs.declared.order.Ordered.{Ordered}
 use Rattle.layout.specs.declared.fuse.Joined.{Joined}
 use Rattle.layout.specs.declared.fuse.Joined.the-variants.{One, Two, Overflow}
-use Rattle.layout.specs.declared.fuse.Fusing.{Fusing}
-use Rattle.layout.specs.Axes.{axisOf, resetFits, noAxis, tableOf}
+use Rattle.layout.specs.Axes.{axisOf, resetFits}
 
 -- step × size: where the axis so far would go on
 unfoldable pub reach : ReduceOuterAxis → ℤ
@@ -30,20 +28,6 @@ unfoldable pub fuseFrom : List ReduceOuterAxis → ReduceOuterAxis → List Redu
 fuseFrom done a [] = some (done ++ a ∷ [])
 fuseFrom done a (b ∷ bs) = elim (joinOf a b) [ One c ↦ fuseFrom done c bs | Two ↦ fuseFrom (done ++ a ∷ []) b bs | Overflow ↦ none ]
 
--- one step of that, as the code answers it
-unfoldable pub nextFrom : List ReduceOuterAxis → ReduceOuterAxis → ReduceOuterAxis → Joined → Fusing
-nextFrom done a b (One c) = record { ok = true; done = tableOf done; last = c }
-nextFrom done a b Two = record { ok = true; done = tableOf (done ++ a ∷ []); last = b }
-nextFrom done a b Overflow = record { ok = false; done = tableOf []; last = noAxis }
-
-unfoldable pub nextOf : List ReduceOuterAxis → ReduceOuterAxis → ReduceOuterAxis → Fusing
-nextOf done a b = nextFrom done a b (joinOf a b)
-
 unfoldable pub fuse : List ReduceOuterAxis → Option (List ReduceOuterAxis)
 fuse [] = some []
 fuse (a ∷ xs) = fuseFrom [] a xs
-
--- the answer, as the code gives it
-unfoldable pub orderedOr : Option (List ReduceOuterAxis) → Ordered
-orderedOr (some xs) = record { ok = true; table = tableOf xs }
-orderedOr none = record { ok = false; table = tableOf [] }

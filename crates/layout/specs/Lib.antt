@@ -1,5 +1,7 @@
 pub mod Axes
-pub mod Order
-pub mod Sorting
 pub mod Fuse
+pub mod Order
 pub mod Compile
+pub mod Sorting
+pub mod InnerTables
+pub mod InnerAnswers

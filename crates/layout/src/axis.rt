@@ -3,8 +3,9 @@ ghost use mathlib.Core.Path.{_≡_};
 ghost use mathlib.Core.List.{[], _∷_, _++_};
 ghost use Prim.Native.Nat.{_-_, _<_};
 ghost use lib.IntN.{negℤ};
-ghost use Rattle.integers.specs.Checked.{keepI};
-ghost use Rattle.layout.specs.Axes.{PLACES, Table, noAxis, tableOf, held, span, resetFits};
+ghost use Rattle.integers.specs.InnerChecked.{keepI};
+ghost use Rattle.layout.specs.Axes.{PLACES, noAxis, span, resetFits};
+ghost use Rattle.layout.specs.InnerTables.{CleanTable, tableOf, tableAxes};
 use integers::CheckedI64;
 
 // How many axes a table holds.
@@ -44,8 +45,8 @@ pub fn no_axes() -> AxisTable
 
 // The table with one axis more.
 pub fn push(table: AxisTable, axis: ReduceOuterAxis) -> AxisTable
-    requires { ⌜ Table table × (table .count < PLACES) ⌝ }
-    ensures { λ r. ⌜ r ≡ tableOf (held table ++ axis ∷ []) ⌝ }
+    requires { ⌜ CleanTable table × (table .count < PLACES) ⌝ }
+    ensures { λ r. ⌜ r ≡ tableOf (tableAxes table ++ axis ∷ []) ⌝ }
 {
     let mut t = table;
     let n = t.count;

@@ -2,8 +2,10 @@
 ghost use mathlib.Core.Path.{_≡_};
 ghost use mathlib.Core.List.{[], _∷_, _++_};
 ghost use Prim.Native.Nat.{_<_};
-ghost use Rattle.layout.specs.Axes.{PLACES, Table, tableOf, held};
-ghost use Rattle.layout.specs.Fuse.{joinOf, nextOf, fuse, orderedOr};
+ghost use Rattle.layout.specs.Axes.{PLACES};
+ghost use Rattle.layout.specs.InnerTables.{CleanTable, tableOf, tableAxes};
+ghost use Rattle.layout.specs.Fuse.{joinOf, fuse};
+ghost use Rattle.layout.specs.InnerAnswers.{nextOf, orderedOr};
 use crate::axis::AxisTable;
 use crate::axis::PLACES;
 use crate::axis::ReduceOuterAxis;
@@ -50,8 +52,8 @@ pub struct Fusing {
 
 // The next axis joins the axis so far, or follows it.
 fn fuse_next(f: Fusing, b: ReduceOuterAxis) -> Fusing
-    requires { ⌜ Table (f .done) × (f .done .count < PLACES) ⌝ }
-    ensures { λ r. ⌜ r ≡ nextOf (held (f .done)) (f .last) b ⌝ }
+    requires { ⌜ CleanTable (f .done) × (f .done .count < PLACES) ⌝ }
+    ensures { λ r. ⌜ r ≡ nextOf (tableAxes (f .done)) (f .last) b ⌝ }
 {
     let done = f.done;
     let a = f.last;
@@ -76,8 +78,8 @@ fn fuse_next(f: Fusing, b: ReduceOuterAxis) -> Fusing
 }
 
 pub fn compress_reduce_outer_axes(axes: AxisTable) -> Ordered
-    requires { ⌜ Table axes ⌝ }
-    ensures { λ r. ⌜ r ≡ orderedOr (fuse (held axes)) ⌝ }
+    requires { ⌜ CleanTable axes ⌝ }
+    ensures { λ r. ⌜ r ≡ orderedOr (fuse (tableAxes axes)) ⌝ }
 {
     let count = axes.count;
     let none = crate::axis::no_axes();

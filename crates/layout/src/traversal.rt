@@ -2,8 +2,10 @@
 ghost use mathlib.Core.Path.{_≡_};
 ghost use mathlib.Core.List.{[], _∷_};
 ghost use lib.ListN.{drop};
-ghost use Rattle.layout.specs.Axes.{Table, axisOf, tableOf, held};
-ghost use Rattle.layout.specs.Compile.{totalOf, checkedOr, emptyLayout, layoutOf, compileOf};
+ghost use Rattle.layout.specs.InnerTables.{CleanTable, tableOf, tableAxes};
+ghost use Rattle.layout.specs.Axes.{axisOf};
+ghost use Rattle.layout.specs.Compile.{totalOf, emptyLayout, layoutOf, compileOf};
+ghost use Rattle.layout.specs.InnerAnswers.{checkedOr};
 use crate::axis::AxisTable;
 use crate::axis::PLACES;
 use crate::axis::ReduceOuterAxis;
@@ -62,8 +64,8 @@ pub fn empty() -> FullTraversal
 
 // The axes after the first.
 fn after_first(table: AxisTable) -> AxisTable
-    requires { ⌜ Table table ⌝ }
-    ensures { λ r. ⌜ r ≡ tableOf (drop 1 (held table)) ⌝ }
+    requires { ⌜ CleanTable table ⌝ }
+    ensures { λ r. ⌜ r ≡ tableOf (drop 1 (tableAxes table)) ⌝ }
 {
     let mut out = crate::axis::no_axes();
     let count = table.count;
@@ -78,8 +80,8 @@ fn after_first(table: AxisTable) -> AxisTable
 
 // Rule 5: the first axis is the run, the others are outer.
 fn with_run(total: u64, fused: AxisTable) -> FullTraversal
-    requires { ⌜ Table fused ⌝ }
-    ensures { λ r. ⌜ r ≡ layoutOf total (held fused) ⌝ }
+    requires { ⌜ CleanTable fused ⌝ }
+    ensures { λ r. ⌜ r ≡ layoutOf total (tableAxes fused) ⌝ }
 {
     let outer = after_first(fused);
     let places = outer.places;

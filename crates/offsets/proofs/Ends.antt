@@ -16,26 +16,27 @@ use lib.Signed.{leZ, ltZ, _≤ℤ_, _<ℤ_}
 use Rattle.integers.proofs.Difference.{ints, atoms}
 use Rattle.layout.specs.declared.axis.ReduceOuterAxis.{ReduceOuterAxis}
 use Rattle.layout.specs.Axes.{span}
-use Rattle.offsets.specs.Elements.{digits, shift, offset, elements, below, above, lowSum, highSum, lowest, highest, within, every, allWithin}
-use Rattle.offsets.specs.Cursors.{Axes, Bounded}
+use Rattle.offsets.specs.Elements.{digits, shift, offset, elements, insideValues, everyBelow, allInside}
+use Rattle.offsets.specs.InnerBounds.{negativePart, positivePart, lowSum, highSum, lowestOffset, highestOffset}
+use Rattle.offsets.specs.InnerCursors.{Axes, Bounded}
 
-below-le : (z : ℤ) → below z ≤ℤ z
-unfolding below
+below-le : (z : ℤ) → negativePart z ≤ℤ z
+unfolding negativePart
 below-le (pos n) = simp ints (simp atoms (omega arith))
 below-le (negsuc n) = simp ints (simp atoms (omega arith))
 
-pub below-zero : (z : ℤ) → below z ≤ℤ pos 0
-unfolding below
+pub below-zero : (z : ℤ) → negativePart z ≤ℤ pos 0
+unfolding negativePart
 below-zero (pos n) = simp ints (simp atoms (omega arith))
 below-zero (negsuc n) = simp ints (simp atoms (omega arith))
 
-le-above : (z : ℤ) → z ≤ℤ above z
-unfolding above
+le-above : (z : ℤ) → z ≤ℤ positivePart z
+unfolding positivePart
 le-above (pos n) = simp ints (simp atoms (omega arith))
 le-above (negsuc n) = simp ints (simp atoms (omega arith))
 
-pub zero-above : (z : ℤ) → pos 0 ≤ℤ above z
-unfolding above
+pub zero-above : (z : ℤ) → pos 0 ≤ℤ positivePart z
+unfolding positivePart
 zero-above (pos n) = simp ints (simp atoms (omega arith))
 zero-above (negsuc n) = simp ints (simp atoms (omega arith))
 
@@ -64,11 +65,11 @@ share-neg n e d h =
 le-trans : (a b c : ℤ) → a ≤ℤ b → b ≤ℤ c → a ≤ℤ c
 le-trans a b c = simp ints (simp atoms (omega arith))
 
-pub share-low : (e : ℕ) (s : ℤ) (d : ℕ) → d < e → below (span e s) ≤ℤ (s *ℤ pos d)
+pub share-low : (e : ℕ) (s : ℤ) (d : ℕ) → d < e → negativePart (span e s) ≤ℤ (s *ℤ pos d)
 share-low e (pos n) d h = le-trans _ (pos 0) _ (below-zero (span e (pos n))) (share-pos n e d h .0)
 share-low e (negsuc n) d h = le-trans _ (span e (negsuc n)) _ (below-le (span e (negsuc n))) (share-neg n e d h .0)
 
-pub share-high : (e : ℕ) (s : ℤ) (d : ℕ) → d < e → (s *ℤ pos d) ≤ℤ above (span e s)
+pub share-high : (e : ℕ) (s : ℤ) (d : ℕ) → d < e → (s *ℤ pos d) ≤ℤ positivePart (span e s)
 share-high e (pos n) d h = le-trans _ (span e (pos n)) _ (share-pos n e d h .1) (le-above (span e (pos n)))
 share-high e (negsuc n) d h = le-trans _ (pos 0) _ (share-neg n e d h .1) (zero-above (span e (negsuc n)))
 
@@ -76,7 +77,7 @@ share-high e (negsuc n) d h = le-trans _ (pos 0) _ (share-neg n e d h .1) (zero-
 pub low-zero : (xs : List ReduceOuterAxis) → lowSum xs ≤ℤ pos 0
 unfolding lowSum
 low-zero [] = simp ints (simp atoms (omega arith))
-low-zero (a ∷ xs) = sum (below (span (a .extent) (a .«source_step»))) (lowSum xs) (below-zero (span (a .extent) (a .«source_step»))) (low-zero xs)
+low-zero (a ∷ xs) = sum (negativePart (span (a .extent) (a .«source_step»))) (lowSum xs) (below-zero (span (a .extent) (a .«source_step»))) (low-zero xs)
   where
     sum : (y z : ℤ) → y ≤ℤ pos 0 → z ≤ℤ pos 0 → (y +ℤ z) ≤ℤ pos 0
     sum y z = simp ints (simp atoms (omega arith))
@@ -84,7 +85,7 @@ low-zero (a ∷ xs) = sum (below (span (a .extent) (a .«source_step»))) (lowSu
 pub zero-high : (xs : List ReduceOuterAxis) → pos 0 ≤ℤ highSum xs
 unfolding highSum
 zero-high [] = simp ints (simp atoms (omega arith))
-zero-high (a ∷ xs) = sum (above (span (a .extent) (a .«source_step»))) (highSum xs) (zero-above (span (a .extent) (a .«source_step»))) (zero-high xs)
+zero-high (a ∷ xs) = sum (positivePart (span (a .extent) (a .«source_step»))) (highSum xs) (zero-above (span (a .extent) (a .«source_step»))) (zero-high xs)
   where
     sum : (y z : ℤ) → pos 0 ≤ℤ y → pos 0 ≤ℤ z → pos 0 ≤ℤ (y +ℤ z)
     sum y z = simp ints (simp atoms (omega arith))
@@ -140,19 +141,19 @@ span-is : (e : ℕ) (s : ℤ) → s *ℤ pos (e - 1) ≡ span e s
 unfolding span
 span-is e s = refl
 
-low-share : (e : ℕ) (s : ℤ) → s *ℤ pos (cond (ltZ (span e s) (pos 0)) (e - 1) 0) ≡ below (span e s)
-unfolding below
+low-share : (e : ℕ) (s : ℤ) → s *ℤ pos (cond (ltZ (span e s) (pos 0)) (e - 1) 0) ≡ negativePart (span e s)
+unfolding negativePart
 low-share e s = go (span e s) refl
   where
-    go : (z : ℤ) → span e s ≡ z → s *ℤ pos (cond (ltZ (span e s) (pos 0)) (e - 1) 0) ≡ below (span e s)
+    go : (z : ℤ) → span e s ≡ z → s *ℤ pos (cond (ltZ (span e s) (pos 0)) (e - 1) 0) ≡ negativePart (span e s)
     go (pos n) q = rw (q, le-ltb n 0 (omega arith)) (*ℤ-zero s)
     go (negsuc n) q = rw q (span-is e s ∙ q)
 
-high-share : (e : ℕ) (s : ℤ) → s *ℤ pos (cond (ltZ (span e s) (pos 0)) 0 (e - 1)) ≡ above (span e s)
-unfolding above
+high-share : (e : ℕ) (s : ℤ) → s *ℤ pos (cond (ltZ (span e s) (pos 0)) 0 (e - 1)) ≡ positivePart (span e s)
+unfolding positivePart
 high-share e s = go (span e s) refl
   where
-    go : (z : ℤ) → span e s ≡ z → s *ℤ pos (cond (ltZ (span e s) (pos 0)) 0 (e - 1)) ≡ above (span e s)
+    go : (z : ℤ) → span e s ≡ z → s *ℤ pos (cond (ltZ (span e s) (pos 0)) 0 (e - 1)) ≡ positivePart (span e s)
     go (pos n) q = rw (q, le-ltb n 0 (omega arith)) (span-is e s ∙ q)
     go (negsuc n) q = rw q (*ℤ-zero s)
 
@@ -182,56 +183,56 @@ module _ (xs : List ReduceOuterAxis) (w : Axes xs) (base : ℤ) where
   unfolding highDigit highNumber
   high-number = number-lt highDigit (λ a h. digit-small' (a .extent) h (ltZ (span (a .extent) (a .«source_step»)) (pos 0))) xs w
 
-  low-offset : offset xs base lowNumber ≡ lowest xs base
-  unfolding offset lowest lowNumber lowDigit
+  low-offset : offset xs base lowNumber ≡ lowestOffset xs base
+  unfolding offset lowestOffset lowNumber lowDigit
   low-offset = ap (λ (ds : List ℕ). base +ℤ shift xs ds) (number-digits lowDigit small xs w) ∙ ap (λ (z : ℤ). base +ℤ z) (low-reached xs)
     where
       small : (a : ReduceOuterAxis) → 1 ≤ a .extent → lowDigit a < a .extent
       small a h = digit-small (a .extent) h (ltZ (span (a .extent) (a .«source_step»)) (pos 0))
 
-  high-offset : offset xs base highNumber ≡ highest xs base
-  unfolding offset highest highNumber highDigit
+  high-offset : offset xs base highNumber ≡ highestOffset xs base
+  unfolding offset highestOffset highNumber highDigit
   high-offset = ap (λ (ds : List ℕ). base +ℤ shift xs ds) (number-digits highDigit small xs w) ∙ ap (λ (z : ℤ). base +ℤ z) (high-reached xs)
     where
       small : (a : ReduceOuterAxis) → 1 ≤ a .extent → highDigit a < a .extent
       small a h = digit-small' (a .extent) h (ltZ (span (a .extent) (a .«source_step»)) (pos 0))
 
   -- every element lies between the ends
-  pub offset-low : (k : ℕ) → lowest xs base ≤ℤ offset xs base k
-  unfolding offset lowest
+  pub offset-low : (k : ℕ) → lowestOffset xs base ≤ℤ offset xs base k
+  unfolding offset lowestOffset
   offset-low k = sum-le base base (lowSum xs) (shift xs (digits xs k)) (same base) (shift-low xs w k)
     where
       same : (z : ℤ) → z ≤ℤ z
       same z = simp ints (simp atoms (omega arith))
 
-  pub offset-high : (k : ℕ) → offset xs base k ≤ℤ highest xs base
-  unfolding offset highest
+  pub offset-high : (k : ℕ) → offset xs base k ≤ℤ highestOffset xs base
+  unfolding offset highestOffset
   offset-high k = sum-le base base (shift xs (digits xs k)) (highSum xs) (same base) (shift-high xs w k)
     where
       same : (z : ℤ) → z ≤ℤ z
       same z = simp ints (simp atoms (omega arith))
 
 -- ---- a test of every number
-pub every-true : (n : ℕ) (p : ℕ → Bool) → ((k : ℕ) → k < n → p k ≡ true) → every n p ≡ true
-unfolding every
+pub every-true : (n : ℕ) (p : ℕ → Bool) → ((k : ℕ) → k < n → p k ≡ true) → everyBelow n p ≡ true
+unfolding everyBelow
 every-true zero p f = refl
 every-true (suc n) p f = rw (every-true n p (λ k h. f k (omega arith)), f n (omega arith))
 
-pub every-at : (n : ℕ) (p : ℕ → Bool) → every n p ≡ true → (k : ℕ) → k < n → p k ≡ true
-unfolding every
+pub every-at : (n : ℕ) (p : ℕ → Bool) → everyBelow n p ≡ true → (k : ℕ) → k < n → p k ≡ true
+unfolding everyBelow
 every-at zero p e k h = absurd (none h)
   where
     none : k < 0 → ⊥
     none h = omega arith
-every-at (suc n) p e k h = go (every-at n p (and-left (every n p) (p n) e) k) (decLt k n)
+every-at (suc n) p e k h = go (every-at n p (and-left (everyBelow n p) (p n) e) k) (decLt k n)
   where
     go : (k < n → p k ≡ true) → Dec (k < n) → p k ≡ true
     go f (yes l) = f l
-    go f (no l) = let q : k ≡ n = omega arith in rw q (and-right (every n p) (p n) e)
+    go f (no l) = let q : k ≡ n = omega arith in rw q (and-right (everyBelow n p) (p n) e)
 
 -- ---- refusal 7: by its definition over every element, and by the two ends
 unfoldable pub endsWithin : List ReduceOuterAxis → ℤ → ℕ → Bool
-endsWithin xs base length = leZ (pos 0) (lowest xs base) && ltZ (highest xs base) (pos (2 ^ 63)) && ltZ (highest xs base) (pos length)
+endsWithin xs base length = leZ (pos 0) (lowestOffset xs base) && ltZ (highestOffset xs base) (pos (2 ^ 63)) && ltZ (highestOffset xs base) (pos length)
 
 up-zero : (a b : ℤ) → leZ (pos 0) a ≡ true → a ≤ℤ b → leZ (pos 0) b ≡ true
 up-zero a b = simp ints (simp atoms (omega arith))
@@ -246,30 +247,30 @@ of-lt : (a b : ℤ) → ltZ a b ≡ true → a <ℤ b
 of-lt a b = simp ints (simp atoms (omega arith))
 
 -- an offset that refusal 7 lets through lies in the values
-pub within-low : (n : ℕ) (z : ℤ) → within n z ≡ true → pos 0 ≤ℤ z
-unfolding within
+pub within-low : (n : ℕ) (z : ℤ) → insideValues n z ≡ true → pos 0 ≤ℤ z
+unfolding insideValues
 within-low n z e = of-le (pos 0) z (and3 (leZ (pos 0) z) (ltZ z (pos (2 ^ 63))) (ltZ z (pos n)) e .0)
 
-pub within-high : (n : ℕ) (z : ℤ) → within n z ≡ true → z <ℤ pos n
-unfolding within
+pub within-high : (n : ℕ) (z : ℤ) → insideValues n z ≡ true → z <ℤ pos n
+unfolding insideValues
 within-high n z e = of-lt z (pos n) (and3 (leZ (pos 0) z) (ltZ z (pos (2 ^ 63))) (ltZ z (pos n)) e .2)
 
 module _ (xs : List ReduceOuterAxis) (w : Axes xs) (base : ℤ) (length : ℕ) where
   -- refusal 7 is given exactly if some element lies outside
-  pub seven-exact : (allWithin xs (elements xs) base length ≡ true) ↔ ((k : ℕ) → k < elements xs → within length (offset xs base k) ≡ true)
-  unfolding allWithin
-  seven-exact = (every-at (elements xs) (λ k. within length (offset xs base k)), every-true (elements xs) (λ k. within length (offset xs base k)))
+  pub seven-exact : (allInside xs (elements xs) base length ≡ true) ↔ ((k : ℕ) → k < elements xs → insideValues length (offset xs base k) ≡ true)
+  unfolding allInside
+  seven-exact = (every-at (elements xs) (λ k. insideValues length (offset xs base k)), every-true (elements xs) (λ k. insideValues length (offset xs base k)))
 
-  ends-all : endsWithin xs base length ≡ true → (k : ℕ) → within length (offset xs base k) ≡ true
-  unfolding endsWithin within
+  ends-all : endsWithin xs base length ≡ true → (k : ℕ) → insideValues length (offset xs base k) ≡ true
+  unfolding endsWithin insideValues
   ends-all e k =
       let l = offset-low xs w base k in
       let h = offset-high xs w base k in
-      let p = and3 (leZ (pos 0) (lowest xs base)) (ltZ (highest xs base) (pos (2 ^ 63))) (ltZ (highest xs base) (pos length)) e in
-      rw (up-zero (lowest xs base) (offset xs base k) (p .0) l, down-lt (offset xs base k) (highest xs base) (pos (2 ^ 63)) (p .1) h, down-lt (offset xs base k) (highest xs base) (pos length) (p .2) h)
+      let p = and3 (leZ (pos 0) (lowestOffset xs base)) (ltZ (highestOffset xs base) (pos (2 ^ 63))) (ltZ (highestOffset xs base) (pos length)) e in
+      rw (up-zero (lowestOffset xs base) (offset xs base k) (p .0) l, down-lt (offset xs base k) (highestOffset xs base) (pos (2 ^ 63)) (p .1) h, down-lt (offset xs base k) (highestOffset xs base) (pos length) (p .2) h)
 
-  all-ends : allWithin xs (elements xs) base length ≡ true → endsWithin xs base length ≡ true
-  unfolding endsWithin within
+  all-ends : allInside xs (elements xs) base length ≡ true → endsWithin xs base length ≡ true
+  unfolding endsWithin insideValues
   all-ends e =
       let f = seven-exact .0 e in
       let lo = offset xs base (lowNumber xs w base) in
@@ -279,10 +280,10 @@ module _ (xs : List ReduceOuterAxis) (w : Axes xs) (base : ℤ) (length : ℕ) w
       rw (← (low-offset xs w base), ← (high-offset xs w base), l .0, h .1, h .2)
 
   -- the test of the two ends is the test of every element
-  pub ends-exact : allWithin xs (elements xs) base length ≡ endsWithin xs base length
-  ends-exact = go (allWithin xs (elements xs) base length) (endsWithin xs base length) refl refl
+  pub ends-exact : allInside xs (elements xs) base length ≡ endsWithin xs base length
+  ends-exact = go (allInside xs (elements xs) base length) (endsWithin xs base length) refl refl
     where
-      go : (a b : Bool) → allWithin xs (elements xs) base length ≡ a → endsWithin xs base length ≡ b → allWithin xs (elements xs) base length ≡ endsWithin xs base length
+      go : (a b : Bool) → allInside xs (elements xs) base length ≡ a → endsWithin xs base length ≡ b → allInside xs (elements xs) base length ≡ endsWithin xs base length
       go true b e f = e ∙ sym (all-ends e)
       go false true e f = seven-exact .1 (λ k h. ends-all f k) ∙ sym f
       go false false e f = e ∙ sym f
@@ -291,5 +292,5 @@ module _ (xs : List ReduceOuterAxis) (w : Axes xs) (base : ℤ) (length : ℕ) w
   pub ends-bounded : endsWithin xs base length ≡ true → Bounded xs base
   unfolding endsWithin
   ends-bounded e =
-      let p = and3 (leZ (pos 0) (lowest xs base)) (ltZ (highest xs base) (pos (2 ^ 63))) (ltZ (highest xs base) (pos length)) e in
-      record { low = of-le (pos 0) (lowest xs base) (p .0); high = of-lt (highest xs base) (pos (2 ^ 63)) (p .1) }
+      let p = and3 (leZ (pos 0) (lowestOffset xs base)) (ltZ (highestOffset xs base) (pos (2 ^ 63))) (ltZ (highestOffset xs base) (pos length)) e in
+      record { low = of-le (pos 0) (lowestOffset xs base) (p .0); high = of-lt (highestOffset xs base) (pos (2 ^ 63)) (p .1) }

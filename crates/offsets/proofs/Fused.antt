@@ -11,7 +11,7 @@ use lib.Dec.{T, eqb, ltb}
 use lib.ListN.{length, take, drop, replicate, length-append}
 use lib.Arith.{mod-mul}
 use lib.IntN.{ℤ, pos, negℤ, _+ℤ_, _*ℤ_}
-use Rattle.integers.specs.Checked.{fitsI64, eqZ}
+use Rattle.integers.specs.Integers.{fitsI64, eqZ}
 use Rattle.integers.proofs.Difference.{ints, atoms}
 use Rattle.integers.proofs.Machine.{eqZ-true}
 use Rattle.layout.specs.declared.axis.ReduceOuterAxis.{ReduceOuterAxis}
@@ -19,7 +19,7 @@ use Rattle.layout.specs.declared.fuse.Joined.{Joined}
 use Rattle.layout.specs.declared.fuse.Joined.the-variants.{One, Two, Overflow}
 use Rattle.layout.specs.Axes.{PLACES, noAxis, placesOf, span, resetFits, axisOf}
 use borrow.Author.Tests.{eqb-true, ne-eqb}
-use Rattle.layout.specs.Order.{kept, precedes, insertAxis, orderFrom, axesOf, resetsFit}
+use Rattle.layout.specs.Order.{keptAxes, precedes, insertAxis, orderFrom, axesOf, resetsFit}
 use native.Mathlib.Decide.{decLt}
 use lib.Seq.{take-append-seam}
 use Rattle.layout.specs.declared.traversal.FullTraversal.{FullTraversal}
@@ -27,12 +27,12 @@ use Rattle.layout.specs.Compile.{totalFrom, totalOf, fusedOf, layoutOf, emptyLa
 use Rattle.layout.proofs.Tables.{length-placesOf}
 use Rattle.layout.proofs.Ordering.{length-order, length-kept}
 use Rattle.layout.proofs.Compiling.{layout-total}
-use Rattle.offsets.specs.Traversals.{runOf, outerOf, Traversal}
+use Rattle.offsets.specs.Pieces.{runOf, outerOf}
+use Rattle.offsets.specs.InnerCursors.{Traversal, Axis, Axes}
 use Rattle.offsets.proofs.Ends.{and-left, and-right}
 use Rattle.layout.specs.Fuse.{reach, joinOf, fuseFrom, fuse}
 use Rattle.layout.proofs.Fusing.{join-over, join-two, join-no-reset, join-one, fused-one, fused-two, fused-over, some-inj, none-some, length-fuse}
 use Rattle.offsets.specs.Elements.{digits, shift, offset, elements}
-use Rattle.offsets.specs.Cursors.{Axis, Axes}
 use Rattle.offsets.proofs.Stepping.{offset-cons}
 
 -- the same elements at the same offsets
@@ -194,8 +194,8 @@ total-product u (n ∷ ns) t e = go (ltb (u * n) (2 ^ 64)) refl (total-product (
     go true q f = f (sym (ap (λ (b : Bool). cond b (totalFrom (u * n) ns) none) q) ∙ e) ∙ mul-assoc u n (product ns)
     go false q f = absurd (none-some (sym (ap (λ (b : Bool). cond b (totalFrom (u * n) ns) none) q) ∙ e))
 
-kept-elements : (ns : List ℕ) (ss : List ℤ) → length ns ≡ length ss → elements (kept ns ss) ≡ product ns
-unfolding kept product
+kept-elements : (ns : List ℕ) (ss : List ℤ) → length ns ≡ length ss → elements (keptAxes ns ss) ≡ product ns
+unfolding keptAxes product
 kept-elements [] ss e = one-element
 kept-elements (n ∷ ns) [] e = absurd (no e)
   where
@@ -203,12 +203,12 @@ kept-elements (n ∷ ns) [] e = absurd (no e)
     no h = omega arith
 kept-elements (n ∷ ns) (s ∷ ss) e = go (eqb n 1) refl (kept-elements ns ss (omega arith))
   where
-    go : (b : Bool) → eqb n 1 ≡ b → elements (kept ns ss) ≡ product ns → elements (cond (eqb n 1) (kept ns ss) (axisOf n s ∷ kept ns ss)) ≡ n * product ns
+    go : (b : Bool) → eqb n 1 ≡ b → elements (keptAxes ns ss) ≡ product ns → elements (cond (eqb n 1) (keptAxes ns ss) (axisOf n s ∷ keptAxes ns ss)) ≡ n * product ns
     go true q i = let o : n ≡ 1 = eqb-true n 1 q in rw q (i ∙ (let m = ap (λ (x : ℕ). x * product ns) o in omega arith))
-    go false q i = rw q (axis-elements n s (kept ns ss) ∙ ap (λ (x : ℕ). n * x) i)
+    go false q i = rw q (axis-elements n s (keptAxes ns ss) ∙ ap (λ (x : ℕ). n * x) i)
 
-kept-axes : (ns : List ℕ) (ss : List ℤ) → 0 < product ns → resetsFit (kept ns ss) ≡ true → Axes (kept ns ss)
-unfolding kept product
+kept-axes : (ns : List ℕ) (ss : List ℤ) → 0 < product ns → resetsFit (keptAxes ns ss) ≡ true → Axes (keptAxes ns ss)
+unfolding keptAxes product
 kept-axes [] ss h f = no-axes
 kept-axes (n ∷ ns) [] h f = no-axes
 kept-axes (n ∷ ns) (s ∷ ss) h f =
@@ -220,12 +220,12 @@ kept-axes (n ∷ ns) (s ∷ ss) h f =
     some-n : 0 < n * product ns → 1 ≤ n
     some-n h = pos-of-mul-left n (product ns) h
 
-    go : (b : Bool) → eqb n 1 ≡ b → (resetsFit (kept ns ss) ≡ true → Axes (kept ns ss)) → Axes (cond (eqb n 1) (kept ns ss) (axisOf n s ∷ kept ns ss))
-    go true q i = rw q (i (ap resetsFit (ap (λ (b : Bool). cond b (kept ns ss) (axisOf n s ∷ kept ns ss)) (sym q)) ∙ f))
+    go : (b : Bool) → eqb n 1 ≡ b → (resetsFit (keptAxes ns ss) ≡ true → Axes (keptAxes ns ss)) → Axes (cond (eqb n 1) (keptAxes ns ss) (axisOf n s ∷ keptAxes ns ss))
+    go true q i = rw q (i (ap resetsFit (ap (λ (b : Bool). cond b (keptAxes ns ss) (axisOf n s ∷ keptAxes ns ss)) (sym q)) ∙ f))
     go false q i =
-        let g : resetsFit (axisOf n s ∷ kept ns ss) ≡ true = ap resetsFit (ap (λ (b : Bool). cond b (kept ns ss) (axisOf n s ∷ kept ns ss)) (sym q)) ∙ f in
-        let r = first-fit n s (kept ns ss) g in
-        rw q (one-more n s (kept ns ss) (some-n h) (r .0) (i (r .1)))
+        let g : resetsFit (axisOf n s ∷ keptAxes ns ss) ≡ true = ap resetsFit (ap (λ (b : Bool). cond b (keptAxes ns ss) (axisOf n s ∷ keptAxes ns ss)) (sym q)) ∙ f in
+        let r = first-fit n s (keptAxes ns ss) g in
+        rw q (one-more n s (keptAxes ns ss) (some-n h) (r .0) (i (r .1)))
 
 insert-same : (a : ReduceOuterAxis) (xs : List ReduceOuterAxis) → Axis a → Axes xs → Axes (insertAxis a xs) × (elements (insertAxis a xs) ≡ a .extent * elements xs)
 unfolding insertAxis Axes elements
@@ -327,22 +327,22 @@ pub record Accepted (ns : List ℕ) (ss : List ℤ) (l : FullTraversal) : Type 0
 module _ (ns : List ℕ) (ss : List ℤ) (eq : length ns ≡ length ss) (small : length ns ≤ PLACES) where
   with-fused : (t : ℕ) → totalOf ns ≡ some t → (t ≡ 0 → ⊥) → (xs : List ReduceOuterAxis) → fusedOf ns ss ≡ some xs → Accepted ns ss (layoutOf t xs)
   unfolding fusedOf axesOf totalOf
-  with-fused t e n xs f = go (resetsFit (kept ns ss)) refl
+  with-fused t e n xs f = go (resetsFit (keptAxes ns ss)) refl
     where
-      go : (b : Bool) → resetsFit (kept ns ss) ≡ b → Accepted ns ss (layoutOf t xs)
-      go false q = absurd (none-some (ap (λ (b : Bool). cond b (fuse (orderFrom [] (kept ns ss))) none) (sym q) ∙ f))
+      go : (b : Bool) → resetsFit (keptAxes ns ss) ≡ b → Accepted ns ss (layoutOf t xs)
+      go false q = absurd (none-some (ap (λ (b : Bool). cond b (fuse (orderFrom [] (keptAxes ns ss))) none) (sym q) ∙ f))
       go true q =
           let p : t ≡ 1 * product ns = total-product 1 ns t e in
           let k = kept-axes ns ss (omega arith) q in
-          let o = order-same [] (kept ns ss) no-axes k in
-          let z : fuse (orderFrom [] (kept ns ss)) ≡ some xs = ap (λ (b : Bool). cond b (fuse (orderFrom [] (kept ns ss))) none) (sym q) ∙ f in
-          let s = fuse-all (orderFrom [] (kept ns ss)) xs (o .0) z in
-          let c : elements (orderFrom [] (kept ns ss)) ≡ t = o .1 ∙ ap (λ (m : ℕ). elements [] * m) (kept-elements ns ss eq) ∙ ap (λ (m : ℕ). m * product ns) one-element ∙ sym p in
+          let o = order-same [] (keptAxes ns ss) no-axes k in
+          let z : fuse (orderFrom [] (keptAxes ns ss)) ≡ some xs = ap (λ (b : Bool). cond b (fuse (orderFrom [] (keptAxes ns ss))) none) (sym q) ∙ f in
+          let s = fuse-all (orderFrom [] (keptAxes ns ss)) xs (o .0) z in
+          let c : elements (orderFrom [] (keptAxes ns ss)) ≡ t = o .1 ∙ ap (λ (m : ℕ). elements [] * m) (kept-elements ns ss eq) ∙ ap (λ (m : ℕ). m * product ns) one-element ∙ sym p in
           let r = layout-traversal t xs (s .axes) (few xs z) (s .elements ∙ c) in
-          record { traversal = r .0; same = same-trans (orderFrom [] (kept ns ss)) xs _ s (r .1); axes = o .0; total = c ∙ sym (layout-total t xs); product = e ∙ ap some (sym (layout-total t xs)) }
+          record { traversal = r .0; same = same-trans (orderFrom [] (keptAxes ns ss)) xs _ s (r .1); axes = o .0; total = c ∙ sym (layout-total t xs); product = e ∙ ap some (sym (layout-total t xs)) }
         where
-          few : (xs : List ReduceOuterAxis) → fuse (orderFrom [] (kept ns ss)) ≡ some xs → length xs ≤ PLACES
-          few xs z = let a = length-fuse (orderFrom [] (kept ns ss)) xs z in let b = length-order [] (kept ns ss) in let d = length-kept ns ss in omega arith
+          few : (xs : List ReduceOuterAxis) → fuse (orderFrom [] (keptAxes ns ss)) ≡ some xs → length xs ≤ PLACES
+          few xs z = let a = length-fuse (orderFrom [] (keptAxes ns ss)) xs z in let b = length-order [] (keptAxes ns ss) in let d = length-kept ns ss in omega arith
 
   -- a layout that compiling gives
   pub is-accepted : (l : FullTraversal) → traversalOf ns ss ≡ some l → 0 < l .total → Accepted ns ss l

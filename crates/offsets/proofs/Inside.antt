@@ -14,9 +14,9 @@ use Rattle.integers.proofs.Difference.{ints, atoms}
 use Rattle.layout.specs.declared.axis.ReduceOuterAxis.{ReduceOuterAxis}
 use Rattle.layout.specs.Axes.{span, axisOf}
 use Rattle.offsets.specs.declared.bounds.Span.{Span}
-use Rattle.offsets.specs.Elements.{elements, below, above, lowSum, highSum, lowest, highest, allWithin}
-use Rattle.offsets.specs.Cursors.{Axis, Axes}
-use Rattle.offsets.specs.Bounds.{nowhere, widened, stayWithin}
+use Rattle.offsets.specs.Elements.{elements, allInside}
+use Rattle.offsets.specs.InnerBounds.{negativePart, positivePart, lowSum, highSum, lowestOffset, highestOffset, nowhere, widened, stayInside}
+use Rattle.offsets.specs.InnerCursors.{Axis, Axes}
 use Rattle.offsets.proofs.Ends.{low-zero, zero-high, endsWithin, ends-exact}
 
 -- one axis: its reset is r, its share z
@@ -79,8 +79,8 @@ module _ (s : Span) (r : ℤ) (last p : ℕ) (e : p ≡ natAbs r) where
 -- what one axis does to the test
 pub record Widens (a : ReduceOuterAxis) (xs : List ReduceOuterAxis) (s r : Span) (last : ℕ) : Type 0 where
   pub high : r .ok ≡ true → r .high ≤ last
-  pub same : r .ok ≡ true → stayWithin xs (r .low) (r .high) last ≡ stayWithin (a ∷ xs) (s .low) (s .high) last
-  pub out : r .ok ≡ false → stayWithin (a ∷ xs) (s .low) (s .high) last ≡ false
+  pub same : r .ok ≡ true → stayInside xs (r .low) (r .high) last ≡ stayInside (a ∷ xs) (s .low) (s .high) last
+  pub out : r .ok ≡ false → stayInside (a ∷ xs) (s .low) (s .high) last ≡ false
 
 and-false : (b : Bool) → (b && false) ≡ false
 and-false true = refl
@@ -90,7 +90,7 @@ false-true : {A : Type 0} → false ≡ true → A
 false-true e = absurd (subst T (sym e) tt)
 
 pub widens : (a : ReduceOuterAxis) (xs : List ReduceOuterAxis) (s : Span) (last : ℕ) (r : ℤ) → r ≡ negℤ (span (a .extent) (a .«source_step»)) → s .high ≤ last → Widens a xs s (widened s r last) last
-unfolding stayWithin lowSum highSum widened below above
+unfolding stayInside lowSum highSum widened negativePart positivePart
 widens a xs s last r e h = rw e (go (span (a .extent) (a .«source_step»)) refl)
   where
     L : ℤ
@@ -145,8 +145,8 @@ widens a xs s last r e h = rw e (go (span (a .extent) (a .«source_step»)) refl
             })
 
 -- no axis left: the span is inside
-pub stays-in : (lo hi last : ℕ) → hi ≤ last → stayWithin [] lo hi last ≡ true
-unfolding stayWithin lowSum highSum
+pub stays-in : (lo hi last : ℕ) → hi ≤ last → stayInside [] lo hi last ≡ true
+unfolding stayInside lowSum highSum
 stays-in lo hi last h = rw (low lo, high hi last h)
   where
     low : (lo : ℕ) → leZ (pos 0) (pos lo +ℤ pos 0) ≡ true
@@ -159,15 +159,15 @@ stays-in lo hi last h = rw (low lo, high hi last h)
 pub record Spanning (all xs : List ReduceOuterAxis) (b last : ℕ) (s : Span) : Type 0 where
   pub ok : s .ok ≡ true
   pub high : s .high ≤ last
-  pub same : stayWithin xs (s .low) (s .high) last ≡ stayWithin all b b last
+  pub same : stayInside xs (s .low) (s .high) last ≡ stayInside all b b last
 
 pub spanning-first : (all : List ReduceOuterAxis) (b last : ℕ) → b ≤ last → Spanning all all b last (record { ok = true; low = b; high = b })
 spanning-first all b last h = record { ok = refl; high = h; same = refl }
 
 module _ (all xs ys : List ReduceOuterAxis) (a : ReduceOuterAxis) (b last : ℕ) (s r : Span) (z : ℤ) (e : xs ≡ a ∷ ys) (q : z ≡ negℤ (span (a .extent) (a .«source_step»))) (p : Spanning all xs b last s)
     (w : r ≡ widened s z last) where
-  at-axis : stayWithin (a ∷ ys) (s .low) (s .high) last ≡ stayWithin all b b last
-  at-axis = ap (λ (l : List ReduceOuterAxis). stayWithin l (s .low) (s .high) last) (sym e) ∙ p .same
+  at-axis : stayInside (a ∷ ys) (s .low) (s .high) last ≡ stayInside all b b last
+  at-axis = ap (λ (l : List ReduceOuterAxis). stayInside l (s .low) (s .high) last) (sym e) ∙ p .same
 
   widening : Widens a ys s r last
   widening = rw w (widens a ys s last z q (p .high))
@@ -175,30 +175,30 @@ module _ (all xs ys : List ReduceOuterAxis) (a : ReduceOuterAxis) (b last : ℕ)
   pub spanning-more : r .ok ≡ true → Spanning all ys b last r
   spanning-more k = record { ok = k; high = widening .high k; same = widening .same k ∙ at-axis }
 
-  pub spanning-out : r .ok ≡ false → false ≡ stayWithin all b b last
+  pub spanning-out : r .ok ≡ false → false ≡ stayInside all b b last
   spanning-out k = sym (widening .out k) ∙ at-axis
 
-pub spanning-all : (all xs : List ReduceOuterAxis) (b last : ℕ) (s : Span) → xs ≡ [] → Spanning all xs b last s → true ≡ stayWithin all b b last
-spanning-all all xs b last s e p = sym (stays-in (s .low) (s .high) last (p .high)) ∙ ap (λ (l : List ReduceOuterAxis). stayWithin l (s .low) (s .high) last) (sym e) ∙ p .same
+pub spanning-all : (all xs : List ReduceOuterAxis) (b last : ℕ) (s : Span) → xs ≡ [] → Spanning all xs b last s → true ≡ stayInside all b b last
+spanning-all all xs b last s e p = sym (stays-in (s .low) (s .high) last (p .high)) ∙ ap (λ (l : List ReduceOuterAxis). stayInside l (s .low) (s .high) last) (sym e) ∙ p .same
 
 -- ---- from the ends to every element
 module _ (xs : List ReduceOuterAxis) (w : Axes xs) (length : ℕ) where
-  pub base-below : (base : ℤ) → ltZ base (pos 0) ≡ true → false ≡ allWithin xs (elements xs) base length
-  unfolding endsWithin lowest
+  pub base-below : (base : ℤ) → ltZ base (pos 0) ≡ true → false ≡ allInside xs (elements xs) base length
+  unfolding endsWithin lowestOffset
   base-below base h = sym (ends-exact xs w base length ∙ rw (low base (lowSum xs) h (low-zero xs)))
     where
       low : (b L : ℤ) → ltZ b (pos 0) ≡ true → L ≤ℤ pos 0 → leZ (pos 0) (b +ℤ L) ≡ false
       low b L = simp ints (simp atoms (omega arith))
 
-  pub base-past : (b : ℕ) → length ≤ b → false ≡ allWithin xs (elements xs) (pos b) length
-  unfolding endsWithin highest
-  base-past b h = sym (ends-exact xs w (pos b) length ∙ rw (high b (highSum xs) length h (zero-high xs)) (and-false (leZ (pos 0) (lowest xs (pos b)) && ltZ (pos b +ℤ highSum xs) (pos (2 ^ 63)))))
+  pub base-past : (b : ℕ) → length ≤ b → false ≡ allInside xs (elements xs) (pos b) length
+  unfolding endsWithin highestOffset
+  base-past b h = sym (ends-exact xs w (pos b) length ∙ rw (high b (highSum xs) length h (zero-high xs)) (and-false (leZ (pos 0) (lowestOffset xs (pos b)) && ltZ (pos b +ℤ highSum xs) (pos (2 ^ 63)))))
     where
       high : (b : ℕ) (H : ℤ) (n : ℕ) → n ≤ b → pos 0 ≤ℤ H → ltZ (pos b +ℤ H) (pos n) ≡ false
       high b H n h = simp ints (simp atoms (omega arith))
 
-  pub last-short : (b : ℕ) → 0 < length → length < 2 ^ 63 → stayWithin xs b b (length - 1) ≡ allWithin xs (elements xs) (pos b) length
-  unfolding endsWithin stayWithin lowest highest
+  pub last-short : (b : ℕ) → 0 < length → length < 2 ^ 63 → stayInside xs b b (length - 1) ≡ allInside xs (elements xs) (pos b) length
+  unfolding endsWithin stayInside lowestOffset highestOffset
   last-short b n h = sym (ends-exact xs w (pos b) length ∙ go (leZ (pos 0) (pos b +ℤ lowSum xs)) (ltZ (pos b +ℤ highSum xs) (pos length)) refl)
     where
       wide : (z : ℤ) (k : ℕ) → k < 2 ^ 63 → ltZ z (pos k) ≡ true → ltZ z (pos (2 ^ 63)) ≡ true
@@ -218,8 +218,8 @@ module _ (xs : List ReduceOuterAxis) (w : Axes xs) (length : ℕ) where
           both false = refl
       go x false k = rw (k, over (pos b +ℤ highSum xs) length (length - 1) (omega arith) k) (and-false (x && ltZ (pos b +ℤ highSum xs) (pos (2 ^ 63))) ∙ sym (and-false x))
 
-  pub last-long : (b : ℕ) → 2 ^ 63 ≤ length → stayWithin xs b b 9223372036854775807 ≡ allWithin xs (elements xs) (pos b) length
-  unfolding endsWithin stayWithin lowest highest
+  pub last-long : (b : ℕ) → 2 ^ 63 ≤ length → stayInside xs b b 9223372036854775807 ≡ allInside xs (elements xs) (pos b) length
+  unfolding endsWithin stayInside lowestOffset highestOffset
   last-long b h = sym (ends-exact xs w (pos b) length ∙ go (leZ (pos 0) (pos b +ℤ lowSum xs)) (ltZ (pos b +ℤ highSum xs) (pos (2 ^ 63))) refl)
     where
       wide : (z : ℤ) (k : ℕ) → 2 ^ 63 ≤ k → ltZ z (pos (2 ^ 63)) ≡ true → ltZ z (pos k) ≡ true

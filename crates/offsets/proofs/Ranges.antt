@@ -17,21 +17,22 @@ use Rattle.layout.specs.declared.traversal.Compiled.{Compiled}
 use Rattle.layout.specs.Axes.{PLACES}
 use Rattle.layout.specs.Order.{axesOf}
 use Rattle.layout.specs.Compile.{Refusal, firstOf, compileRefusals, compileOf, accepted, emptyLayout, totalOf, traversalOf, overflows, aboveMost}
-use Rattle.offsets.specs.Elements.{offset, within, every, allWithin}
-use Rattle.offsets.specs.Traversals.{runOf, outerOf, Traversal}
-use Rattle.offsets.specs.Lists.{totalIn, rangeRefusals, rangeCode, rangeOf, listCode, offsetsFrom, listBuffer}
-use Rattle.offsets.specs.Cursors.{Bounded}
+use Rattle.offsets.specs.Elements.{offset, insideValues, everyBelow, allInside}
+use Rattle.offsets.specs.Pieces.{runOf, outerOf}
+use Rattle.offsets.specs.InnerCursors.{Traversal, Bounded}
+use Rattle.offsets.specs.Lists.{totalIn, rangeRefusals, rangeCode, listCode, offsetsFrom, listBuffer}
+use Rattle.offsets.specs.InnerLists.{rangeOf}
 use Rattle.offsets.proofs.Ends.{ends-exact, ends-bounded}
 use Rattle.offsets.proofs.Fused.{Accepted, Same, is-accepted, refused-none, not-over}
 
-every-same : (n : ℕ) (p q : ℕ → Bool) → ((k : ℕ) → p k ≡ q k) → every n p ≡ every n q
-unfolding every
+every-same : (n : ℕ) (p q : ℕ → Bool) → ((k : ℕ) → p k ≡ q k) → everyBelow n p ≡ everyBelow n q
+unfolding everyBelow
 every-same zero p q f = refl
 every-same (suc n) p q f = rw (every-same n p q f, f n)
 
-pub within-same : (xs ys : List ReduceOuterAxis) (n : ℕ) (base : ℤ) (len : ℕ) → Same xs ys → allWithin ys n base len ≡ allWithin xs n base len
-unfolding allWithin
-within-same xs ys n base len s = every-same n (λ k. within len (offset ys base k)) (λ k. within len (offset xs base k)) (λ k. ap (within len) (s .offsets base k))
+pub within-same : (xs ys : List ReduceOuterAxis) (n : ℕ) (base : ℤ) (len : ℕ) → Same xs ys → allInside ys n base len ≡ allInside xs n base len
+unfolding allInside
+within-same xs ys n base len s = every-same n (λ k. insideValues len (offset ys base k)) (λ k. insideValues len (offset xs base k)) (λ k. ap (insideValues len) (s .offsets base k))
 
 -- a refusal that applies hides those after it
 first-hides : (rs qs : List Refusal) → (firstOf rs ≡ 0 → ⊥) → firstOf (rs ++ qs) ≡ firstOf rs
@@ -109,15 +110,15 @@ module _ (ns : List ℕ) (ss : List ℤ) (base : ℤ) (start end len : ℕ) wher
 
     module _ (h : start < end) (k : end ≤ (compileOf ns ss) .traversal .total) where
       -- the test over the compiled layout is the test over rule 2's axes
-      tested : (b : Bool) → allWithin (runOf ((compileOf ns ss) .traversal) ∷ outerOf ((compileOf ns ss) .traversal)) ((compileOf ns ss) .traversal .total) base len ≡ b → allWithin (axesOf ns ss) ((compileOf ns ss) .traversal .total) base len ≡ b
+      tested : (b : Bool) → allInside (runOf ((compileOf ns ss) .traversal) ∷ outerOf ((compileOf ns ss) .traversal)) ((compileOf ns ss) .traversal .total) base len ≡ b → allInside (axesOf ns ss) ((compileOf ns ss) .traversal .total) base len ≡ b
       tested b e = sym (within-same (axesOf ns ss) _ _ base len (clear-accepted ns ss c (omega arith) .same)) ∙ e
 
-      pub range-7 : allWithin (runOf ((compileOf ns ss) .traversal) ∷ outerOf ((compileOf ns ss) .traversal)) ((compileOf ns ss) .traversal .total) base len ≡ false
+      pub range-7 : allInside (runOf ((compileOf ns ss) .traversal) ∷ outerOf ((compileOf ns ss) .traversal)) ((compileOf ns ss) .traversal .total) base len ≡ false
           → rangeOf ns ss base start end len ≡ record { code = 7; traversal = emptyLayout }
       unfolding rangeCode rangeRefusals firstOf accepted totalIn
       range-7 e = range-at 7 (c .after (rangeRefusals ns ss base start end len) ∙ rw (lt-leb end start h, le-ltb ((compileOf ns ss) .traversal .total) end k, tested false e))
 
-      pub range-0 : allWithin (runOf ((compileOf ns ss) .traversal) ∷ outerOf ((compileOf ns ss) .traversal)) ((compileOf ns ss) .traversal .total) base len ≡ true
+      pub range-0 : allInside (runOf ((compileOf ns ss) .traversal) ∷ outerOf ((compileOf ns ss) .traversal)) ((compileOf ns ss) .traversal .total) base len ≡ true
           → rangeOf ns ss base start end len ≡ record { code = 0; traversal = (compileOf ns ss) .traversal }
       unfolding rangeCode rangeRefusals firstOf accepted totalIn
       range-0 e = range-at 0 (c .after (rangeRefusals ns ss base start end len) ∙ rw (lt-leb end start h, le-ltb ((compileOf ns ss) .traversal .total) end k, tested true e))
@@ -127,7 +128,7 @@ pub record Ranged (ns : List ℕ) (ss : List ℤ) (base : ℤ) (start end len : 
   pub clears : Clear ns ss
   pub forward : start < end
   pub inside : end ≤ (compileOf ns ss) .traversal .total
-  pub within : allWithin (axesOf ns ss) ((compileOf ns ss) .traversal .total) base len ≡ true
+  pub within : allInside (axesOf ns ss) ((compileOf ns ss) .traversal .total) base len ≡ true
   pub after : (rs : List Refusal) → firstOf (compileRefusals ns ss ++ rangeRefusals ns ss base start end len ++ rs) ≡ firstOf rs
 
 module _ (ns : List ℕ) (ss : List ℤ) (base : ℤ) (start end len : ℕ) where
@@ -154,17 +155,17 @@ module _ (ns : List ℕ) (ss : List ℤ) (base : ℤ) (start end len : ℕ) wher
   ranged e =
       let c = cleared e in
       let t = (compileOf ns ss) .traversal .total in
-      let r7 : List Refusal = (7, not (allWithin (axesOf ns ss) t base len)) ∷ [] in
+      let r7 : List Refusal = (7, not (allInside (axesOf ns ss) t base len)) ∷ [] in
       let r6 : List Refusal = (6, ltb t end) ∷ r7 in
       let f : firstOf ((5, leb end start) ∷ r6) ≡ 0 = sym (c .after (rangeRefusals ns ss base start end len)) ∙ e in
       let a = refused-none 4 (leb end start) r6 f in
       let b = refused-none 5 (ltb t end) r7 (a .1) in
-      let d = refused-none 6 (not (allWithin (axesOf ns ss) t base len)) [] (b .1) in
+      let d = refused-none 6 (not (allInside (axesOf ns ss) t base len)) [] (b .1) in
       record {
         clears = c;
         forward = leb-false end start (a .0);
         inside = ltb-false t end (b .0);
-        within = not-false (allWithin (axesOf ns ss) t base len) (d .0);
+        within = not-false (allInside (axesOf ns ss) t base len) (d .0);
         after = λ rs. ap firstOf (append-assoc (compileRefusals ns ss) (rangeRefusals ns ss base start end len) rs) ∙ c .after (rangeRefusals ns ss base start end len ++ rs) ∙ rw (a .0, b .0, d .0);
       }
 
@@ -173,7 +174,7 @@ module _ (ns : List ℕ) (ss : List ℤ) (base : ℤ) (start end len : ℕ) wher
     ranged-accepted = clear-accepted ns ss (r .clears) (omega (arith, r .forward, r .inside))
 
     -- the test of refusal 7, over the compiled axes
-    pub ranged-within : allWithin (runOf ((compileOf ns ss) .traversal) ∷ outerOf ((compileOf ns ss) .traversal)) ((compileOf ns ss) .traversal .total) base len ≡ true
+    pub ranged-within : allInside (runOf ((compileOf ns ss) .traversal) ∷ outerOf ((compileOf ns ss) .traversal)) ((compileOf ns ss) .traversal .total) base len ≡ true
     ranged-within = within-same (axesOf ns ss) _ _ base len (ranged-accepted .same) ∙ r .within
 
     pub ranged-bounded : Bounded (runOf ((compileOf ns ss) .traversal) ∷ outerOf ((compileOf ns ss) .traversal)) base
@@ -181,7 +182,7 @@ module _ (ns : List ℕ) (ss : List ℤ) (base : ℤ) (start end len : ℕ) wher
         let a = ranged-accepted in
         let xs = runOf ((compileOf ns ss) .traversal) ∷ outerOf ((compileOf ns ss) .traversal) in
         ends-bounded xs (a .traversal .axes) base len
-        (sym (ends-exact xs (a .traversal .axes) base len) ∙ ap (λ (n : ℕ). allWithin xs n base len) (a .traversal .total) ∙ ranged-within)
+        (sym (ends-exact xs (a .traversal .axes) base len) ∙ ap (λ (n : ℕ). allInside xs n base len) (a .traversal .total) ∙ ranged-within)
 
     -- refusal 4 does not apply
     pub ranged-few : (compileOf ns ss) .traversal .total ≤ 2 ^ 40

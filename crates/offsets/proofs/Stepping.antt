@@ -22,8 +22,9 @@ use Rattle.layout.specs.declared.axis.ReduceOuterAxis.{ReduceOuterAxis}
 use Rattle.layout.specs.Axes.{PLACES, noAxis, span, axisOf}
 use Rattle.layout.proofs.Resets.{reset-large}
 use Rattle.offsets.specs.declared.cursor.ReduceOuterCursor.{ReduceOuterCursor}
-use Rattle.offsets.specs.Elements.{digits, shift, offset, below, above, lowSum, highSum, lowest, highest}
-use Rattle.offsets.specs.Cursors.{cursorAt, nextDigits, nextOffset, advanced, Axis, Axes, Bounded, Stands}
+use Rattle.offsets.specs.Elements.{digits, shift, offset}
+use Rattle.offsets.specs.InnerBounds.{negativePart, positivePart, lowSum, highSum, lowestOffset, highestOffset}
+use Rattle.offsets.specs.InnerCursors.{cursorAt, nextDigits, nextOffset, advanced, Axis, Axes, Bounded, AtElement}
 use Rattle.offsets.proofs.Ends.{below-zero, zero-above, low-zero, zero-high, share-low, share-high, offset-low, offset-high}
 
 -- ---- the digits of k + 1
@@ -146,11 +147,11 @@ advance-next xs base k w =
 
 -- ---- bounds go along
 bounded-in : (a : ReduceOuterAxis) (xs : List ReduceOuterAxis) (o : ℤ) (d : ℕ) → d < a .extent → Bounded (a ∷ xs) o → Bounded xs (o +ℤ a .«source_step» *ℤ pos d)
-unfolding lowest highest lowSum highSum
+unfolding lowestOffset highestOffset lowSum highSum
 bounded-in a xs o d h b =
     record {
-      low = low o (below (span (a .extent) (a .«source_step»))) (lowSum xs) (a .«source_step» *ℤ pos d) (b .low) (share-low (a .extent) (a .«source_step») d h);
-      high = high o (above (span (a .extent) (a .«source_step»))) (highSum xs) (a .«source_step» *ℤ pos d) (b .high) (share-high (a .extent) (a .«source_step») d h);
+      low = low o (negativePart (span (a .extent) (a .«source_step»))) (lowSum xs) (a .«source_step» *ℤ pos d) (b .low) (share-low (a .extent) (a .«source_step») d h);
+      high = high o (positivePart (span (a .extent) (a .«source_step»))) (highSum xs) (a .«source_step» *ℤ pos d) (b .high) (share-high (a .extent) (a .«source_step») d h);
     }
   where
     low : (o p q r : ℤ) → pos 0 ≤ℤ (o +ℤ (p +ℤ q)) → p ≤ℤ r → pos 0 ≤ℤ ((o +ℤ r) +ℤ q)
@@ -160,11 +161,11 @@ bounded-in a xs o d h b =
     high o p q r = simp ints (simp atoms (omega arith))
 
 pub bounded-after : (a : ReduceOuterAxis) (xs : List ReduceOuterAxis) (o : ℤ) → Bounded (a ∷ xs) o → Bounded xs o
-unfolding lowest highest lowSum highSum
+unfolding lowestOffset highestOffset lowSum highSum
 bounded-after a xs o b =
     record {
-      low = low o (below (span (a .extent) (a .«source_step»))) (lowSum xs) (b .low) (below-zero (span (a .extent) (a .«source_step»)));
-      high = high o (above (span (a .extent) (a .«source_step»))) (highSum xs) (b .high) (zero-above (span (a .extent) (a .«source_step»)));
+      low = low o (negativePart (span (a .extent) (a .«source_step»))) (lowSum xs) (b .low) (below-zero (span (a .extent) (a .«source_step»)));
+      high = high o (positivePart (span (a .extent) (a .«source_step»))) (highSum xs) (b .high) (zero-above (span (a .extent) (a .«source_step»)));
     }
   where
     low : (o p q : ℤ) → pos 0 ≤ℤ (o +ℤ (p +ℤ q)) → p ≤ℤ pos 0 → pos 0 ≤ℤ (o +ℤ q)
@@ -179,7 +180,7 @@ pub record Small (z : ℤ) : Type 0 where
   pub most : z <ℤ pos (2 ^ 63)
 
 pub bounded-base : (xs : List ReduceOuterAxis) (o : ℤ) → Bounded xs o → Small o
-unfolding lowest highest
+unfolding lowestOffset highestOffset
 bounded-base xs o b = record { least = least o (lowSum xs) (b .low) (low-zero xs); most = most o (highSum xs) (b .high) (zero-high xs) }
   where
     least : (o p : ℤ) → pos 0 ≤ℤ (o +ℤ p) → p ≤ℤ pos 0 → pos 0 ≤ℤ o
@@ -191,8 +192,8 @@ bounded-base xs o b = record { least = least o (lowSum xs) (b .low) (low-zero xs
 pub bounded-offset : (xs : List ReduceOuterAxis) (o : ℤ) (k : ℕ) → Axes xs → Bounded xs o → Small (offset xs o k)
 bounded-offset xs o k w b =
     record {
-      least = least (lowest xs o) (offset xs o k) (b .low) (offset-low xs w o k);
-      most = most (highest xs o) (offset xs o k) (b .high) (offset-high xs w o k);
+      least = least (lowestOffset xs o) (offset xs o k) (b .low) (offset-low xs w o k);
+      most = most (highestOffset xs o) (offset xs o k) (b .high) (offset-high xs w o k);
     }
   where
     least : (p z : ℤ) → pos 0 ≤ℤ p → p ≤ℤ z → pos 0 ≤ℤ z
@@ -353,7 +354,7 @@ pub record Advancing (xs : List ReduceOuterAxis) (b c : ReduceOuterCursor) (i : 
   pub lies : c .«source_offset» ≡ offset (drop i xs) base index
   pub digit : drop i (b .digits) ≡ digits (drop i xs) index ++ past
 
-pub advancing-none : (xs : List ReduceOuterAxis) (b : ReduceOuterCursor) → Stands xs b → Advancing xs b b 0
+pub advancing-none : (xs : List ReduceOuterAxis) (b : ReduceOuterCursor) → AtElement xs b → Advancing xs b b 0
 unfolding cursorAt
 advancing-none xs b s =
     record {

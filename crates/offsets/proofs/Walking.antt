@@ -16,11 +16,11 @@ use Rattle.layout.specs.Axes.{axisOf}
 use Rattle.offsets.specs.declared.cursor.ReduceOuterCursor.{ReduceOuterCursor}
 use Rattle.offsets.specs.Elements.{offset}
 use Rattle.layout.specs.declared.traversal.FullTraversal.{FullTraversal}
-use Rattle.offsets.specs.Cursors.{Axis, Axes, Bounded, Stands, cursorAt, advanced}
-use Rattle.offsets.specs.Traversals.{runOf, outerOf, Traversal}
+use Rattle.offsets.specs.InnerCursors.{Axis, Axes, Bounded, AtElement, cursorAt, advanced, Traversal}
+use Rattle.offsets.specs.Pieces.{runOf, outerOf, pieceLength}
 use Rattle.offsets.specs.declared.pieces.RangeCursor.{RangeCursor}
 use Rattle.offsets.specs.declared.pieces.RangePiece.{RangePiece}
-use Rattle.offsets.specs.Pieces.{pieceLength, rangeAt, pieceOf, OnRange}
+use Rattle.offsets.specs.InnerPieces.{rangeAt, pieceOf, OnRange}
 use Rattle.offsets.proofs.Stepping.{offset-cons, offset-moved, axis-small, axes-at, bounded-after, bounded-offset, Small, advance-next}
 
 -- ---- along a run
@@ -75,7 +75,7 @@ module _ (l : FullTraversal) (t : Traversal l) (base : ℤ) (b : Bounded (runOf 
   pub first-small : Small (offset (outerOf l) base (k / l .«run_len») +ℤ l .«run_stride» *ℤ pos (k % l .«run_len»))
   first-small = rw first-is (bounded-offset (runOf l ∷ outerOf l) base k (t .axes) b)
 
-  pub run-stands : Stands (outerOf l) (cursorAt (outerOf l) base (k / l .«run_len»))
+  pub run-stands : AtElement (outerOf l) (cursorAt (outerOf l) base (k / l .«run_len»))
   unfolding outerOf
   run-stands =
       record { base = base; index = k / l .«run_len»; axes = outer-axes; few = simp length-take (omega (arith, t .few)); bounded = outer-bounded; at = refl }
@@ -149,8 +149,8 @@ module _ (l : FullTraversal) (t : Traversal l) (c : RangeCursor) (o : OnRange l 
   pub on-first : Small (c .runs .«source_offset» +ℤ l .«run_stride» *ℤ pos (c .col))
   on-first = rw from-is (rw col-is (first-small l t (o .base) (o .bounded) (c .at)))
 
-  pub on-stands : Stands (outerOf l) (c .runs)
-  on-stands = subst (Stands (outerOf l)) (sym runs-are) (run-stands l t (o .base) (o .bounded) (c .at))
+  pub on-stands : AtElement (outerOf l) (c .runs)
+  on-stands = subst (AtElement (outerOf l)) (sym runs-are) (run-stands l t (o .base) (o .bounded) (c .at))
 
 -- ---- the piece p at a cursor c, for the loops over a range
 pub record PieceHere (l : FullTraversal) (base : ℤ) (end : ℕ) (c : RangeCursor) (p : RangePiece) : Type 0 where

@@ -13,16 +13,17 @@ use lib.IntN.{ℤ, pos, _+ℤ_, _*ℤ_}
 use Rattle.integers.proofs.Difference.{ints, atoms}
 use Rattle.layout.specs.declared.axis.ReduceOuterAxis.{ReduceOuterAxis}
 use Rattle.offsets.specs.Elements.{offset}
-use Rattle.offsets.specs.Lists.{steps, offsetsFrom}
+use Rattle.offsets.specs.InnerLists.{steps}
+use Rattle.offsets.specs.Lists.{offsetsFrom}
 use Rattle.layout.specs.Axes.{axisOf}
-use Rattle.offsets.specs.Cursors.{Bounded}
+use Rattle.offsets.specs.InnerCursors.{Bounded, Traversal}
 use mir.Val.{SFits}
 use mir.Syntax.{w64}
 use Rattle.layout.specs.declared.traversal.FullTraversal.{FullTraversal}
 use Rattle.offsets.specs.declared.pieces.RangeCursor.{RangeCursor}
 use Rattle.offsets.specs.declared.pieces.RangePiece.{RangePiece}
-use Rattle.offsets.specs.Traversals.{runOf, outerOf, Traversal}
-use Rattle.offsets.specs.Pieces.{rangeAt, pieceOf}
+use Rattle.offsets.specs.Pieces.{runOf, outerOf}
+use Rattle.offsets.specs.InnerPieces.{rangeAt, pieceOf}
 use Rattle.offsets.proofs.Stepping.{small-fits, bounded-offset}
 use Rattle.offsets.proofs.Walking.{split, along, some, PieceHere, piece-here}
 

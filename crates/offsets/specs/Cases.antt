@@ -1,10 +1,10 @@
 -- The layout cases that document 01 marks with *, as one table. Each row computes to true.
 use Prim.Native.Nat.{ℕ, _^_, _+_}
 use mathlib.Core.Bool.{Bool, true, false, _&&_}
-use mathlib.Core.List.{List, [], _∷_, _++_}
+use mathlib.Core.List.{List, [], _∷_}
 use lib.Dec.{eqb}
 use lib.IntN.{ℤ, pos, negsuc}
-use Rattle.integers.specs.Checked.{eqZ}
+use Rattle.integers.specs.Integers.{eqZ}
 use Rattle.layout.specs.Compile.{compileOf}
 use Rattle.offsets.specs.Lists.{listCode, listBuffer}
 

@@ -1,7 +1,8 @@
 pub mod Elements
-pub mod Cursors
-pub mod Traversals
-pub mod Bounds
-pub mod Pieces
 pub mod Lists
 pub mod Cases
+pub mod Pieces
+pub mod InnerBounds
+pub mod InnerCursors
+pub mod InnerLists
+pub mod InnerPieces

@@ -1,37 +1,17 @@
 -- A range cut into pieces before each element number that is a multiple of the run length (document 01, "Accumulator").
-use Prim.Native.Nat.{ℕ, _+_, _-_, _/_, _%_, min}
-use mathlib.Core.Path.{_≡_}
-use mathlib.Core.Bool.{Bool, cond}
-use mathlib.Core.List.{List, _∷_}
-use lib.Dec.{ltb}
-use lib.IntN.{ℤ, pos, _+ℤ_, _*ℤ_}
+use Prim.Native.Nat.{ℕ, _-_, _%_, min}
+use mathlib.Core.List.{List}
+use lib.ListN.{take}
 use Rattle.layout.specs.declared.traversal.FullTraversal.{FullTraversal}
-use Rattle.offsets.specs.declared.cursor.ReduceOuterCursor.{ReduceOuterCursor}
-use Rattle.offsets.specs.declared.pieces.RangeCursor.{RangeCursor}
-use Rattle.offsets.specs.declared.pieces.RangePiece.{RangePiece}
-use Rattle.offsets.specs.Cursors.{Bounded, cursorAt, advanced}
-use Rattle.offsets.specs.Traversals.{runOf, outerOf}
+use Rattle.layout.specs.declared.axis.ReduceOuterAxis.{ReduceOuterAxis}
+use Rattle.layout.specs.Axes.{axisOf}
 
 -- how many elements the piece at element k has: to the end of its run, or to the end of the range
 abbrev pub pieceLength : ℕ → ℕ → ℕ → ℕ
 pieceLength n end k = min (n - k % n) (end - k)
 
--- the cursor at element k
-unfoldable pub rangeAt : FullTraversal → ℤ → ℕ → RangeCursor
-rangeAt l base k = record { at = k; col = k % l .«run_len»; runs = cursorAt (outerOf l) base (k / l .«run_len») }
+unfoldable pub runOf : FullTraversal → ReduceOuterAxis
+runOf l = axisOf (l .«run_len») (l .«run_stride»)
 
--- the piece at a cursor, as the code makes it
-unfoldable pub pieceOf : FullTraversal → ℕ → RangeCursor → RangePiece
-pieceOf l end c =
-    let len = min (l .«run_len» - c .col) (end - c .at) in
-    record {
-      first = c .runs .«source_offset» +ℤ l .«run_stride» *ℤ pos (c .col);
-      len = len;
-      next = record { at = c .at + len; col = 0; runs = cond (ltb (c .at + len) end) (advanced (outerOf l) (c .runs)) (c .runs) };
-    }
-
--- a cursor at some element of a layout that lies in 0 to 2^63 - 1
-pub record OnRange (l : FullTraversal) (c : RangeCursor) : Type 0 where
-  pub base : ℤ
-  pub bounded : Bounded (runOf l ∷ outerOf l) base
-  pub stands : c ≡ rangeAt l base (c .at)
+unfoldable pub outerOf : FullTraversal → List ReduceOuterAxis
+outerOf l = take (l .«axis_count») (l .«run_axes»)

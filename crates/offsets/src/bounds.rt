@@ -2,9 +2,10 @@
 ghost use mathlib.Core.Path.{_≡_};
 ghost use mathlib.Core.List.{_∷_};
 ghost use Prim.Native.Nat.{_≤_, _<_, _^_};
-ghost use Rattle.offsets.specs.Elements.{allWithin};
-ghost use Rattle.offsets.specs.Bounds.{nowhere, widened, stayWithin};
-ghost use Rattle.offsets.specs.Traversals.{runOf, outerOf, Traversal};
+ghost use Rattle.offsets.specs.Elements.{allInside};
+ghost use Rattle.offsets.specs.InnerBounds.{nowhere, widened, stayInside};
+ghost use Rattle.offsets.specs.Pieces.{runOf, outerOf};
+ghost use Rattle.offsets.specs.InnerCursors.{Traversal};
 use layout::traversal::FullTraversal;
 
 // The smallest and the largest offset so far, while both are inside.
@@ -52,7 +53,7 @@ fn widen(s: Span, reset: i64, last: u64) -> Span
 
 fn inside_from(l: FullTraversal, base: u64, last: u64) -> bool
     requires { ⌜ Traversal l × (base ≤ last) × (last < 2 ^ 63) ⌝ }
-    ensures { λ r. ⌜ r ≡ stayWithin (runOf l ∷ outerOf l) base base last ⌝ }
+    ensures { λ r. ⌜ r ≡ stayInside (runOf l ∷ outerOf l) base base last ⌝ }
 {
     let reset = layout::axis::checked_reduce_reset(l.run_len, l.run_stride);
     let first = Span {
@@ -80,7 +81,7 @@ fn inside_from(l: FullTraversal, base: u64, last: u64) -> bool
 // Whether every element lies from 0 on, before 2^63 and inside the length.
 pub fn inside(l: FullTraversal, base: i64, length: u64) -> bool
     requires { ⌜ Traversal l ⌝ }
-    ensures { λ r. ⌜ r ≡ allWithin (runOf l ∷ outerOf l) (l .total) base length ⌝ }
+    ensures { λ r. ⌜ r ≡ allInside (runOf l ∷ outerOf l) (l .total) base length ⌝ }
 {
     if base < 0 {
         return false;

@@ -3,7 +3,7 @@ ghost use mathlib.Core.Path.{_≡_};
 ghost use Prim.Native.Nat.{_≤_};
 ghost use lib.ListN.{length, take};
 ghost use Rattle.layout.specs.Axes.{PLACES};
-ghost use Rattle.offsets.specs.Cursors.{Axes, Bounded, Stands, cursorAt, advanced};
+ghost use Rattle.offsets.specs.InnerCursors.{Axes, Bounded, AtElement, cursorAt, advanced};
 use layout::axis::PLACES;
 use layout::axis::ReduceOuterAxis;
 
@@ -36,7 +36,7 @@ impl ReduceOuterCursor {
 
     // To the next run: a step, or a reset with carry to the next axis.
     pub fn advance(self, count: usize, axes: [ReduceOuterAxis; PLACES]) -> Self
-        requires { ⌜ (length axes ≡ PLACES) × (count ≤ PLACES) × Stands (take count axes) self ⌝ }
+        requires { ⌜ (length axes ≡ PLACES) × (count ≤ PLACES) × AtElement (take count axes) self ⌝ }
         ensures { λ r. ⌜ r ≡ advanced (take count axes) self ⌝ }
     {
         let mut c = self;

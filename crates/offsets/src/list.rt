@@ -6,9 +6,10 @@ ghost use lib.ListN.{length, take, drop};
 ghost use lib.IntN.{pos, _+ℤ_, _*ℤ_};
 ghost use mir.Val.{SFits};
 ghost use mir.Syntax.{w64};
-ghost use Rattle.offsets.specs.Cursors.{Bounded};
-ghost use Rattle.offsets.specs.Traversals.{runOf, outerOf, Traversal};
-ghost use Rattle.offsets.specs.Lists.{rangeOf, steps, offsetsFrom, listCode, listBuffer};
+ghost use Rattle.offsets.specs.InnerCursors.{Bounded, Traversal};
+ghost use Rattle.offsets.specs.Pieces.{runOf, outerOf};
+ghost use Rattle.offsets.specs.InnerLists.{rangeOf, steps};
+ghost use Rattle.offsets.specs.Lists.{offsetsFrom, listCode, listBuffer};
 use layout::traversal::Compiled;
 use layout::traversal::FullTraversal;
 

@@ -2,9 +2,9 @@
 ghost use mathlib.Core.Path.{_≡_};
 ghost use mathlib.Core.List.{_∷_};
 ghost use Prim.Native.Nat.{_<_, min};
-ghost use Rattle.offsets.specs.Cursors.{Bounded};
-ghost use Rattle.offsets.specs.Traversals.{runOf, outerOf, Traversal};
-ghost use Rattle.offsets.specs.Pieces.{rangeAt, pieceOf, OnRange};
+ghost use Rattle.offsets.specs.InnerCursors.{Bounded, Traversal};
+ghost use Rattle.offsets.specs.Pieces.{runOf, outerOf};
+ghost use Rattle.offsets.specs.InnerPieces.{rangeAt, pieceOf, OnRange};
 use crate::cursor::ReduceOuterCursor;
 use layout::traversal::FullTraversal;
 

@@ -3,20 +3,20 @@ use Prim.Native.Nat.{ℕ}
 use mathlib.Core.Bool.{Bool}
 use lib.IntN.{ℤ}
 use lib.Ieee.{Float}
-use Rattle.accumulator.specs.Joining.{Told, accumulator, refusal}
+use Rattle.accumulator.specs.Joining.{Answer, accumulator, refusal}
 
-unfoldable pub codeIn : Told → ℕ
-codeIn (accumulator m e bad) = 0
-codeIn (refusal n) = n
+unfoldable pub codeGiven : Answer → ℕ
+codeGiven (accumulator m e bad) = 0
+codeGiven (refusal n) = n
 
-unfoldable pub mIn : Float → Told → Float
-mIn before (accumulator m e bad) = m
-mIn before (refusal n) = before
+unfoldable pub mGiven : Float → Answer → Float
+mGiven before (accumulator m e bad) = m
+mGiven before (refusal n) = before
 
-unfoldable pub eIn : ℤ → Told → ℤ
-eIn before (accumulator m e bad) = e
-eIn before (refusal n) = before
+unfoldable pub eGiven : ℤ → Answer → ℤ
+eGiven before (accumulator m e bad) = e
+eGiven before (refusal n) = before
 
-unfoldable pub badIn : Bool → Told → Bool
-badIn before (accumulator m e bad) = bad
-badIn before (refusal n) = before
+unfoldable pub badGiven : Bool → Answer → Bool
+badGiven before (accumulator m e bad) = bad
+badGiven before (refusal n) = before

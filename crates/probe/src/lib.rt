@@ -2,7 +2,7 @@
 ghost use mathlib.Core.Path.{_≡_};
 ghost use Rattle.offsets.specs.Lists.{listCode, listBuffer};
 ghost use Rattle.reduction.specs.Ranges.{reduceOf};
-ghost use Rattle.probe.specs.Answers.{codeIn, mIn, eIn, badIn};
+ghost use Rattle.probe.specs.Answers.{codeGiven, mGiven, eGiven, badGiven};
 use accumulator::Reduced;
 
 // 0 with the accumulator in m, e and bad, or the number of a refusal with nothing written.
@@ -18,10 +18,10 @@ pub extern "C" fn probe_reduce(
     e: &mut i64,
     bad: &mut bool,
 ) -> u32
-    ensures { λ r. ⌜ r ≡ codeIn (reduceOf (now (sizes .entry)) (now (strides .entry)) base start end (now (values .entry))) ⌝ }
-    ensures { λ _. ⌜ now (m .exit) ≡ mIn (now (m .entry)) (reduceOf (now (sizes .entry)) (now (strides .entry)) base start end (now (values .entry))) ⌝ }
-    ensures { λ _. ⌜ now (e .exit) ≡ eIn (now (e .entry)) (reduceOf (now (sizes .entry)) (now (strides .entry)) base start end (now (values .entry))) ⌝ }
-    ensures { λ _. ⌜ now (bad .exit) ≡ badIn (now (bad .entry)) (reduceOf (now (sizes .entry)) (now (strides .entry)) base start end (now (values .entry))) ⌝ }
+    ensures { λ r. ⌜ r ≡ codeGiven (reduceOf (now (sizes .entry)) (now (strides .entry)) base start end (now (values .entry))) ⌝ }
+    ensures { λ _. ⌜ now (m .exit) ≡ mGiven (now (m .entry)) (reduceOf (now (sizes .entry)) (now (strides .entry)) base start end (now (values .entry))) ⌝ }
+    ensures { λ _. ⌜ now (e .exit) ≡ eGiven (now (e .entry)) (reduceOf (now (sizes .entry)) (now (strides .entry)) base start end (now (values .entry))) ⌝ }
+    ensures { λ _. ⌜ now (bad .exit) ≡ badGiven (now (bad .entry)) (reduceOf (now (sizes .entry)) (now (strides .entry)) base start end (now (values .entry))) ⌝ }
 {
     let answer = reduction::full::reduce(sizes, strides, base, start, end, values);
     match answer {

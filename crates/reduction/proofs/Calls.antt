@@ -12,7 +12,7 @@ use borrow.Author.Tests.{eq-eqb, ne-eqb}
 use Rattle.accumulator.specs.declared.StableProductFloatAcc.{StableProductFloatAcc}
 use Rattle.accumulator.specs.declared.Reduced.{Reduced}
 use Rattle.accumulator.specs.declared.Reduced.the-variants.{Acc, Refused}
-use Rattle.accumulator.specs.Joining.{Told, told, accumulator, refusal}
+use Rattle.accumulator.specs.Joining.{Answer, answerOf, accumulator, refusal}
 use Rattle.offsets.specs.Lists.{rangeCode}
 use Rattle.reduction.specs.Ranges.{rangeProduct, reduceOf}
 
@@ -20,13 +20,13 @@ module _ (ns : List ℕ) (ss : List ℤ) (base : ℤ) (start end : ℕ) (values 
   abbrev code : ℕ
   code = rangeCode ns ss base start end (length values)
 
-  abbrev by-test : Bool → Told
-  by-test b = cond b (told (Acc (rangeProduct ns ss base start end values))) (refusal code)
+  abbrev by-test : Bool → Answer
+  by-test b = cond b (answerOf (Acc (rangeProduct ns ss base start end values))) (refusal code)
 
   pub reduce-refused : (code ≡ 0 → ⊥) → reduceOf ns ss base start end values ≡ refusal code
   unfolding reduceOf
   reduce-refused n = ap by-test (ne-eqb code 0 n)
 
-  pub reduce-accepted : code ≡ 0 → reduceOf ns ss base start end values ≡ told (Acc (rangeProduct ns ss base start end values))
+  pub reduce-accepted : code ≡ 0 → reduceOf ns ss base start end values ≡ answerOf (Acc (rangeProduct ns ss base start end values))
   unfolding reduceOf
   reduce-accepted e = ap by-test (eq-eqb code 0 e)

@@ -3,21 +3,21 @@
 use mathlib.Core.Path.{_≡_, refl, _∙_, ap}
 use mathlib.Core.Bool.{Bool, true, _&&_}
 use lib.Ieee.{size, odd, toBits, isNan}
-use Rattle.integers.specs.Checked.{fitsI64, eqZ}
+use Rattle.integers.specs.Integers.{fitsI64, eqZ}
 use Rattle.layout.specs.Axes.{span, axisOf, resetFits, placesOf}
-use Rattle.layout.specs.Order.{kept, rank, precedes, insertAxis, orderFrom, axesOf, resetsFit}
+use Rattle.layout.specs.Order.{keptAxes, rank, precedes, insertAxis, orderFrom, axesOf, resetsFit}
 use Rattle.layout.specs.Fuse.{reach, joinOf, fuseFrom, fuse}
 use Rattle.layout.specs.Compile.{totalFrom, totalOf, fusedOf, layoutOf, emptyLayout, traversalAt, traversalOf, firstOf, overflows, aboveMost, compileRefusals, accepted, compileOf}
-use Rattle.offsets.specs.Elements.{digits, shift, offset, within, every, allWithin}
-use Rattle.offsets.specs.Traversals.{runOf, outerOf}
+use Rattle.offsets.specs.Elements.{digits, shift, offset, insideValues, everyBelow, allInside}
+use Rattle.offsets.specs.Pieces.{runOf, outerOf}
 use Rattle.offsets.specs.Lists.{totalIn, rangeRefusals, rangeCode, offsetsFrom}
 use Rattle.offsets.specs.Cases.{layoutTable}
 use Rattle.offsets.proofs.Cases.{layout-table}
-use Rattle.binary64.specs.Rounding.{delivered, rounded}
-use Rattle.binary64.specs.Product.{product}
-use Rattle.binary64.specs.Fields.{ofParts, valueOf, badBits}
-use Rattle.binary64.specs.Magnitude.{twoOrMore}
-use Rattle.binary64.specs.Splitting.{isBad, split}
+use Rattle.floats.specs.Rounding.{delivered, rounded}
+use Rattle.floats.specs.Product.{product}
+use Rattle.floats.specs.Fields.{ofParts, valueOf, badBits}
+use Rattle.floats.specs.Magnitude.{twoOrMore}
+use Rattle.floats.specs.Splitting.{isBad, split}
 use Rattle.accumulator.specs.Joining.{multiplied, combined}
 use Rattle.kernels.specs.Lanes as lanes
 use Rattle.kernels.specs.Stepped.{rateAcc, laneJoined, steppedLanes, lanesJoined, stepped}
@@ -29,7 +29,7 @@ use Rattle.reduction.specs.Ranges.{piecesFrom, reduceOf}
 use Rattle.reduction.specs.Cases.{tells, reduces, productTable, caseTable}
 
 product-table : productTable ≡ true
-unfolding fitsI64 eqZ span axisOf resetFits placesOf kept rank precedes insertAxis orderFrom axesOf resetsFit reach joinOf fuseFrom fuse totalFrom totalOf fusedOf layoutOf emptyLayout traversalAt traversalOf firstOf overflows aboveMost compileRefusals accepted compileOf digits shift offset within every allWithin totalIn rangeRefusals rangeCode offsetsFrom runOf outerOf piecesFrom reduceOf joinedPieces blocks.contiguous blocks.blocks blocks.block blocks.unsplit blocks.renorm blocks.renormLane lanes.inOrder lanes.feed blocks.splitStep blocks.unsplitStep blocks.within lanes.every lanes.some blocks.laneIn blocks.lanesIn split toBits valueOf ofParts delivered isBad badBits product rounded size odd isNan stepped steppedLanes lanesJoined laneJoined rateAcc combined multiplied twoOrMore sameFloat tells reduces productTable
+unfolding fitsI64 eqZ span axisOf resetFits placesOf keptAxes rank precedes insertAxis orderFrom axesOf resetsFit reach joinOf fuseFrom fuse totalFrom totalOf fusedOf layoutOf emptyLayout traversalAt traversalOf firstOf overflows aboveMost compileRefusals accepted compileOf digits shift offset insideValues everyBelow allInside totalIn rangeRefusals rangeCode offsetsFrom runOf outerOf piecesFrom reduceOf joinedPieces blocks.contiguous blocks.blocks blocks.block blocks.unsplit blocks.renorm blocks.renormLane lanes.inOrder lanes.feed blocks.splitStep blocks.unsplitStep blocks.inRange lanes.every lanes.some blocks.laneIn blocks.lanesIn split toBits valueOf ofParts delivered isBad badBits product rounded size odd isNan stepped steppedLanes lanesJoined laneJoined rateAcc combined multiplied twoOrMore sameFloat tells reduces productTable
 product-table = refl
 
 pub case-table : caseTable ≡ true

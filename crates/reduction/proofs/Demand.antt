@@ -12,17 +12,16 @@ use lib.IntN.{ℤ, natAbs}
 use lib.Ieee.{Float, nan, binary64, fits}
 use borrow.Author.Tests.{ltb-true, ltb-false, le-leb}
 use Rattle.layout.specs.declared.traversal.FullTraversal.{FullTraversal}
-use Rattle.binary64.specs.Splitting.{isBad}
-use Rattle.accumulator.specs.Joining.{withinLimit, stands}
-use Rattle.offsets.specs.Cursors.{Bounded}
-use Rattle.offsets.specs.Traversals.{runOf, outerOf, Traversal}
+use Rattle.floats.specs.Splitting.{isBad}
+use Rattle.accumulator.specs.Joining.{withinLimit, inLimits}
+use Rattle.offsets.specs.InnerCursors.{Bounded, Traversal}
+use Rattle.offsets.specs.Pieces.{runOf, outerOf, pieceLength}
 use Rattle.offsets.specs.Lists.{offsetsFrom}
-use Rattle.offsets.specs.Pieces.{pieceLength}
 use Rattle.offsets.proofs.Walking.{len-pos, len-end}
 use Rattle.offsets.proofs.Writing.{offsets-append, length-offsets}
 use Rattle.kernels.specs.Lanes.{Each, none, more, some}
 use Rattle.kernels.specs.Plain.{plainProduct}
-use Rattle.kernels.specs.Pieces.{Rate, Piece, joinedPieces, rateCount, GoodPiece, patternsOf, accOf}
+use Rattle.kernels.specs.Pieces.{GoodRate, Piece, joinedPieces, rateCount, GoodPiece, patternsOf, accOf}
 use Rattle.kernels.proofs.Feeding.{each-map, some-append, neither}
 use Rattle.kernels.proofs.Blocking.{each-rate}
 use Rattle.kernels.proofs.Bounded.{ValuePiece, FullPiece, joined-within}
@@ -148,8 +147,8 @@ module _ (l : FullTraversal) (t : Traversal l) (base : ℤ) (b : Bounded (runOf 
     range-mark = joined-mark (each-map FullPiece ValuePiece (λ p f. f .values) full) ∙ bad-visited
 
     -- 1 <= |m| < 2 and |e| <= 2^52, bad or not: the answer can be joined and finished
-    pub range-stands : stands (joinedPieces (piecesOf l base values end start)) ≡ true
-    unfolding stands
+    pub range-stands : inLimits (joinedPieces (piecesOf l base values end start)) ≡ true
+    unfolding inLimits
     range-stands =
         let r = joined-within full in
         ap (λ (x : Bool). x && withinLimit (joinedPieces (piecesOf l base values end start) .e)) (r .0 .in-unit)

@@ -15,14 +15,15 @@ use lib.Signed.{nonNeg}
 use lib.Ieee.{Float, nan}
 use borrow.Author.Tests.{lt-ltb, le-ltb, ltb-true}
 use Rattle.layout.specs.declared.traversal.FullTraversal.{FullTraversal}
-use Rattle.offsets.specs.Lists.{steps}
+use Rattle.offsets.specs.InnerLists.{steps}
 use Rattle.offsets.specs.Pieces.{pieceLength}
 use Rattle.kernels.specs.Pieces.{Piece, worked}
-use Rattle.kernels.specs.Strided.{strided, Inside}
+use Rattle.kernels.specs.InnerStrided.{strided, PlacesInside}
 use Rattle.kernels.proofs.Striding.{first-natural, length-strided}
-use Rattle.integers.specs.Checked.{eqZ}
+use Rattle.integers.specs.Integers.{eqZ}
 use Rattle.integers.proofs.Difference.{ints, atoms}
-use Rattle.kernels.specs.Blocks.{contiguous, blocks, lanesIn, startLanes, SmallLanes}
+use Rattle.kernels.specs.Blocks.{contiguous, blocks, lanesIn, startLanes}
+use Rattle.kernels.specs.InnerLanes.{SmallLanes}
 use Rattle.kernels.proofs.Bounded.{stepped-size}
 use Rattle.kernels.proofs.LaneSizes.{blocks-small, lanes-start, lanes-in-size}
 use Rattle.reduction.specs.Ranges.{valueAt, pieceAt, piecesFrom, piecesOf}

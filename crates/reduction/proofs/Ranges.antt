@@ -10,25 +10,25 @@ use lib.ListN.{length, getD}
 use lib.Dec.{T}
 use lib.IntN.{ℤ, pos, natAbs, _+ℤ_, _*ℤ_}
 use lib.Ieee.{Float, nan, binary64, fits}
-use Rattle.integers.specs.Checked.{eqZ}
+use Rattle.integers.specs.Integers.{eqZ}
 use Rattle.layout.specs.declared.traversal.FullTraversal.{FullTraversal}
 use Rattle.accumulator.specs.declared.StableProductFloatAcc.{StableProductFloatAcc}
 use Rattle.accumulator.specs.Joining.{combined}
 use Rattle.offsets.specs.declared.pieces.RangeCursor.{RangeCursor}
 use Rattle.offsets.specs.declared.pieces.RangePiece.{RangePiece}
-use Rattle.offsets.specs.Elements.{within, allWithin}
-use Rattle.offsets.specs.Cursors.{Bounded}
-use Rattle.offsets.specs.Traversals.{runOf, outerOf, Traversal}
-use Rattle.offsets.specs.Pieces.{pieceLength, rangeAt, pieceOf}
+use Rattle.offsets.specs.Elements.{insideValues, allInside}
+use Rattle.offsets.specs.InnerCursors.{Bounded, Traversal}
+use Rattle.offsets.specs.Pieces.{runOf, outerOf, pieceLength}
+use Rattle.offsets.specs.InnerPieces.{rangeAt, pieceOf}
 use Rattle.offsets.proofs.Ends.{seven-exact, within-low, within-high}
 use Rattle.offsets.proofs.Walking.{len-pos, PieceHere, piece-here}
 use Rattle.offsets.proofs.Writing.{piece-steps}
 use Rattle.kernels.specs.Pieces.{Piece, worked, workedPiece, joinedPieces}
-use Rattle.kernels.specs.Strided.{strided, Inside}
-use Rattle.kernels.specs.Stepped.{Sound}
+use Rattle.kernels.specs.InnerStrided.{strided, PlacesInside}
+use Rattle.kernels.specs.InnerStepped.{Sound}
 use Rattle.kernels.proofs.Sizes.{combined-size}
 use Rattle.kernels.proofs.Bounded.{combined-sound, worked-sound}
-use Rattle.rows.proofs.Feds.{strided-values}
+use Rattle.vectors.proofs.Feds.{strided-values}
 use Rattle.reduction.specs.Ranges.{valueAt, ratesFrom, pieceAt, piecesOf}
 use Rattle.reduction.proofs.Pieces.{pieces-none, pieces-more, strided-steps, strided-near}
 
@@ -38,20 +38,20 @@ pub record Taken (l : FullTraversal) (base : ℤ) (values : List Float) (end : �
   pub ends : c .at + p .len ≤ end
   pub next-at : p .next .at ≡ c .at + p .len
   pub next-stands : p .next .at < end → p .next ≡ rangeAt l base (p .next .at)
-  pub inside : Inside (length values) (p .first) (l .«run_stride») (p .len)
+  pub inside : PlacesInside (length values) (p .first) (l .«run_stride») (p .len)
   pub worked-is : worked (eqZ (l .«run_stride») (pos 1)) (strided values (p .first) (l .«run_stride») (p .len)) ≡ workedPiece (pieceAt l base values end (c .at))
   pub pieces : piecesOf l base values end (c .at) ≡ pieceAt l base values end (c .at) ∷ piecesOf l base values end (p .next .at)
 
 module _ (l : FullTraversal) (t : Traversal l) (base : ℤ) (b : Bounded (runOf l ∷ outerOf l) base) (values : List Float)
-    (w : allWithin (runOf l ∷ outerOf l) (l .total) base (length values) ≡ true) (end : ℕ) (few : end ≤ l .total)
+    (w : allInside (runOf l ∷ outerOf l) (l .total) base (length values) ≡ true) (end : ℕ) (few : end ≤ l .total)
     (c : RangeCursor) (e : c ≡ rangeAt l base (c .at)) (h : c .at < end) (p : RangePiece) (q : p ≡ pieceOf l end c) where
   here : PieceHere l base end c p
   here = piece-here l t base b end c e h p q
 
-  lies : (i : ℕ) → i < p .len → within (length values) (p .first +ℤ l .«run_stride» *ℤ pos i) ≡ true
+  lies : (i : ℕ) → i < p .len → insideValues (length values) (p .first +ℤ l .«run_stride» *ℤ pos i) ≡ true
   lies i k =
-      ap (within (length values)) (here .offsets i k)
-      ∙ seven-exact (runOf l ∷ outerOf l) (t .axes) base (length values) .0 (ap (λ (n : ℕ). allWithin (runOf l ∷ outerOf l) n base (length values)) (t .total) ∙ w) (c .at + i) (rw (t .total) (omega (arith, here .ends)))
+      ap (insideValues (length values)) (here .offsets i k)
+      ∙ seven-exact (runOf l ∷ outerOf l) (t .axes) base (length values) .0 (ap (λ (n : ℕ). allInside (runOf l ∷ outerOf l) n base (length values)) (t .total) ∙ w) (c .at + i) (rw (t .total) (omega (arith, here .ends)))
 
   rates-are : strided values (p .first) (l .«run_stride») (p .len) ≡ ratesFrom l base values (c .at) (pieceLength (l .«run_len») end (c .at))
   rates-are =

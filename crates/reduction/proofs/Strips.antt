@@ -14,7 +14,7 @@ use lib.Dec.{T}
 use lib.Ieee.{Float, nan, binary64, fits}
 use mir.Val.{SFits}
 use mir.Syntax.{w64}
-use Rattle.integers.specs.Checked.{eqZ}
+use Rattle.integers.specs.Integers.{eqZ}
 use Rattle.integers.proofs.Difference.{ints, atoms}
 use Rattle.layout.specs.declared.axis.ReduceOuterAxis.{ReduceOuterAxis}
 use Rattle.layout.specs.declared.traversal.FullTraversal.{FullTraversal}
@@ -23,19 +23,20 @@ use Rattle.layout.proofs.Tables.{take-from}
 use Rattle.accumulator.specs.declared.StableProductFloatAcc.{StableProductFloatAcc}
 use Rattle.accumulator.specs.Joining.{combined}
 use Rattle.offsets.specs.declared.pieces.RangeCursor.{RangeCursor}
-use Rattle.offsets.specs.Elements.{offset, allWithin}
-use Rattle.offsets.specs.Cursors.{Axis, Bounded, cursorAt}
-use Rattle.offsets.specs.Traversals.{runOf, outerOf, Traversal}
-use Rattle.offsets.specs.Pieces.{rangeAt, pieceOf}
+use Rattle.offsets.specs.Elements.{offset, allInside}
+use Rattle.offsets.specs.InnerCursors.{Axis, Bounded, cursorAt, Traversal}
+use Rattle.offsets.specs.Pieces.{runOf, outerOf}
+use Rattle.offsets.specs.InnerPieces.{rangeAt, pieceOf}
 use Rattle.offsets.proofs.Stepping.{axes-at}
 use Rattle.offsets.proofs.Walking.{along, outer-axes, piece-len}
 use Rattle.kernels.specs.Pieces.{Piece, worked, workedPiece}
-use Rattle.kernels.specs.Strided.{strided, Inside}
-use Rattle.kernels.specs.Stepped.{Sound}
+use Rattle.kernels.specs.InnerStrided.{strided, PlacesInside}
+use Rattle.kernels.specs.InnerStepped.{Sound}
 use Rattle.kernels.proofs.Sizes.{combined-size}
 use Rattle.kernels.proofs.Bounded.{combined-sound, worked-sound}
-use Rattle.rows.proofs.Feds.{strided-values}
-use Rattle.reduction.specs.Ranges.{pieceAt, piecesOf, strip}
+use Rattle.vectors.proofs.Feds.{strided-values}
+use Rattle.reduction.specs.Ranges.{pieceAt, piecesOf}
+use Rattle.reduction.specs.InnerStrips.{strip}
 use Rattle.reduction.proofs.Pieces.{strided-near}
 use Rattle.reduction.proofs.Ranges.{Taken, taken, Reducing}
 
@@ -50,7 +51,7 @@ place-later : (z s : ℤ) (j : ℕ) → (z +ℤ s) +ℤ s *ℤ pos j ≡ z +ℤ 
 place-later z s j = simp ints (simp atoms (omega arith))
 
 -- a place of a run, in i64
-pub place-fits : (size : ℕ) (z stride : ℤ) (len : ℕ) → Inside size z stride len → 1 ≤ len → size < 2 ^ 63 → SFits w64 z
+pub place-fits : (size : ℕ) (z stride : ℤ) (len : ℕ) → PlacesInside size z stride len → 1 ≤ len → size < 2 ^ 63 → SFits w64 z
 place-fits size z stride len i h m = go (i .least 0 h) (i .most 0 h) m
   where
     go : pos 0 ≤ℤ (z +ℤ stride *ℤ pos 0) → (z +ℤ stride *ℤ pos 0) <ℤ pos size → size < 2 ^ 63 → SFits w64 z
@@ -87,7 +88,7 @@ run-some l t = axes-at (runOf l) (outerOf l) (runOf l ∷ outerOf l) refl (t .ax
 
 -- ---- run q of a range
 pub record Run (l : FullTraversal) (base : ℤ) (values : List Float) (end q : ℕ) : Type 0 where
-  pub inside : Inside (length values) (offset (outerOf l) base q) (l .«run_stride») (l .«run_len»)
+  pub inside : PlacesInside (length values) (offset (outerOf l) base q) (l .«run_stride») (l .«run_len»)
   pub worked-is : worked (eqZ (l .«run_stride») (pos 1)) (strided values (offset (outerOf l) base q) (l .«run_stride») (l .«run_len»)) ≡ workedPiece (pieceAt l base values end (q * l .«run_len»))
   pub pieces : piecesOf l base values end (q * l .«run_len») ≡ pieceAt l base values end (q * l .«run_len») ∷ piecesOf l base values end ((q + 1) * l .«run_len»)
 
@@ -100,7 +101,7 @@ strip-sound values v step stride len (suc n) z acc s =
     (combined-sound acc (worked (eqZ stride (pos 1)) (strided values z stride len)) s (worked-sound (record { inBlocks = eqZ stride (pos 1); rates = strided values z stride len }) (strided-values values v z stride len)))
 
 module _ (l : FullTraversal) (t : Traversal l) (base : ℤ) (b : Bounded (runOf l ∷ outerOf l) base) (values : List Float)
-    (w : allWithin (runOf l ∷ outerOf l) (l .total) base (length values) ≡ true) (end : ℕ) (few : end ≤ l .total) where
+    (w : allInside (runOf l ∷ outerOf l) (l .total) base (length values) ≡ true) (end : ℕ) (few : end ≤ l .total) where
   module _ (q : ℕ) (h : q * l .«run_len» + l .«run_len» ≤ end) where
     run-div : q * l .«run_len» / l .«run_len» ≡ q
     run-div = ap (λ (k : ℕ). k / l .«run_len») (sym (add-zero (q * l .«run_len»))) ∙ digits-div q (run-some l t)
@@ -143,7 +144,7 @@ module _ (l : FullTraversal) (t : Traversal l) (base : ℤ) (b : Bounded (runOf 
   -- ---- n runs from q on, whose places lie a step apart
   module _ (step : ℤ) where
     pub strip-inside : (n q : ℕ) (z : ℤ) → (q + n) * l .«run_len» ≤ end → ((j : ℕ) → j < n → z +ℤ step *ℤ pos j ≡ offset (outerOf l) base (q + j))
-        → (j : ℕ) → j < n → Inside (length values) (z +ℤ step *ℤ pos j) (l .«run_stride») (l .«run_len»)
+        → (j : ℕ) → j < n → PlacesInside (length values) (z +ℤ step *ℤ pos j) (l .«run_stride») (l .«run_len»)
     strip-inside n q z h lies j k =
         let m : q + j + 1 ≤ q + n = omega arith in
         rw (lies j k) (run (q + j) (omega (arith, mul-le-mul-right (l .«run_len») m)) .inside)
@@ -192,7 +193,7 @@ runs-ahead l t at end r h some-axis some-extent z a k =
 
 -- ---- n whole runs from a cursor on
 module _ (l : FullTraversal) (t : Traversal l) (base : ℤ) (b : Bounded (runOf l ∷ outerOf l) base) (values : List Float)
-    (w : allWithin (runOf l ∷ outerOf l) (l .total) base (length values) ≡ true) (end : ℕ) (few : end ≤ l .total)
+    (w : allInside (runOf l ∷ outerOf l) (l .total) base (length values) ≡ true) (end : ℕ) (few : end ≤ l .total)
     (c : RangeCursor) (stands : c ≡ rangeAt l base (c .at)) (n : ℕ)
     (some-axis : 0 < l .«axis_count») (at-run : c .at % l .«run_len» ≡ 0) (left : c .at / l .«run_len» % firstAxis l .extent + n ≤ firstAxis l .extent) (room : c .at + n * l .«run_len» ≤ end) where
   whole : c .at ≡ c .at / l .«run_len» * l .«run_len»
@@ -208,7 +209,7 @@ module _ (l : FullTraversal) (t : Traversal l) (base : ℤ) (b : Bounded (runOf 
   lie : (j : ℕ) → j < n → c .runs .«source_offset» +ℤ firstAxis l .«source_step» *ℤ pos j ≡ offset (outerOf l) base (c .at / l .«run_len» + j)
   lie j k = ap (λ (z : ℤ). z +ℤ firstAxis l .«source_step» *ℤ pos j) from-is ∙ runs-lie l t base b some-axis (c .at / l .«run_len») n left j k
 
-  pub runs-inside : (j : ℕ) → j < n → Inside (length values) (c .runs .«source_offset» +ℤ firstAxis l .«source_step» *ℤ pos j) (l .«run_stride») (l .«run_len»)
+  pub runs-inside : (j : ℕ) → j < n → PlacesInside (length values) (c .runs .«source_offset» +ℤ firstAxis l .«source_step» *ℤ pos j) (l .«run_stride») (l .«run_len»)
   runs-inside = strip-inside l t base b values w end few (firstAxis l .«source_step») n (c .at / l .«run_len») (c .runs .«source_offset») (omega (arith, ends)) lie
 
   next-at : (d : RangeCursor) → d ≡ rangeAt l base (c .at + n * l .«run_len») → d .at ≡ c .at + n * l .«run_len»

@@ -12,12 +12,12 @@ use lib.Ieee.{Float, nan, binary64, fits}
 use Rattle.layout.specs.declared.traversal.FullTraversal.{FullTraversal}
 use Rattle.layout.specs.Order.{axesOf}
 use Rattle.layout.specs.Compile.{compileOf}
-use Rattle.binary64.specs.Magnitude.{inUnit}
-use Rattle.binary64.specs.Splitting.{isBad}
+use Rattle.floats.specs.Magnitude.{inUnit}
+use Rattle.floats.specs.Splitting.{isBad}
 use Rattle.accumulator.specs.declared.StableProductFloatAcc.{StableProductFloatAcc}
 use Rattle.accumulator.specs.declared.Reduced.{Reduced}
 use Rattle.accumulator.specs.declared.Reduced.the-variants.{Acc, Refused}
-use Rattle.accumulator.specs.Joining.{Told, told, accumulator, refusal, factorOfAcc, stands}
+use Rattle.accumulator.specs.Joining.{Answer, answerOf, accumulator, refusal, factorOfAcc, inLimits}
 use Rattle.accumulator.proofs.Answers.{stands-unit}
 use Rattle.finishing.specs.Once.{roundedOnce}
 use Rattle.finishing.specs.Finishing.{value, finishedOf}
@@ -32,23 +32,23 @@ use Rattle.reduction.proofs.Calls.{reduce-accepted}
 use Rattle.reduction.proofs.Demand.{range-rates, range-mark, range-stands, range-agrees}
 
 -- ---- an answer is known by what it tells
-abbrev told-m : Told → Float
+abbrev told-m : Answer → Float
 told-m (accumulator m e bad) = m
 told-m (refusal n) = nan
 
-abbrev told-e : ℤ → Told → ℤ
+abbrev told-e : ℤ → Answer → ℤ
 told-e d (accumulator m e bad) = e
 told-e d (refusal n) = d
 
-abbrev told-bad : Told → Bool
+abbrev told-bad : Answer → Bool
 told-bad (accumulator m e bad) = bad
 told-bad (refusal n) = false
 
-abbrev is-accumulator : Told → Bool
+abbrev is-accumulator : Answer → Bool
 is-accumulator (accumulator m e bad) = true
 is-accumulator (refusal n) = false
 
-told-acc : (r : Reduced) (a : StableProductFloatAcc) → told r ≡ told (Acc a) → r ≡ Acc a
+told-acc : (r : Reduced) (a : StableProductFloatAcc) → answerOf r ≡ answerOf (Acc a) → r ≡ Acc a
 told-acc (Refused n) a e = absurd (subst T (sym (ap is-accumulator e)) tt)
 told-acc (Acc b) a e = ap Acc (same (ap told-m e) (ap (told-e (a .e)) e) (ap told-bad e))
   where
@@ -58,7 +58,7 @@ told-acc (Acc b) a e = ap Acc (same (ap told-m e) (ap (told-e (a .e)) e) (ap tol
 -- ---- what demand 3 says of an answer `a` to the range
 pub record Demand3 (ns : List ℕ) (ss : List ℤ) (base : ℤ) (start end : ℕ) (values : List Float) (a : StableProductFloatAcc) : Type 0 where
   -- the call is accepted, and this is its answer
-  pub answer : reduceOf ns ss base start end values ≡ told (Acc a)
+  pub answer : reduceOf ns ss base start end values ≡ answerOf (Acc a)
   -- the pieces hold the visited rates, in order
   pub rates : ratesOf (piecesOf ((compileOf ns ss) .traversal) base values end start) ≡ visitedRates ns ss base start end values
   -- the mark is set exactly if a visited rate is zero, subnormal, infinite or NaN
@@ -68,8 +68,8 @@ pub record Demand3 (ns : List ℕ) (ss : List ℤ) (base : ℤ) (start end : ℕ
   -- 1 <= |m| < 2, bad or not
   pub unit : inUnit (a .m) ≡ true
   -- finishing the answer gives m × 2^e rounded once, or the NaN of a bad mark; never a refusal
-  pub once : (r : Reduced) → told r ≡ reduceOf ns ss base start end values → a .bad ≡ false → finishedOf r ≡ value (roundedOnce (factorOfAcc a))
-  pub marked : (r : Reduced) → told r ≡ reduceOf ns ss base start end values → a .bad ≡ true → finishedOf r ≡ value nan
+  pub once : (r : Reduced) → answerOf r ≡ reduceOf ns ss base start end values → a .bad ≡ false → finishedOf r ≡ value (roundedOnce (factorOfAcc a))
+  pub marked : (r : Reduced) → answerOf r ≡ reduceOf ns ss base start end values → a .bad ≡ true → finishedOf r ≡ value nan
 
 module _ (ns : List ℕ) (ss : List ℤ) (base : ℤ) (start end : ℕ) (values : List Float) (v : Each (λ (x : Float). T (fits binary64 x)) values)
     (e : rangeCode ns ss base start end (length values) ≡ 0) where

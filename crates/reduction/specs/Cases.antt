@@ -5,13 +5,13 @@ use mathlib.Core.List.{List, [], _∷_}
 use lib.ListN.{replicate}
 use lib.IntN.{ℤ, pos, negsuc}
 use lib.Ieee.{Float, fin}
-use Rattle.integers.specs.Checked.{eqZ}
-use Rattle.accumulator.specs.Joining.{Told, accumulator, refusal}
+use Rattle.integers.specs.Integers.{eqZ}
+use Rattle.accumulator.specs.Joining.{Answer, accumulator, refusal}
 use Rattle.offsets.specs.Cases.{layoutTable}
 use Rattle.finishing.specs.Cases.{sameFloat, finishingTable}
 use Rattle.reduction.specs.Ranges.{reduceOf}
 
-unfoldable pub tells : Told → Float → ℤ → Bool → Bool
+unfoldable pub tells : Answer → Float → ℤ → Bool → Bool
 tells (accumulator m e bad) n d mark = sameFloat m n && eqZ e d && Bool·beq bad mark
 tells (refusal k) n d mark = false
 

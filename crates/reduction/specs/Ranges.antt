@@ -4,19 +4,17 @@ use mathlib.Core.Bool.{cond}
 use mathlib.Core.List.{List, [], _∷_, _++_, map}
 use lib.ListN.{length, getD}
 use lib.Dec.{ltb, eqb}
-use lib.IntN.{ℤ, pos, natAbs, _+ℤ_}
+use lib.IntN.{ℤ, pos, natAbs}
 use lib.Ieee.{Float, nan}
-use Rattle.integers.specs.Checked.{eqZ}
+use Rattle.integers.specs.Integers.{eqZ}
 use Rattle.layout.specs.declared.traversal.FullTraversal.{FullTraversal}
-use Rattle.offsets.specs.Traversals.{runOf, outerOf}
+use Rattle.offsets.specs.Pieces.{runOf, outerOf, pieceLength}
 use Rattle.layout.specs.Order.{axesOf}
 use Rattle.layout.specs.Compile.{compileOf}
 use Rattle.offsets.specs.Lists.{offsetsFrom, rangeCode}
-use Rattle.offsets.specs.Pieces.{pieceLength}
 use Rattle.accumulator.specs.declared.StableProductFloatAcc.{StableProductFloatAcc}
-use Rattle.accumulator.specs.Joining.{Told, accumulator, refusal, combined}
-use Rattle.kernels.specs.Strided.{strided}
-use Rattle.kernels.specs.Pieces.{Piece, worked, joinedPieces}
+use Rattle.accumulator.specs.Joining.{Answer, accumulator, refusal}
+use Rattle.kernels.specs.Pieces.{Piece, joinedPieces}
 
 -- the value at an offset
 abbrev pub valueAt : List Float → ℤ → Float
@@ -40,12 +38,6 @@ piecesFrom l base values end (suc n) k =
 abbrev pub piecesOf : FullTraversal → ℤ → List Float → ℕ → ℕ → List Piece
 piecesOf l base values end start = piecesFrom l base values end (end - start) start
 
--- n whole runs of len values that begin a step apart, the first at z: each worked and joined from the right
-unfoldable pub strip : List Float → ℤ → ℤ → ℕ → ℕ → ℤ → StableProductFloatAcc → StableProductFloatAcc
-strip values step stride len zero z acc = acc
-strip values step stride len (suc n) z acc =
-    strip values step stride len n (z +ℤ step) (combined acc (worked (eqZ stride (pos 1)) (strided values z stride len)))
-
 -- the pieces' rates, one after another
 unfoldable pub ratesOf : List Piece → List Float
 ratesOf [] = []
@@ -60,7 +52,7 @@ abbrev pub rangeProduct : List ℕ → List ℤ → ℤ → ℕ → ℕ → List
 rangeProduct sizes strides base start end values = joinedPieces (piecesOf ((compileOf sizes strides) .traversal) base values end start)
 
 -- the full reduction: the number of the refusal, 1 to 7, or the range's product
-unfoldable pub reduceOf : List ℕ → List ℤ → ℤ → ℕ → ℕ → List Float → Told
+unfoldable pub reduceOf : List ℕ → List ℤ → ℤ → ℕ → ℕ → List Float → Answer
 reduceOf sizes strides base start end values =
     let code = rangeCode sizes strides base start end (length values) in
     let r = rangeProduct sizes strides base start end values in

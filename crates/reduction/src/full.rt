@@ -5,31 +5,32 @@ ghost use mathlib.Core.List.{_∷_};
 ghost use Prim.Native.Nat.{ℕ, _+_, _*_, _/_, _%_, _^_, _≤_, _<_};
 ghost use lib.ListN.{length, getD};
 ghost use lib.IntN.{pos, natAbs, _+ℤ_, _*ℤ_};
-ghost use Rattle.integers.specs.Checked.{eqZ};
+ghost use Rattle.integers.specs.Integers.{eqZ};
 ghost use Rattle.layout.specs.Axes.{noAxis};
-ghost use Rattle.offsets.specs.Elements.{allWithin};
-ghost use Rattle.offsets.specs.Cursors.{Bounded};
-ghost use Rattle.offsets.specs.Traversals.{runOf, outerOf, Traversal};
-ghost use Rattle.kernels.specs.Strided.{strided, Inside};
-ghost use Rattle.kernels.specs.Stepped.{Sound};
+ghost use Rattle.offsets.specs.Elements.{allInside};
+ghost use Rattle.offsets.specs.InnerCursors.{Bounded, Traversal};
+ghost use Rattle.offsets.specs.Pieces.{runOf, outerOf};
+ghost use Rattle.kernels.specs.InnerStrided.{strided, PlacesInside};
+ghost use Rattle.kernels.specs.InnerStepped.{Sound};
 ghost use Rattle.kernels.specs.Pieces.{worked, joinedPieces};
-ghost use Rattle.accumulator.specs.Joining.{told};
-ghost use Rattle.reduction.specs.Ranges.{strip, piecesOf, reduceOf};
+ghost use Rattle.accumulator.specs.Joining.{answerOf};
+ghost use Rattle.reduction.specs.InnerStrips.{strip};
+ghost use Rattle.reduction.specs.Ranges.{piecesOf, reduceOf};
 use accumulator::Reduced;
 use accumulator::StableProductFloatAcc;
 use layout::traversal::FullTraversal;
 
 // One piece: in blocks of 64 at stride 1, in stepped lanes at any other.
 fn reduce_piece(values: &[f64], first: i64, stride: i64, len: usize) -> StableProductFloatAcc
-    requires { ⌜ (1 ≤ len) × Inside (length (now values)) first stride len × (len ≤ 2 ^ 40) ⌝ }
+    requires { ⌜ (1 ≤ len) × PlacesInside (length (now values)) first stride len × (len ≤ 2 ^ 40) ⌝ }
     ensures { λ r. ⌜ r ≡ worked (eqZ stride (pos 1)) (strided (now (values .entry)) first stride len) ⌝ }
 {
     if stride == 1 {
         let at = first as usize;
         let part = &values[at..at + len];
-        return rows::piece::stable_float_contiguous(part);
+        return vectors::piece::stable_float_contiguous(part);
     }
-    rows::piece::lanes_strided(values, first, stride, len)
+    vectors::piece::lanes_strided(values, first, stride, len)
 }
 
 // A strip of fewer runs is not worth the decoding of a new cursor behind it.
@@ -67,7 +68,7 @@ fn reduce_strip(
     count: u64,
     acc: StableProductFloatAcc,
 ) -> StableProductFloatAcc
-    requires { ⌜ (1 ≤ len) × (len ≤ 2 ^ 40) × (count * len ≤ 2 ^ 40) × (natAbs (acc .e) ≤ 2 ^ 60) × ((j : ℕ) → j < count → Inside (length (now values)) (first +ℤ step *ℤ pos j) stride len) × Sound acc ⌝ }
+    requires { ⌜ (1 ≤ len) × (len ≤ 2 ^ 40) × (count * len ≤ 2 ^ 40) × (natAbs (acc .e) ≤ 2 ^ 60) × ((j : ℕ) → j < count → PlacesInside (length (now values)) (first +ℤ step *ℤ pos j) stride len) × Sound acc ⌝ }
     ensures { λ r. ⌜ r ≡ strip (now (values .entry)) step stride len count first acc ⌝ }
 {
     let mut a = acc;
@@ -92,7 +93,7 @@ pub fn reduce_full_range(
     end: u64,
     values: &[f64],
 ) -> StableProductFloatAcc
-    requires { ⌜ Traversal l × Bounded (runOf l ∷ outerOf l) base × (start < end) × (end ≤ l .total) × (l .total ≤ 2 ^ 40) × (allWithin (runOf l ∷ outerOf l) (l .total) base (length (now values)) ≡ true) ⌝ }
+    requires { ⌜ Traversal l × Bounded (runOf l ∷ outerOf l) base × (start < end) × (end ≤ l .total) × (l .total ≤ 2 ^ 40) × (allInside (runOf l ∷ outerOf l) (l .total) base (length (now values)) ≡ true) ⌝ }
     ensures { λ r. ⌜ r ≡ joinedPieces (piecesOf l base (now (values .entry)) end start) ⌝ }
 {
     let stride = l.run_stride;
@@ -127,7 +128,7 @@ pub fn reduce(
     end: u64,
     values: &[f64],
 ) -> Reduced
-    ensures { λ r. ⌜ told r ≡ reduceOf (now (sizes .entry)) (now (strides .entry)) base start end (now (values .entry)) ⌝ }
+    ensures { λ r. ⌜ answerOf r ≡ reduceOf (now (sizes .entry)) (now (strides .entry)) base start end (now (values .entry)) ⌝ }
 {
     let length = values.len() as u64;
     let range = offsets::list::checked_range(sizes, strides, base, start, end, length);

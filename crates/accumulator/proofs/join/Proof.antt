@@ -7,7 +7,7 @@ use lib.IntN.{ℤ}
 use borrow.Author.Needs.{needs}
 use borrow.Author.Tests.{not-true, not-false}
 use Rattle.accumulator.specs.declared.StableProductFloatAcc.{StableProductFloatAcc}
-use Rattle.accumulator.specs.Joining.{combined, withinLimit, stands, accumulator}
+use Rattle.accumulator.specs.Joining.{combined, withinLimit, inLimits, accumulator}
 use Rattle.accumulator.proofs.Answers.{stands-small, refused-left, refused-right, accepted, refused-joined}
 use Rattle.accumulator.proofs.join.Statement.{statement}
 use Rattle.accumulator.proofs.join.Tie as tie
@@ -24,10 +24,10 @@ stands-up-requires-2 : tie.Need-stands-up-requires-2
 stands-up-requires-2 c κs = search needs
 
 -- past the first test the left one stands
-left-stands : (c : tie.Else1) → stands (c .before .before .args .a) ≡ true
+left-stands : (c : tie.Else1) → inLimits (c .before .before .args .a) ≡ true
 left-stands c = sym (c .before .stands-up .ensures) ∙ not-false (c .before .stands-up .result) (c .if1 .left)
 
-right-stands : (c : tie.Else2) → stands (c .before .before .before .before .args .b) ≡ true
+right-stands : (c : tie.Else2) → inLimits (c .before .before .before .before .args .b) ≡ true
 right-stands c = sym (c .before .stands-up2 .ensures) ∙ not-false (c .before .stands-up2 .result) (c .if2 .left)
 
 returns-2 : tie.Need-returns-2

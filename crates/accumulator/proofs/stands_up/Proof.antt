@@ -5,7 +5,7 @@ use lib.IntN.{ℤ}
 use mir.Syntax.{w64}
 use mir.ValLaws.{toZ-ofZ}
 use borrow.Author.Needs.{needs}
-use Rattle.accumulator.specs.Joining.{stands, withinLimit}
+use Rattle.accumulator.specs.Joining.{inLimits, withinLimit}
 use Rattle.accumulator.proofs.stands_up.Statement.{statement}
 use Rattle.accumulator.proofs.stands_up.Tie as tie
 
@@ -16,7 +16,7 @@ within-limit-requires : tie.Need-within-limit-requires
 within-limit-requires c κs = search needs
 
 returns : tie.Need-returns
-unfolding stands
+unfolding inLimits
 returns c =
     let a = c .before .before .before .before .args .a in
     let held = toZ-ofZ w64 (a .e) (record { sfits = c .before .struct-told .given .1 .0 .1 }) in
@@ -24,7 +24,7 @@ returns c =
     c .within-limit .ensures ∙ ap (λ (z : ℤ). withinLimit z) held ∙ ap (λ (t : Bool). t && withinLimit (a .e)) (sym (c .before .before .if1 .taken) ∙ unit .ensures)
 
 returns-2 : tie.Need-returns-2
-unfolding stands
+unfolding inLimits
 returns-2 c =
     let a = c .before .before .args .a in
     c .if1 .left ∙ ap (λ (t : Bool). t && withinLimit (a .e)) (sym (c .if1 .left) ∙ c .before .in-unit .ensures)

@@ -8,9 +8,9 @@ use mir.Syntax.{w64}
 use mir.Val.{toZ, ofZ}
 use mir.ValLaws.{toZ-ofZ}
 use borrow.Author.Needs.{needs}
-use Rattle.binary64.specs.Magnitude.{factorAt}
+use Rattle.floats.specs.Magnitude.{factorAt}
 use Rattle.accumulator.specs.Joining.{withinLimit}
-use Rattle.finishing.specs.Once.{above, roundedOnce}
+use Rattle.finishing.specs.Once.{pastLargest, roundedOnce}
 use Rattle.finishing.proofs.Loops.{Held, held-none, held-fits, raised-all, raised-more, raised-less, lowered-all, lowered-more, lowered-less, lowered-below, under-taken, under-left, last}
 use Rattle.finishing.proofs.f64_ldexp.Statement.{statement}
 use Rattle.finishing.proofs.f64_ldexp.Tie as tie
@@ -22,7 +22,7 @@ abbrev μ-loop : tie.MeasureT-loop
 μ-loop m e x₀ k₀ x k = natAbs (toZ w64 k)
 
 abbrev Inv-loop2 : tie.InvT-loop2
-Inv-loop2 m e x₀ k₀ x k = Held m (toZ w64 e) x (toZ w64 k) × (above (toZ w64 k) ≡ false)
+Inv-loop2 m e x₀ k₀ x k = Held m (toZ w64 e) x (toZ w64 k) × (pastLargest (toZ w64 k) ≡ false)
 
 abbrev μ-loop2 : tie.MeasureT-loop2
 μ-loop2 m e x₀ k₀ x k = natAbs (toZ w64 k)

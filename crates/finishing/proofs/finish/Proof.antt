@@ -6,8 +6,8 @@ use mir.Syntax.{w64}
 use mir.ValLaws.{toZ-ofZ}
 use borrow.Author.Needs.{needs}
 use borrow.Author.Tests.{not-true, not-false}
-use Rattle.binary64.specs.Magnitude.{factorAt}
-use Rattle.accumulator.specs.Joining.{withinLimit, stands}
+use Rattle.floats.specs.Magnitude.{factorAt}
+use Rattle.accumulator.specs.Joining.{withinLimit, inLimits}
 use Rattle.accumulator.proofs.Answers.{stands-unit, stands-limit}
 use Rattle.finishing.specs.Once.{roundedOnce}
 use Rattle.finishing.specs.Finishing.{value, refusal}
@@ -39,7 +39,7 @@ returns-2 c =
     refused (a .before .before .args .answer) (g .0 .0) (g .1) (sym (c .before .stands-up .ensures) ∙ not-true (c .before .stands-up .result) (c .if1 .taken))
 
 -- past the first test the accumulator stands
-stood : (c : tie.Else1) → stands (c .before .before .before .answer .given .0 .0) ≡ true
+stood : (c : tie.Else1) → inLimits (c .before .before .before .answer .given .0 .0) ≡ true
 stood c = sym (c .before .stands-up .ensures) ∙ not-false (c .before .stands-up .result) (c .if1 .left)
 
 returns-3 : tie.Need-returns-3

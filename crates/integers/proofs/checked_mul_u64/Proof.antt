@@ -5,7 +5,7 @@ use mathlib.Core.Path.{_≡_, sym, _∙_, ap}
 use native.Mathlib.Omega.{arith}
 use native.Mathlib.Nat.{mul-zero}
 use borrow.Author.Needs.{needs}
-use Rattle.integers.specs.Checked.{narrowU}
+use Rattle.integers.specs.InnerChecked.{narrowU64}
 use Rattle.integers.proofs.Machine.{narrowU-yes, narrowU-no, product-over, product-fits}
 use Rattle.integers.proofs.checked_mul_u64.Statement.{statement}
 use Rattle.integers.proofs.checked_mul_u64.Tie as tie

@@ -5,9 +5,9 @@ use mir.Val.{SFits}
 use mir.Syntax.{w64}
 use borrow.Author.Needs.{needs}
 use Rattle.accumulator.specs.declared.Reduced.{Reduced}
-use Rattle.accumulator.specs.Joining.{Told, told}
+use Rattle.accumulator.specs.Joining.{Answer, answerOf}
 use Rattle.reduction.specs.Ranges.{reduceOf}
-use Rattle.probe.specs.Answers.{codeIn, mIn, eIn, badIn}
+use Rattle.probe.specs.Answers.{codeGiven, mGiven, eGiven, badGiven}
 use Rattle.probe.proofs.probe_reduce.Statement.{statement}
 use Rattle.probe.proofs.probe_reduce.Tie as tie
 use Rattle.probe.proofs.probe_reduce.Reads as reads
@@ -15,7 +15,7 @@ use Rattle.probe.proofs.probe_reduce.Lts as lts
 use Rattle.reduction.proofs.full.reduce.Reads as reduce-reads
 
 -- the reduction's answer, over the arguments themselves
-answered : (c : tie.After-reduce) → told (c .reduce .result) ≡ reduceOf (c .before .before .before .args .sizes .now) (c .before .before .before .args .strides .now) (c .before .before .before .args .base) (c .before .before .before .args .start) (c .before .before .before .args .end) (c .before .before .before .args .values .now)
+answered : (c : tie.After-reduce) → answerOf (c .reduce .result) ≡ reduceOf (c .before .before .before .args .sizes .now) (c .before .before .before .args .strides .now) (c .before .before .before .args .base) (c .before .before .before .args .start) (c .before .before .before .args .end) (c .before .before .before .args .values .now)
 answered c = simp (toZ-ofZ (c .before .before .before .fits .base)) at (c .reduce .ensures)
 
 -- src/lib.rt:26:9
@@ -32,22 +32,22 @@ enum-known-answer-2 c = search needs
 
 -- src/lib.rt:9:1
 returns : tie.Need-returns
-unfolding codeIn mIn eIn badIn
+unfolding codeGiven mGiven eGiven badGiven
 returns c =
     let a = c .before .before in
     let s = a .before .before .before .before .before in
-    let t = sym (ap told (a .answer .given .1)) ∙ answered (a .before .before) in
+    let t = sym (ap answerOf (a .answer .given .1)) ∙ answered (a .before .before) in
     let fits : SFits w64 (a .answer .given .0 .0 .e) = record { sfits = c .struct-told .given .1 .0 .1 } in
-    (ap codeIn t, (ap (mIn (s .args .m .now)) t, (toZ-ofZ fits ∙ ap (eIn (s .args .e .now)) t, ap (badIn (s .args .bad .now)) t)))
+    (ap codeGiven t, (ap (mGiven (s .args .m .now)) t, (toZ-ofZ fits ∙ ap (eGiven (s .args .e .now)) t, ap (badGiven (s .args .bad .now)) t)))
 
 -- src/lib.rt:9:1
 returns-2 : tie.Need-returns-2
-unfolding codeIn mIn eIn badIn
+unfolding codeGiven mGiven eGiven badGiven
 returns-2 c =
     let a = c .before in
     let s = a .before .before .before .before .before in
-    let t = sym (ap told (a .answer2 .given .1)) ∙ answered (a .before .before) in
-    (ap codeIn t, (ap (mIn (s .args .m .now)) t, (ap (eIn (s .args .e .now)) t, ap (badIn (s .args .bad .now)) t)))
+    let t = sym (ap answerOf (a .answer2 .given .1)) ∙ answered (a .before .before) in
+    (ap codeGiven t, (ap (mGiven (s .args .m .now)) t, (ap (eGiven (s .args .e .now)) t, ap (badGiven (s .args .bad .now)) t)))
 
 pub probe-reduce-spec : {M : Type 1} → statement M
 probe-reduce-spec =

@@ -4,7 +4,7 @@ use lib.IntN.{ℤ}
 use mir.Syntax.{w64}
 use mir.ValLaws.{toZ-ofZ}
 use borrow.Author.Needs.{needs}
-use Rattle.binary64.specs.declared.Split.{Split}
+use Rattle.floats.specs.declared.Split.{Split}
 use Rattle.kernels.specs.Stepped.{rateAcc}
 use Rattle.kernels.proofs.stepped.from_value.Statement.{statement}
 use Rattle.kernels.proofs.stepped.from_value.Tie as tie

@@ -8,7 +8,8 @@ use lib.ListN.{set}
 use borrow.Author.Needs.{needs}
 use Rattle.accumulator.specs.declared.StableProductFloatAcc.{StableProductFloatAcc}
 use Rattle.accumulator.specs.Joining.{combined}
-use Rattle.kernels.specs.Stepped.{accAt, Sound}
+use Rattle.kernels.specs.Stepped.{accAt}
+use Rattle.kernels.specs.InnerStepped.{Sound}
 use Rattle.kernels.proofs.Sizes.{rate-size}
 use Rattle.kernels.proofs.Bounded.{rate-sound}
 use Rattle.kernels.proofs.stepped.join_lane.Statement.{statement}

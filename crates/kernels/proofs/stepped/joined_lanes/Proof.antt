@@ -10,7 +10,8 @@ use borrow.Author.Needs.{needs}
 use Rattle.accumulator.specs.declared.StableProductFloatAcc.{StableProductFloatAcc}
 use Rattle.accumulator.specs.Joining.{identityAcc, combined}
 use Rattle.kernels.specs.Lanes.{inOrder}
-use Rattle.kernels.specs.Stepped.{accAt, lanesJoined, Sound}
+use Rattle.kernels.specs.Stepped.{accAt, lanesJoined}
+use Rattle.kernels.specs.InnerStepped.{Sound}
 use Rattle.kernels.proofs.Feeding.{order-more, order-all}
 use Rattle.kernels.proofs.Sizes.{joined-size}
 use Rattle.kernels.proofs.Bounded.{order-sound}

@@ -3,8 +3,9 @@ use Prim.Native.Nat.{_^_}
 use mathlib.Core.Path.{_≡_, sym, ap, _∙_, subst}
 use mir.Syntax.{w64}
 use mir.ValLaws.{toZ-ofZ}
-use Rattle.kernels.specs.Strided.{strided}
-use Rattle.kernels.specs.Stepped.{steppedLanes, lanesJoined, stepped, SmallAccs, UnitAccs}
+use Rattle.kernels.specs.InnerStrided.{strided}
+use Rattle.kernels.specs.Stepped.{steppedLanes, lanesJoined, stepped}
+use Rattle.kernels.specs.InnerStepped.{SmallAccs, UnitAccs}
 use Rattle.kernels.proofs.Bounded.{joined-all}
 use Rattle.kernels.proofs.Striding.{strided-small}
 use Rattle.kernels.proofs.stepped.lanes_strided.Statement.{statement}

@@ -9,7 +9,7 @@ use mir.Val.{SFits}
 use mir.Facts.{toZ-ofZ}
 use mir.Syntax.{w64}
 use borrow.Author.Needs.{needs}
-use Rattle.integers.specs.Checked.{keepI, narrow}
+use Rattle.integers.specs.InnerChecked.{keepI, narrowI64}
 use Rattle.layout.specs.Axes.{span, resetFits}
 use Rattle.layout.proofs.Resets.{reset-large, reset-no-span, reset-span}
 use Rattle.layout.proofs.axis.checked_reduce_reset.Statement.{statement}
@@ -30,11 +30,11 @@ checked-neg-i64-requires : tie.Need-checked-neg-i64-requires
 checked-neg-i64-requires c κs = search needs
 
 -- what the product is
-spanned : (c : tie.After-checked-mul-i64) → c .checked-mul-i64 .result ≡ narrow (c .before .before .before .args .step *ℤ pos (c .before .before .before .args .extent - 1))
+spanned : (c : tie.After-checked-mul-i64) → c .checked-mul-i64 .result ≡ narrowI64 (c .before .before .before .args .step *ℤ pos (c .before .before .before .args .extent - 1))
 spanned c =
     let s = c .before .before .before in
     simp (toZ-ofZ (s .fits .step)) at (c .checked-mul-i64 .ensures)
-    ∙ ap (λ (k : ℕ). narrow (s .args .step *ℤ pos k)) (c .before .before .last-of .ensures)
+    ∙ ap (λ (k : ℕ). narrowI64 (s .args .step *ℤ pos k)) (c .before .before .last-of .ensures)
 
 returns-2 : tie.Need-returns-2
 returns-2 c =

@@ -2,7 +2,8 @@
 -- Assumes nothing.
 use mathlib.Core.Path.{refl}
 use borrow.Author.Needs.{needs}
-use Rattle.layout.specs.Axes.{tableOf, placesOf}
+use Rattle.layout.specs.InnerTables.{tableOf}
+use Rattle.layout.specs.Axes.{placesOf}
 use Rattle.layout.proofs.axis.no_axes.Statement.{statement}
 use Rattle.layout.proofs.axis.no_axes.Tie as tie
 

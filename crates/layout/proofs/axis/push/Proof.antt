@@ -8,7 +8,8 @@ use lib.ListN.{length, set, length-append}
 use borrow.Author.Needs.{needs}
 use Rattle.layout.specs.declared.axis.ReduceOuterAxis.{ReduceOuterAxis}
 use Rattle.layout.specs.declared.axis.AxisTable.{AxisTable}
-use Rattle.layout.specs.Axes.{PLACES, Table, tableOf, placesOf, held}
+use Rattle.layout.specs.Axes.{PLACES, placesOf}
+use Rattle.layout.specs.InnerTables.{CleanTable, tableOf, tableAxes}
 use Rattle.layout.proofs.Tables.{table-places, table-count, pushed}
 use Rattle.layout.proofs.axis.push.Statement.{statement}
 use Rattle.layout.proofs.axis.push.Tie as tie
@@ -22,14 +23,14 @@ element-set-from-axis c = search needs
 add-t : tie.Need-add-t
 add-t c = search needs
 
-stored : (t : AxisTable) (a : ReduceOuterAxis) → Table t → t .count < PLACES
-    → _≡_ {A = AxisTable} (record { count = t .count + 1; places = set (t .places) (t .count) a }) (tableOf (held t ++ a ∷ []))
+stored : (t : AxisTable) (a : ReduceOuterAxis) → CleanTable t → t .count < PLACES
+    → _≡_ {A = AxisTable} (record { count = t .count + 1; places = set (t .places) (t .count) a }) (tableOf (tableAxes t ++ a ∷ []))
 unfolding tableOf
 stored t a w h =
     let e = table-count t w in
-    cc (pushed (held t) a (rw (← e) h), table-places t w, longer e)
+    cc (pushed (tableAxes t) a (rw (← e) h), table-places t w, longer e)
   where
-    longer : t .count ≡ length (held t) → t .count + 1 ≡ length (held t ++ a ∷ [])
+    longer : t .count ≡ length (tableAxes t) → t .count + 1 ≡ length (tableAxes t ++ a ∷ [])
     longer e = simp length-append (omega arith)
 
 returns : tie.Need-returns

@@ -9,8 +9,9 @@ use lib.ListN.{take}
 use borrow.Author.Needs.{needs}
 use borrow.Author.Tests.{not-true, not-false}
 use Rattle.layout.specs.declared.axis.AxisTable.{AxisTable}
-use Rattle.layout.specs.Axes.{held}
-use Rattle.layout.specs.Fuse.{fuse, orderedOr}
+use Rattle.layout.specs.InnerTables.{tableAxes}
+use Rattle.layout.specs.Fuse.{fuse}
+use Rattle.layout.specs.InnerAnswers.{orderedOr}
 use Rattle.layout.proofs.Fusing.{Fused, fused-first, fused-more, fused-stop, fused-all}
 use Rattle.layout.proofs.fuse.compress_reduce_outer_axes.Statement.{statement}
 use Rattle.layout.proofs.fuse.compress_reduce_outer_axes.Tie as tie
@@ -20,8 +21,8 @@ use Rattle.layout.proofs.axis.no_axes.Reads as no-axes-reads
 use Rattle.layout.proofs.axis.push.Reads as push-reads
 use Rattle.layout.proofs.fuse.fuse_next.Reads as fuse-next-reads
 
-nothing : (t : AxisTable) → t .count ≡ 0 → held t ≡ []
-unfolding held
+nothing : (t : AxisTable) → t .count ≡ 0 → tableAxes t ≡ []
+unfolding tableAxes
 nothing t e = ap (λ (n : ℕ). take n (t .places)) e
 
 abbrev Inv-loop : tie.InvT-loop

@@ -7,8 +7,9 @@ use Rattle.layout.specs.declared.axis.ReduceOuterAxis.{ReduceOuterAxis}
 use Rattle.layout.specs.declared.axis.AxisTable.{AxisTable}
 use Rattle.layout.specs.declared.fuse.Fusing.{Fusing}
 use mathlib.Core.List.{[]}
-use Rattle.layout.specs.Axes.{held, tableOf}
-use Rattle.layout.specs.Fuse.{joinOf, nextFrom, nextOf}
+use Rattle.layout.specs.InnerTables.{tableAxes, tableOf}
+use Rattle.layout.specs.Fuse.{joinOf}
+use Rattle.layout.specs.InnerAnswers.{nextFrom, nextOf}
 use borrow.Author.Needs.{needs}
 use Rattle.layout.proofs.fuse.fuse_next.Statement.{statement}
 use Rattle.layout.proofs.fuse.fuse_next.Tie as tie
@@ -53,7 +54,7 @@ unfolding nextOf nextFrom
 returns c =
     let s = c .before .before .before .before .before .before in
     ap (λ (t : AxisTable). record { ok = true; done = t; last = c .before .j .given .0 .0 }) (s .pre .0 .0)
-    ∙ ap (nextFrom (held (s .args .f .done)) (s .args .f .last) (s .args .b)) (sym (c .before .j .given .1) ∙ c .before .before .before .join .ensures)
+    ∙ ap (nextFrom (tableAxes (s .args .f .done)) (s .args .f .last) (s .args .b)) (sym (c .before .j .given .1) ∙ c .before .before .before .join .ensures)
 
 -- src/fuse.rt:52:1
 returns-2 : tie.Need-returns-2
@@ -61,7 +62,7 @@ unfolding nextOf nextFrom
 returns-2 c =
     let s = c .before .before .before .before .before .before in
     ap (λ (t : AxisTable). record { ok = true; done = t; last = s .args .b }) (c .push .ensures)
-    ∙ ap (nextFrom (held (s .args .f .done)) (s .args .f .last) (s .args .b)) (sym (c .before .enum-told .given .1) ∙ c .before .before .before .join .ensures)
+    ∙ ap (nextFrom (tableAxes (s .args .f .done)) (s .args .f .last) (s .args .b)) (sym (c .before .enum-told .given .1) ∙ c .before .before .before .join .ensures)
 
 -- src/fuse.rt:52:1
 returns-3 : tie.Need-returns-3
@@ -70,7 +71,7 @@ returns-3 c =
     let s = c .before .before .before .before .before .before .before in
     ap (λ (t : AxisTable). record { ok = false; done = t; last = c .no-axis .result }) (c .before .no-axes .ensures)
     ∙ ap (λ (a : ReduceOuterAxis). record { ok = false; done = tableOf []; last = a }) (c .no-axis .ensures)
-    ∙ ap (nextFrom (held (s .args .f .done)) (s .args .f .last) (s .args .b)) (sym (c .before .before .enum-told2 .given .1) ∙ c .before .before .before .before .join .ensures)
+    ∙ ap (nextFrom (tableAxes (s .args .f .done)) (s .args .f .last) (s .args .b)) (sym (c .before .before .enum-told2 .given .1) ∙ c .before .before .before .before .join .ensures)
 
 pub fuse-next-spec : {M : Type 1} → statement M
 fuse-next-spec =

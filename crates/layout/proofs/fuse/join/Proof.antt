@@ -9,7 +9,8 @@ use mir.Facts.{toZ-ofZ}
 use mir.Syntax.{w64}
 use borrow.Author.Needs.{needs}
 use borrow.Author.Tests.{not-true, not-false}
-use Rattle.integers.specs.Checked.{keepI, narrow, fitsI64, eqZ}
+use Rattle.integers.specs.InnerChecked.{keepI, narrowI64}
+use Rattle.integers.specs.Integers.{fitsI64, eqZ}
 use Rattle.integers.proofs.Machine.{narrow-ok, narrow-not-ok, narrowU-ok, narrowU-not-ok, same-bits, ne-eqZ, eqZ-refl}
 use Rattle.layout.specs.declared.axis.ReduceOuterAxis.{ReduceOuterAxis}
 use Rattle.layout.specs.declared.fuse.Joined.{Joined}
@@ -24,7 +25,7 @@ use Rattle.layout.proofs.fuse.join.Tie as tie
 checked-mul-i64-requires : tie.Need-checked-mul-i64-requires
 checked-mul-i64-requires c κs = search needs
 
-reached : (c : tie.After-checked-mul-i64) → c .checked-mul-i64 .result ≡ narrow (reach (c .before .before .args .a))
+reached : (c : tie.After-checked-mul-i64) → c .checked-mul-i64 .result ≡ narrowI64 (reach (c .before .before .args .a))
 unfolding reach
 reached c =
     let f : SFits w64 (c .before .before .args .a .«source_step») = record { sfits = c .before .struct-told .given .1 .0 .1 } in

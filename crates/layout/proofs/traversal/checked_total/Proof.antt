@@ -8,7 +8,8 @@ use lib.ListN.{length, drop, getD}
 use borrow.Author.Needs.{needs}
 use borrow.Author.Tests.{not-true, not-false}
 use Rattle.integers.proofs.Machine.{narrowU-ok, narrowU-not-ok, narrowU-no}
-use Rattle.layout.specs.Compile.{totalFrom, totalOf, checkedOr}
+use Rattle.layout.specs.Compile.{totalFrom, totalOf}
+use Rattle.layout.specs.InnerAnswers.{checkedOr}
 use Rattle.layout.proofs.Compiling.{total-more, total-over, total-all}
 use Rattle.layout.proofs.traversal.checked_total.Statement.{statement}
 use Rattle.layout.proofs.traversal.checked_total.Tie as tie

@@ -6,7 +6,7 @@ use lib.IntN.{ℤ, negℤ}
 use mir.Facts.{toZ-ofZ}
 use borrow.Author.Needs.{needs}
 use borrow.Author.Tests.{not-true, not-false}
-use Rattle.integers.specs.Checked.{keepI}
+use Rattle.integers.specs.InnerChecked.{keepI}
 use Rattle.layout.specs.Axes.{axisOf, span, resetFits}
 use Rattle.layout.specs.Compile.{layoutOf}
 use Rattle.layout.proofs.Resets.{reset-ok, reset-not-ok}

@@ -11,8 +11,8 @@ use mir.Val.{toZ, ofZ, SFits}
 use mir.Facts.{toZ-ofZ}
 use mir.Syntax.{w64}
 use Rattle.integers.proofs.Machine.{nonneg-pos, natAbs-fits}
-use Rattle.offsets.specs.Elements.{allWithin}
-use Rattle.offsets.specs.Traversals.{runOf, outerOf}
+use Rattle.offsets.specs.Elements.{allInside}
+use Rattle.offsets.specs.Pieces.{runOf, outerOf}
 use Rattle.offsets.proofs.Inside.{base-below, base-past, last-short, last-long}
 use borrow.Author.Needs.{needs}
 use Rattle.offsets.proofs.bounds.inside.Statement.{statement}
@@ -34,7 +34,7 @@ returns : tie.Need-returns
 returns c =
     let s = c .before in
     base-below (runOf (s .args .l) ∷ outerOf (s .args .l)) (s .pre .axes) (s .args .length) (s .args .base) (simp (toZ-ofZ (s .fits .base)) at (c .if1 .taken))
-    ∙ ap (λ (n : ℕ). allWithin (runOf (s .args .l) ∷ outerOf (s .args .l)) n (s .args .base) (s .args .length)) (s .pre .total)
+    ∙ ap (λ (n : ℕ). allInside (runOf (s .args .l) ∷ outerOf (s .args .l)) n (s .args .base) (s .args .length)) (s .pre .total)
 
 -- src/bounds.rt:88:13
 cast-b : tie.Need-cast-b
@@ -51,8 +51,8 @@ returns-2 c =
     let l = s .args .l in
     let b : natAbs (toZ w64 (ofZ w64 x)) ≡ natAbs x = ap natAbs (toZ-ofZ (s .fits .base)) in
     base-past (runOf l ∷ outerOf l) (s .pre .axes) (s .args .length) (natAbs x) (omega (arith, c .if2 .taken, b))
-    ∙ ap (λ (n : ℕ). allWithin (runOf l ∷ outerOf l) n (pos (natAbs x)) (s .args .length)) (s .pre .total)
-    ∙ ap (λ (z : ℤ). allWithin (runOf l ∷ outerOf l) (l .total) z (s .args .length)) (sym (whole (c .before)))
+    ∙ ap (λ (n : ℕ). allInside (runOf l ∷ outerOf l) n (pos (natAbs x)) (s .args .length)) (s .pre .total)
+    ∙ ap (λ (z : ℤ). allInside (runOf l ∷ outerOf l) (l .total) z (s .args .length)) (sym (whole (c .before)))
 
 -- src/bounds.rt:93:34
 sub-inside-from : tie.Need-sub-inside-from
@@ -70,8 +70,8 @@ returns-3 c =
     let l = s .args .l in
     simp (toZ-ofZ (s .fits .base)) at (c .inside-from .ensures)
     ∙ last-short (runOf l ∷ outerOf l) (s .pre .axes) (s .args .length) (natAbs x) (omega (arith, c .before .before .if2 .left)) (omega (arith, c .before .if3 .taken))
-    ∙ ap (λ (n : ℕ). allWithin (runOf l ∷ outerOf l) n (pos (natAbs x)) (s .args .length)) (s .pre .total)
-    ∙ ap (λ (z : ℤ). allWithin (runOf l ∷ outerOf l) (l .total) z (s .args .length)) (sym (whole (c .before .before .before)))
+    ∙ ap (λ (n : ℕ). allInside (runOf l ∷ outerOf l) n (pos (natAbs x)) (s .args .length)) (s .pre .total)
+    ∙ ap (λ (z : ℤ). allInside (runOf l ∷ outerOf l) (l .total) z (s .args .length)) (sym (whole (c .before .before .before)))
 
 -- src/bounds.rt:95:5
 inside-from-requires-2 : tie.Need-inside-from-requires-2
@@ -89,8 +89,8 @@ returns-4 c =
     let l = s .args .l in
     simp (toZ-ofZ (s .fits .base)) at (c .inside-from2 .ensures)
     ∙ last-long (runOf l ∷ outerOf l) (s .pre .axes) (s .args .length) (natAbs x) (omega (arith, c .before .if3 .left))
-    ∙ ap (λ (n : ℕ). allWithin (runOf l ∷ outerOf l) n (pos (natAbs x)) (s .args .length)) (s .pre .total)
-    ∙ ap (λ (z : ℤ). allWithin (runOf l ∷ outerOf l) (l .total) z (s .args .length)) (sym (whole (c .before .before .before)))
+    ∙ ap (λ (n : ℕ). allInside (runOf l ∷ outerOf l) n (pos (natAbs x)) (s .args .length)) (s .pre .total)
+    ∙ ap (λ (z : ℤ). allInside (runOf l ∷ outerOf l) (l .total) z (s .args .length)) (sym (whole (c .before .before .before)))
 
 pub inside-spec : {M : Type 1} → statement M
 inside-spec =

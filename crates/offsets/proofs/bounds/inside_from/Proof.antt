@@ -4,9 +4,9 @@ use Prim.Native.Nat.{ℕ, _+_, _-_, _≤_}
 use mathlib.Core.Path.{_≡_, refl, sym, _∙_, ap}
 use mathlib.Core.List.{[], _∷_}
 use mathlib.Core.Bool.{Bool, true}
-use Rattle.integers.specs.Checked.{keepI}
+use Rattle.integers.specs.InnerChecked.{keepI}
 use Rattle.integers.specs.declared.CheckedI64.{CheckedI64}
-use Rattle.offsets.specs.Cursors.{Axis, Axes}
+use Rattle.offsets.specs.InnerCursors.{Axis, Axes, Traversal}
 use Rattle.offsets.proofs.Stepping.{axes-at, axes-drop, axis-reset}
 use native.Mathlib.Omega.{arith}
 use lib.ListN.{length, take, drop, getD, drop-of-length-le, length-take}
@@ -19,8 +19,8 @@ use borrow.Author.Tests.{not-true, not-false}
 use Rattle.layout.specs.Axes.{noAxis, span, axisOf}
 use Rattle.layout.proofs.Tables.{take-from}
 use Rattle.layout.proofs.Resets.{reset-ok}
-use Rattle.offsets.specs.Traversals.{runOf, outerOf, Traversal}
-use Rattle.offsets.specs.Bounds.{widened}
+use Rattle.offsets.specs.Pieces.{runOf, outerOf}
+use Rattle.offsets.specs.InnerBounds.{widened}
 use Rattle.offsets.proofs.Inside.{Spanning, spanning-first, spanning-more, spanning-out, spanning-all}
 use Rattle.offsets.proofs.bounds.inside_from.Statement.{statement}
 use Rattle.offsets.proofs.bounds.inside_from.Tie as tie

@@ -8,8 +8,9 @@ use mir.Facts.{toZ-ofZ}
 use Rattle.layout.specs.declared.traversal.FullTraversal.{FullTraversal}
 use Rattle.layout.specs.declared.traversal.Compiled.{Compiled}
 use Rattle.layout.specs.Compile.{compileOf}
-use Rattle.offsets.specs.Elements.{allWithin}
-use Rattle.offsets.specs.Traversals.{runOf, outerOf, Traversal}
+use Rattle.offsets.specs.Elements.{allInside}
+use Rattle.offsets.specs.Pieces.{runOf, outerOf}
+use Rattle.offsets.specs.InnerCursors.{Traversal}
 use Rattle.offsets.proofs.Ranges.{Clear, clear, clear-accepted, range-compile, range-5, range-6, range-7, range-0}
 use borrow.Author.Needs.{needs}
 use Rattle.offsets.proofs.list.checked_range.Statement.{statement}
@@ -86,12 +87,12 @@ inside-requires c κs = subst (λ (r : Compiled). Traversal (r .traversal)) (sym
 
 -- src/list.rt:40:9
 -- what the test said, of the compiled layout
-told : (c : tie.After-inside) → c .inside .result ≡ allWithin (runOf ((compileOf (c .before .before .before .before .before .before .before .before .before .args .sizes .now) (c .before .before .before .before .before .before .before .before .before .args .strides .now)) .traversal) ∷ outerOf ((compileOf (c .before .before .before .before .before .before .before .before .before .args .sizes .now) (c .before .before .before .before .before .before .before .before .before .args .strides .now)) .traversal)) ((compileOf (c .before .before .before .before .before .before .before .before .before .args .sizes .now) (c .before .before .before .before .before .before .before .before .before .args .strides .now)) .traversal .total) (c .before .before .before .before .before .before .before .before .before .args .base) (c .before .before .before .before .before .before .before .before .before .args .length)
+told : (c : tie.After-inside) → c .inside .result ≡ allInside (runOf ((compileOf (c .before .before .before .before .before .before .before .before .before .args .sizes .now) (c .before .before .before .before .before .before .before .before .before .args .strides .now)) .traversal) ∷ outerOf ((compileOf (c .before .before .before .before .before .before .before .before .before .args .sizes .now) (c .before .before .before .before .before .before .before .before .before .args .strides .now)) .traversal)) ((compileOf (c .before .before .before .before .before .before .before .before .before .args .sizes .now) (c .before .before .before .before .before .before .before .before .before .args .strides .now)) .traversal .total) (c .before .before .before .before .before .before .before .before .before .args .base) (c .before .before .before .before .before .before .before .before .before .args .length)
 told c =
     let m = c .before .before .before .before .before .before .before in
     let s = m .before .before in
     simp (toZ-ofZ (s .fits .base)) at (c .inside .ensures)
-    ∙ ap (λ (r : Compiled). allWithin (runOf (r .traversal) ∷ outerOf (r .traversal)) (r .traversal .total) (s .args .base) (s .args .length)) (m .compile .ensures)
+    ∙ ap (λ (r : Compiled). allInside (runOf (r .traversal) ∷ outerOf (r .traversal)) (r .traversal .total) (s .args .base) (s .args .length)) (m .compile .ensures)
 
 returns-4 : tie.Need-returns-4
 returns-4 c =

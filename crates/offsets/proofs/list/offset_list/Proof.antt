@@ -12,9 +12,10 @@ use Rattle.layout.specs.declared.traversal.FullTraversal.{FullTraversal}
 use Rattle.layout.specs.declared.traversal.Compiled.{Compiled}
 use Rattle.layout.specs.Order.{axesOf}
 use Rattle.layout.specs.Compile.{compileOf, accepted}
-use Rattle.offsets.specs.Cursors.{Bounded}
-use Rattle.offsets.specs.Traversals.{runOf, outerOf, Traversal}
-use Rattle.offsets.specs.Lists.{rangeCode, rangeOf, offsetsFrom}
+use Rattle.offsets.specs.InnerCursors.{Bounded, Traversal}
+use Rattle.offsets.specs.Pieces.{runOf, outerOf}
+use Rattle.offsets.specs.Lists.{rangeCode, offsetsFrom}
+use Rattle.offsets.specs.InnerLists.{rangeOf}
 use Rattle.offsets.proofs.Ranges.{Ranged, ranged, ranged-accepted, ranged-bounded, list-0, list-8, list-refused, buffer-kept, buffer-filled, offsets-same}
 use borrow.Author.Needs.{needs}
 use Rattle.offsets.proofs.list.offset_list.Statement.{statement}

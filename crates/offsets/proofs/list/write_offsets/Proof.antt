@@ -8,7 +8,7 @@ use lib.ListN.{length}
 use mir.Val.{toZ, SFits}
 use mir.Facts.{toZ-ofZ}
 use mir.Syntax.{w64}
-use Rattle.offsets.specs.Traversals.{runOf, outerOf}
+use Rattle.offsets.specs.Pieces.{runOf, outerOf}
 use Rattle.offsets.proofs.Writing.{Listing, listing-none, length-listed, listed, Taken, listing-taken}
 use Rattle.offsets.proofs.list.write_offsets.Statement.{statement}
 use Rattle.offsets.proofs.list.write_offsets.Tie as tie

@@ -4,8 +4,8 @@ use Prim.Native.Nat.{_%_}
 use mathlib.Core.Path.{ap}
 use mir.Facts.{toZ-ofZ}
 use Rattle.offsets.specs.declared.cursor.ReduceOuterCursor.{ReduceOuterCursor}
-use Rattle.offsets.specs.Traversals.{outerOf}
-use Rattle.offsets.specs.Pieces.{rangeAt}
+use Rattle.offsets.specs.Pieces.{outerOf}
+use Rattle.offsets.specs.InnerPieces.{rangeAt}
 use Rattle.offsets.proofs.Walking.{some, outer-axes, outer-bounded}
 use Rattle.offsets.proofs.pieces.begin.Statement.{statement}
 use Rattle.offsets.proofs.pieces.begin.Tie as tie

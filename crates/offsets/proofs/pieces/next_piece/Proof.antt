@@ -13,9 +13,9 @@ use borrow.Author.Needs.{needs}
 use borrow.Author.Tests.{lt-ltb, le-ltb}
 use Rattle.integers.proofs.Machine.{pos-fits, toZ-small}
 use Rattle.offsets.specs.declared.cursor.ReduceOuterCursor.{ReduceOuterCursor}
-use Rattle.offsets.specs.Cursors.{advanced}
-use Rattle.offsets.specs.Traversals.{outerOf}
-use Rattle.offsets.specs.Pieces.{pieceOf}
+use Rattle.offsets.specs.InnerCursors.{advanced}
+use Rattle.offsets.specs.Pieces.{outerOf}
+use Rattle.offsets.specs.InnerPieces.{pieceOf}
 use Rattle.offsets.proofs.Stepping.{small-fits, share-fits}
 use Rattle.offsets.proofs.Walking.{on-column, on-column-small, on-run, on-first, on-stands}
 use Rattle.offsets.proofs.pieces.next_piece.Statement.{statement}

@@ -10,9 +10,10 @@ use Rattle.layout.specs.declared.traversal.Compiled.{Compiled}
 use Rattle.layout.specs.Compile.{compileOf, accepted}
 use Rattle.accumulator.specs.declared.StableProductFloatAcc.{StableProductFloatAcc}
 use Rattle.accumulator.specs.declared.Reduced.the-variants.{Acc}
-use Rattle.accumulator.specs.Joining.{told, refusal}
+use Rattle.accumulator.specs.Joining.{answerOf, refusal}
 use Rattle.kernels.specs.Pieces.{joinedPieces}
-use Rattle.offsets.specs.Lists.{rangeCode, rangeOf}
+use Rattle.offsets.specs.Lists.{rangeCode}
+use Rattle.offsets.specs.InnerLists.{rangeOf}
 use Rattle.offsets.proofs.Ranges.{Ranged, ranged, ranged-accepted, ranged-bounded, ranged-within, ranged-few}
 use Rattle.reduction.specs.Ranges.{piecesOf}
 use Rattle.reduction.proofs.Calls.{reduce-refused, reduce-accepted}
@@ -70,7 +71,7 @@ returns-2 : tie.Need-returns-2
 returns-2 c =
     let b = c .before in
     let s = b .before .before .before .before .before in
-    ap (λ (a : StableProductFloatAcc). told (Acc a))
+    ap (λ (a : StableProductFloatAcc). answerOf (Acc a))
     (simp (toZ-ofZ (s .fits .base)) at (c .reduce-full-range .ensures)
     ∙ ap (λ (l : FullTraversal). joinedPieces (piecesOf l (s .args .base) (s .args .values .now) (s .args .end) (s .args .start))) (layout-of b))
     ∙ sym (reduce-accepted (s .args .sizes .now) (s .args .strides .now) (s .args .base) (s .args .start) (s .args .end) (s .args .values .now) (accepted-range b))

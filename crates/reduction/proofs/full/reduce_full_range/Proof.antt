@@ -12,13 +12,13 @@ use mir.Val.{toZ, SFits}
 use mir.Facts.{toZ-ofZ}
 use mir.Syntax.{w64}
 use Rattle.offsets.specs.declared.pieces.RangeCursor.{RangeCursor}
-use Rattle.offsets.specs.Pieces.{rangeAt, OnRange}
+use Rattle.offsets.specs.InnerPieces.{rangeAt, OnRange}
 use Rattle.offsets.proofs.Stepping.{small-fits}
 use Rattle.offsets.proofs.Walking.{on-run}
-use Rattle.integers.specs.Checked.{eqZ}
-use Rattle.kernels.specs.Strided.{strided}
+use Rattle.integers.specs.Integers.{eqZ}
+use Rattle.kernels.specs.InnerStrided.{strided}
 use Rattle.kernels.specs.Pieces.{worked}
-use Rattle.reduction.specs.Ranges.{strip}
+use Rattle.reduction.specs.InnerStrips.{strip}
 use Rattle.reduction.proofs.Ranges.{Taken, taken, Reducing, near, reducing-first, reducing-more, reducing-all}
 use Rattle.reduction.proofs.Strips.{run-some, firstAxis, runs-inside, reducing-strip}
 use Rattle.reduction.proofs.full.reduce_full_range.Statement.{statement}

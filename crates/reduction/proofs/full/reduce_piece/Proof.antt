@@ -9,9 +9,9 @@ use lib.IntN.{ℤ, pos, natAbs}
 use mir.Val.{toZ, ofZ}
 use mir.Facts.{toZ-ofZ}
 use mir.Syntax.{w64}
-use Rattle.integers.specs.Checked.{eqZ}
+use Rattle.integers.specs.Integers.{eqZ}
 use Rattle.integers.proofs.Machine.{same-bits, ne-eqZ, pos-fits}
-use Rattle.kernels.specs.Strided.{strided, Inside}
+use Rattle.kernels.specs.InnerStrided.{strided, PlacesInside}
 use Rattle.kernels.specs.Blocks.{contiguous}
 use Rattle.kernels.specs.Pieces.{worked}
 use Rattle.kernels.proofs.Striding.{first-natural, strided-window, at-first, at-last}
@@ -20,17 +20,17 @@ use Rattle.reduction.proofs.full.reduce_piece.Statement.{statement}
 use Rattle.reduction.proofs.full.reduce_piece.Tie as tie
 use Rattle.reduction.proofs.full.reduce_piece.Reads as reads
 use Rattle.reduction.proofs.full.reduce_piece.Lts as lts
-use Rattle.rows.proofs.piece.stable_float_contiguous.Reads as stable-float-contiguous-reads
-use Rattle.rows.proofs.piece.lanes_strided.Reads as lanes-strided-reads
+use Rattle.vectors.proofs.piece.stable_float_contiguous.Reads as stable-float-contiguous-reads
+use Rattle.vectors.proofs.piece.lanes_strided.Reads as lanes-strided-reads
 
 -- at stride 1 the piece is a part of the slice
 one : (c : tie.Then1) → c .before .before .args .stride ≡ pos 1
 one c = same-bits _ (pos 1) (c .before .before .fits .stride) (pos-fits 1 (omega arith)) (c .if1 .taken)
 
-inside : (c : tie.Then1) → Inside (length (c .before .before .args .values .now)) (c .before .before .args .first) (pos 1) (c .before .before .args .len)
+inside : (c : tie.Then1) → PlacesInside (length (c .before .before .args .values .now)) (c .before .before .args .first) (pos 1) (c .before .before .args .len)
 inside c =
     let s = c .before .before in
-    subst (λ (z : ℤ). Inside (length (s .args .values .now)) (s .args .first) z (s .args .len)) (one c) (s .pre .1)
+    subst (λ (z : ℤ). PlacesInside (length (s .args .values .now)) (s .args .first) z (s .args .len)) (one c) (s .pre .1)
 
 ends : (c : tie.Then1) → natAbs (toZ w64 (ofZ w64 (c .before .before .args .first))) + c .before .before .args .len ≤ length (c .before .before .args .values .now)
 ends c =

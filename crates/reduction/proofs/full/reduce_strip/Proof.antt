@@ -11,14 +11,14 @@ use mir.Syntax.{w64}
 use mir.ValLaws.{toZ-ofZ}
 use Rattle.accumulator.specs.declared.StableProductFloatAcc.{StableProductFloatAcc}
 use Rattle.accumulator.specs.Joining.{combined}
-use Rattle.integers.specs.Checked.{eqZ}
+use Rattle.integers.specs.Integers.{eqZ}
 use Rattle.kernels.specs.Pieces.{worked}
-use Rattle.kernels.specs.Strided.{strided, Inside}
-use Rattle.kernels.specs.Stepped.{Sound}
+use Rattle.kernels.specs.InnerStrided.{strided, PlacesInside}
+use Rattle.kernels.specs.InnerStepped.{Sound}
 use Rattle.kernels.proofs.Sizes.{combined-size}
 use Rattle.kernels.proofs.Bounded.{combined-sound, worked-sound}
-use Rattle.rows.proofs.Feds.{strided-values}
-use Rattle.reduction.specs.Ranges.{strip}
+use Rattle.vectors.proofs.Feds.{strided-values}
+use Rattle.reduction.specs.InnerStrips.{strip}
 use Rattle.reduction.proofs.Pieces.{strided-near}
 use Rattle.reduction.proofs.Strips.{place-zero, place-next, place-fits, strip-first, strip-next}
 use Rattle.reduction.proofs.full.reduce_strip.Statement.{statement}
@@ -48,7 +48,7 @@ loop-holds c =
     )
 
 -- what is required, of the numbers as the code holds them
-inside : (c : tie.In-loop Inv-loop μ-loop) → let s = c .before .before .before in (j : ℕ) → j < s .args .count → Inside (length (s .args .values .now)) (toZ w64 (ofZ w64 (s .args .first)) +ℤ toZ w64 (ofZ w64 (s .args .step)) *ℤ pos j) (toZ w64 (ofZ w64 (s .args .stride))) (s .args .len)
+inside : (c : tie.In-loop Inv-loop μ-loop) → let s = c .before .before .before in (j : ℕ) → j < s .args .count → PlacesInside (length (s .args .values .now)) (toZ w64 (ofZ w64 (s .args .first)) +ℤ toZ w64 (ofZ w64 (s .args .step)) *ℤ pos j) (toZ w64 (ofZ w64 (s .args .stride))) (s .args .len)
 inside c =
     let s = c .before .before .before in
     simp (toZ-ofZ w64 (s .args .first) (s .fits .first), toZ-ofZ w64 (s .args .step) (s .fits .step), toZ-ofZ w64 (s .args .stride) (s .fits .stride)) (s .pre .4)
@@ -59,7 +59,7 @@ reduce-piece-requires c κs =
     let t = c .before in
     let s = t .before .before in (
       s .pre .0,
-      subst (λ (z : ℤ). Inside (length (s .args .values .now)) z (toZ w64 (ofZ w64 (s .args .stride))) (s .args .len)) (sym (t .loop .inv .1 (c .loop-test .taken))) (inside c (t .loop .j) (c .loop-test .taken)),
+      subst (λ (z : ℤ). PlacesInside (length (s .args .values .now)) z (toZ w64 (ofZ w64 (s .args .stride))) (s .args .len)) (sym (t .loop .inv .1 (c .loop-test .taken))) (inside c (t .loop .j) (c .loop-test .taken)),
       s .pre .1,
     )
 

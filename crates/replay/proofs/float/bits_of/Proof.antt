@@ -1,7 +1,7 @@
 -- `replay::float::bits_of` meets its contract. What does not differ from itself is no NaN.
 -- Assumes nothing.
 use borrow.Author.Needs.{needs}
-use Rattle.binary64.proofs.Splitting.{number-is}
+use Rattle.floats.proofs.Splitting.{number-is}
 use Rattle.replay.proofs.float.bits_of.Statement.{statement}
 use Rattle.replay.proofs.float.bits_of.Tie as tie
 

@@ -14,7 +14,8 @@ use mir.Facts.{toZ-ofZ}
 use borrow.Author.Tests.{not-true, not-false}
 use Rattle.layout.specs.declared.traversal.FullTraversal.{FullTraversal}
 use Rattle.layout.specs.declared.traversal.Compiled.{Compiled}
-use Rattle.layout.specs.Axes.{PLACES, held}
+use Rattle.layout.specs.Axes.{PLACES}
+use Rattle.layout.specs.InnerTables.{tableAxes}
 use Rattle.layout.specs.Compile.{totalOf, layoutOf, emptyLayout, traversalOf, compileOf}
 use Rattle.layout.proofs.Compiling.{total-yes, total-no, no-elements, no-resets, ordered-held, no-fusing, fused-held, is-layout, code-1, code-2, code-3, code-4, code-0}
 use Rattle.layout.proofs.Line.{single}
@@ -35,7 +36,7 @@ counted c = let s = c .before .before .before .before .before .before .before in
 
 -- the layout, where every check holds
 compiled : (c : tie.Else7) → traversalOf (c .before .before .before .before .before .before .before .before .before .before .before .before .before .before .args .sizes .now) (c .before .before .before .before .before .before .before .before .before .before .before .before .before .before .args .strides .now)
-    ≡ some (layoutOf (c .before .before .before .before .before .before .before .before .before .checked-total .result .value) (held (c .before .before .compress-reduce-outer-axes .result .table)))
+    ≡ some (layoutOf (c .before .before .before .before .before .before .before .before .before .checked-total .result .value) (tableAxes (c .before .before .compress-reduce-outer-axes .result .table)))
 compiled c =
     let f = c .before .before in
     let o = f .before .before .before in

@@ -13,7 +13,7 @@ use mir.Facts.{toZ-ofZ}
 use mir.Syntax.{w64}
 use Rattle.layout.specs.Axes.{PLACES, noAxis}
 use Rattle.layout.proofs.Tables.{take-from}
-use Rattle.offsets.specs.Cursors.{Axis}
+use Rattle.offsets.specs.InnerCursors.{Axis}
 use Rattle.offsets.proofs.Stepping.{Advancing, advancing-none, advance-axis, advance-digit, advance-here, step-small, advanced-step, reset-small, advancing-more, advanced-all, Small, small-fits, axis-small}
 use Rattle.offsets.proofs.cursor.ReduceOuterCursor.advance.Statement.{statement}
 use Rattle.offsets.proofs.cursor.ReduceOuterCursor.advance.Tie as tie

@@ -12,7 +12,7 @@ use mir.Syntax.{w64}
 use lib.Seq.{length-take-le}
 use native.Mathlib.Nat.{mod-lt}
 use Rattle.layout.specs.Axes.{PLACES, noAxis}
-use Rattle.offsets.specs.Cursors.{Axis}
+use Rattle.offsets.specs.InnerCursors.{Axis}
 use Rattle.layout.proofs.Tables.{take-from}
 use Rattle.integers.proofs.Machine.{pos-fits, toZ-small}
 use Rattle.offsets.proofs.Stepping.{Decoded, decoded-none, decode-axis, decode-here, decode-next, decoded-more, decoded-all, Small, small-fits, share-fits, axis-small}

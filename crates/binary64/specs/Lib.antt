@@ -1,7 +1,0 @@
--- The numbers, as the standard and the paper have them. Definitions only.
-pub mod Rounding
-pub mod Product
-pub mod Factor
-pub mod Magnitude
-pub mod Fields
-pub mod Splitting

@@ -1,0 +1,7 @@
+-- The numbers, as the standard and the paper have them. Definitions only.
+pub mod Rounding
+pub mod Product
+pub mod Factor
+pub mod Fields
+pub mod Magnitude
+pub mod Splitting

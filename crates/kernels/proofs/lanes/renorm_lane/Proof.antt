@@ -1,0 +1,59 @@
+-- `kernels::lanes::renorm_lane` meets its contract. Assumes nothing.
+use borrow.Author.Needs.{needs}
+use Rattle.kernels.specs.Blocks.{mOf}
+use Rattle.kernels.proofs.Stepwise.{added-fits, renorm-one}
+use Rattle.kernels.proofs.lanes.renorm_lane.Statement.{statement}
+use Rattle.kernels.proofs.lanes.renorm_lane.Tie as tie
+
+mul-split-f64 : tie.Need-mul-split-f64
+mul-split-f64 c = search needs
+
+element-copy-out-split-f64 : tie.Need-element-copy-out-split-f64
+element-copy-out-split-f64 c = search needs
+
+split-f64-requires : tie.Need-split-f64-requires
+split-f64-requires c κs = search needs
+
+mul-t : tie.Need-mul-t
+mul-t c = search needs
+
+element-write-t : tie.Need-element-write-t
+element-write-t c = search needs
+
+mul-t-2 : tie.Need-mul-t-2
+mul-t-2 c = search needs
+
+element-copy-out-t : tie.Need-element-copy-out-t
+element-copy-out-t c = search needs
+
+add-t : tie.Need-add-t
+add-t c =
+    let s = c .before .before .before .before .before in
+    added-fits (s .args .s) (s .pre .1) (mOf (s .args .s) (s .args .k)) (c .before .before .before .split-f64 .result) (c .before .before .before .split-f64 .ensures) (s .args .k)
+
+mul-t15 : tie.Need-mul-t15
+mul-t15 c = search needs
+
+element-set-from-t : tie.Need-element-set-from-t
+element-set-from-t c = search needs
+
+returns : tie.Need-returns
+returns c =
+    let s = c .before .before .before .before .before in
+    renorm-one (s .args .s) (s .pre .1) (s .args .k) (c .before .before .before .split-f64 .result) (c .before .before .before .split-f64 .ensures)
+
+pub renorm-lane-spec : {M : Type 1} → statement M
+renorm-lane-spec =
+    tie.close
+    (tie.spec
+    mul-split-f64
+    element-copy-out-split-f64
+    split-f64-requires
+    mul-t
+    element-write-t
+    mul-t-2
+    element-copy-out-t
+    add-t
+    mul-t15
+    element-set-from-t
+    returns)

@@ -1,0 +1,43 @@
+-- Inner: what it is for a float and an exponent, or for eight lanes of them, to represent factors of the whole-number rule (W1), whatever way they came.
+use Prim.Native.Nat.{ℕ, _≤_, _<_}
+use mathlib.Core.List.{List, map}
+use mathlib.Core.Bool.{_||_}
+use lib.ListN.{length, getD, take, drop}
+use lib.IntN.{ℤ, natAbs, _+ℤ_}
+use lib.Ieee.{Float}
+use mathlib.Core.Path.{_≡_}
+use Rattle.floats.specs.Splitting.{isBad, rateFactor}
+use Rattle.kernels.specs.declared.lanes.Lanes.{Lanes}
+use Rattle.kernels.specs.Lanes.{feed, some}
+use Rattle.floats.specs.Factor.{Factor, Normalised, unit, floatOf}
+use Rattle.floats.specs.Magnitude.{withExponent}
+use Rattle.kernels.specs.Plain.{laneTimes}
+use Rattle.kernels.specs.Blocks.{mOf, eOf}
+
+-- no lane's exponent is past n, either way
+pub record SmallLanes (n : ℕ) (s : Lanes) : Type 0 where
+  pub at : (k : ℕ) → natAbs (eOf s k) ≤ n
+
+-- n values of a list, from number `at` on
+abbrev pub window : {X : Type 0} → List X → ℕ → ℕ → List X
+window xs at n = take n (drop at xs)
+
+-- m is the factor's float at an exponent `off`, at most B either way, and e and `off` make up the factor's exponent
+pub record Represents (B : ℕ) (m : Float) (e : ℤ) (f : Factor) : Type 0 where
+  pub off : ℤ
+  pub near : natAbs off ≤ B
+  pub m-is : m ≡ floatOf 11 52 (withExponent f off)
+  pub e-is : f .exp ≡ e +ℤ off
+  pub normal : Normalised 52 f
+
+-- eight lanes stand for eight factors, lane k within b k of [1, 2)
+pub record LanesRepresent (b : ℕ → ℕ) (s : Lanes) (fs : List Factor) : Type 0 where
+  pub m-long : length (s .m) ≡ 8
+  pub e-long : length (s .e) ≡ 8
+  pub f-long : length fs ≡ 8
+  pub at : (k : ℕ) → k < 8 → Represents (b k) (mOf s k) (eOf s k) (getD fs k (unit 52))
+
+-- r is what lanes s in [1, 2) become by the values xs, in whatever way: the factors are the plain lanes', in [1, 2) again, and the mark is set by every bad value
+pub record LanesAfter (s : Lanes) (xs : List Float) (r : Lanes) : Type 0 where
+  pub held : (fs : List Factor) → LanesRepresent (λ (k : ℕ). 0) s fs → LanesRepresent (λ (k : ℕ). 0) r (feed (laneTimes 52) 0 fs (map rateFactor xs))
+  pub mark : (fs : List Factor) → LanesRepresent (λ (k : ℕ). 0) s fs → r .bad ≡ (s .bad || some isBad xs)

@@ -1,0 +1,180 @@
+-- What values make of lanes: one list after another, whole vectors, and the product at the end. Assumes nothing.
+use Prim.Native.Nat.{ℕ, zero, suc, _+_, _-_, _*_, _%_, _^_, _≤_, _<_, zero-le}
+use mathlib.Core.Path.{_≡_, refl, sym, ap, _∙_, subst}
+use mathlib.Core.Bool.{Bool, true, false, _||_}
+use mathlib.Core.List.{List, [], _∷_, _++_, map, map-append}
+use mathlib.Core.Logic.{_⊎_, inl, inr}
+use native.Mathlib.Nat.{le-trans, zero-add}
+use native.Mathlib.Omega.{arith}
+use lib.ListN.{length, getD, set, replicate, length-map, length-append, length-replicate}
+use lib.Seq.{set-getD}
+use lib.IntN.{ℤ, pos, natAbs, _+ℤ_, _*ℤ_}
+use lib.Dec.{T, ltb, lit≤}
+use borrow.Author.Tests.{ltb-true, ltb-false}
+use lib.Ieee.{Float, nan, fin, binary64, fits, isNan, toBits, size, odd}
+use Rattle.floats.specs.Factor.{Factor, Normalised, unit, times}
+use Rattle.floats.specs.Splitting.{isBad, rateFactor, split}
+use Rattle.floats.proofs.Factor.{times-unit-right}
+use Rattle.floats.proofs.Splitting.{rate-normal}
+use Rattle.accumulator.specs.declared.StableProductFloatAcc.{StableProductFloatAcc}
+use Rattle.kernels.specs.declared.lanes.Lanes.{Lanes}
+use Rattle.kernels.specs.Lanes.{Each, none, more, feed, laneOf, inOrder, every, some}
+use Rattle.kernels.specs.Plain.{laneTimes, lanes, pieceProduct}
+use Rattle.kernels.specs.Pieces.{GoodRate, accOf}
+use Rattle.kernels.specs.Blocks.{startLanes, mOf, eOf, contiguous}
+use Rattle.kernels.specs.InnerLanes.{SmallLanes, Represents, LanesRepresent, LanesAfter}
+use Rattle.kernels.specs.Stepped.{stepped}
+use Rattle.kernels.specs.InnerStrided.{strided}
+use Rattle.kernels.proofs.Feeding.{feed-append, feed-eights, each-map, each-of, some-append, some-none, or-none, or-assoc}
+use Rattle.kernels.proofs.Factors.{NormalLanes, lane-normal, lane-lt, times-again}
+use Rattle.kernels.proofs.Standing.{stands-split, stands-acc}
+use Rattle.kernels.proofs.Stepping.{stepped-agrees}
+use Rattle.kernels.proofs.Blocking.{Value, each-rate, held-start, contiguous-is, contiguous-mark, contiguous-agrees}
+use Rattle.kernels.proofs.Striding.{length-strided}
+use Rattle.kernels.proofs.Bounded.{Short, lane-size, rate-short}
+use Rattle.vectors.specs.declared.vector.Waiting.{Waiting}
+use Rattle.vectors.specs.InnerWaiting.{one, padded, waitStep, notBelow, notPast, startWaiting, chained, exponentsOf, lanesProduct}
+use Rattle.vectors.proofs.Vectorwise.{strided-append}
+use Rattle.vectors.proofs.Chaining.{chain-stands}
+
+getD-past : {A : Type 0} (l : List A) (k : ℕ) (d : A) → length l ≤ k → getD l k d ≡ d
+getD-past [] k d h = refl
+getD-past (x ∷ l) zero d h = absurd (omega arith)
+getD-past (x ∷ l) (suc k) d h = getD-past l k d (omega arith)
+
+abbrev zeros : ℕ → ℕ
+zeros k = 0
+
+-- ---- one list after another
+pub fed-append : (s r q : Lanes) (xs ys : List Float) (n : ℕ) → length xs ≡ 8 * n → LanesAfter s xs r → LanesAfter r ys q → LanesAfter s (xs ++ ys) q
+fed-append s r q xs ys n l F G = record {
+  held = λ fs H. subst (LanesRepresent zeros q) (sym (whole fs)) (G .held (feed (laneTimes 52) 0 fs (map rateFactor xs)) (F .held fs H));
+  mark = λ fs H.
+      G .mark (feed (laneTimes 52) 0 fs (map rateFactor xs)) (F .held fs H)
+      ∙ ap (λ (b : Bool). b || some isBad ys) (F .mark fs H)
+      ∙ or-assoc (s .bad) (some isBad xs) (some isBad ys)
+      ∙ ap (λ (b : Bool). s .bad || b) (sym (some-append isBad xs ys));
+}
+  where
+    eights : 0 + length (map rateFactor xs) ≡ 8 * n
+    eights = zero-add (length (map rateFactor xs)) ∙ length-map xs rateFactor ∙ l
+
+    whole : (fs : List Factor) → feed (laneTimes 52) 0 fs (map rateFactor (xs ++ ys)) ≡ feed (laneTimes 52) 0 (feed (laneTimes 52) 0 fs (map rateFactor xs)) (map rateFactor ys)
+    whole fs =
+        ap (feed (laneTimes 52) 0 fs) (map-append rateFactor xs ys)
+        ∙ feed-append (laneTimes 52) 0 fs (map rateFactor xs) (map rateFactor ys)
+        ∙ ap (λ (k : ℕ). feed (laneTimes 52) k (feed (laneTimes 52) 0 fs (map rateFactor xs)) (map rateFactor ys)) eights
+        ∙ feed-eights (laneTimes 52) (times-again 52) n (feed (laneTimes 52) 0 fs (map rateFactor xs)) (map rateFactor ys)
+
+-- no value changes nothing
+pub fed-none : (s : Lanes) → LanesAfter s [] s
+unfolding feed some
+fed-none s = record { held = λ fs H. H; mark = λ fs H. sym (or-none (s .bad)) }
+
+-- ---- 1.0 changes nothing
+one-rate : rateFactor one ≡ unit 52
+unfolding rateFactor toBits size odd
+one-rate = refl
+
+one-good : isBad one ≡ false
+unfolding isBad toBits size odd
+one-good = refl
+
+ones-times : (n i : ℕ) (gs : List Factor) → ((k : ℕ) → k < 8 → Normalised 52 (getD gs k (unit 52))) → feed (laneTimes 52) i gs (map rateFactor (replicate n one)) ≡ gs
+unfolding feed
+ones-times zero i gs N = refl
+ones-times (suc n) i gs N =
+    let k = laneOf i in
+    ap (λ (g : List Factor). feed (laneTimes 52) (suc i) g (map rateFactor (replicate n one)))
+    (ap (λ (f : Factor). set gs k (times 52 (getD gs k (unit 52)) f)) one-rate
+    ∙ ap (set gs k) (times-unit-right 52 (getD gs k (unit 52)) (N k (lane-lt i)))
+    ∙ set-getD gs k (unit 52))
+    ∙ ones-times n (suc i) gs N
+
+ones-good : (n : ℕ) → some isBad (replicate n one) ≡ false
+unfolding some
+ones-good zero = refl
+ones-good (suc n) = ap (λ (b : Bool). b || some isBad (replicate n one)) one-good ∙ ones-good n
+
+-- the plain lanes of values with 1.0 after them
+pub ones-after : (fs : List Factor) (xs : List Float) (n : ℕ) → ((k : ℕ) → k < 8 → Normalised 52 (getD (feed (laneTimes 52) 0 fs (map rateFactor xs)) k (unit 52)))
+    → feed (laneTimes 52) 0 fs (map rateFactor (xs ++ replicate n one)) ≡ feed (laneTimes 52) 0 fs (map rateFactor xs)
+ones-after fs xs n N =
+    ap (feed (laneTimes 52) 0 fs) (map-append rateFactor xs (replicate n one))
+    ∙ feed-append (laneTimes 52) 0 fs (map rateFactor xs) (map rateFactor (replicate n one))
+    ∙ ones-times n (0 + length (map rateFactor xs)) (feed (laneTimes 52) 0 fs (map rateFactor xs)) N
+
+pub fed-normal : (i : ℕ) (fs : List Factor) (xs : List Float) → NormalLanes 52 fs → NormalLanes 52 (feed (laneTimes 52) i fs (map rateFactor xs))
+unfolding feed
+fed-normal i fs [] N = N
+fed-normal i fs (x ∷ xs) N = fed-normal (suc i) (laneTimes 52 i fs (rateFactor x)) xs (lane-normal 52 i fs (rateFactor x) (rate-normal x) N)
+
+held-normal : (s : Lanes) (fs : List Factor) → LanesRepresent zeros s fs → NormalLanes 52 fs
+held-normal s fs H = record { long = H .f-long; at = λ k i. H .at k i .normal }
+
+pub fed-pad : (s r : Lanes) (xs : List Float) (n : ℕ) → LanesAfter s (xs ++ replicate n one) r → LanesAfter s xs r
+fed-pad s r xs n F = record {
+  held = λ fs H. subst (LanesRepresent zeros r) (ones-after fs xs n (fed-normal 0 fs xs (held-normal s fs H) .at)) (F .held fs H);
+  mark = λ fs H.
+      F .mark fs H
+      ∙ ap (λ (b : Bool). s .bad || b) (some-append isBad xs (replicate n one) ∙ ap (λ (b : Bool). some isBad xs || b) (ones-good n) ∙ or-none (some isBad xs));
+}
+
+-- ---- from the start
+module _ (xs : List Float) (r : Lanes) (F : LanesAfter startLanes xs r) where
+  held : LanesRepresent zeros r (lanes 52 (map rateFactor xs))
+  unfolding lanes
+  held = F .held (replicate 8 (unit 52)) held-start
+
+  mark : r .bad ≡ some isBad xs
+  mark = F .mark (replicate 8 (unit 52)) held-start
+
+  pub fed-eight : length (r .m) ≡ 8
+  fed-eight = held .m-long
+
+  -- a lane's exponent is its factor's
+  lane-exponent : (k : ℕ) → k < 8 → eOf r k ≡ getD (lanes 52 (map rateFactor xs)) k (unit 52) .exp
+  lane-exponent k i = let s = held .at k i in ap (λ (a : StableProductFloatAcc). a .e) (stands-acc (mOf r k) (eOf r k) (getD (lanes 52 (map rateFactor xs)) k (unit 52)) s)
+
+  short-rates : (ys : List Float) → Each (Short 52 1024) (map rateFactor ys)
+  short-rates [] = none
+  short-rates (y ∷ ys) = more (rate-short y) (short-rates ys)
+
+  pub fed-small : (n : ℕ) → 1025 * length xs ≤ n → SmallLanes n r
+  fed-small n h = record { at = λ k. go k (ltb k 8) refl }
+    where
+      far : (k : ℕ) → 8 ≤ k → eOf r k ≡ pos 0
+      far k l = getD-past (r .e) k (pos 0) (subst (λ (m : ℕ). m ≤ k) (sym (held .e-long)) l)
+
+      go : (k : ℕ) (b : Bool) → ltb k 8 ≡ b → natAbs (eOf r k) ≤ n
+      go k true e =
+          subst (λ (z : ℤ). natAbs z ≤ n) (sym (lane-exponent k (ltb-true k 8 e)))
+          (le-trans (lane-size 52 1024 (short-rates xs) k) (subst (λ (m : ℕ). 1025 * m ≤ n) (sym (length-map xs rateFactor)) h))
+      go k false e = subst (λ (z : ℤ). natAbs z ≤ n) (sym (far k (ltb-false k 8 e))) zero-le
+
+  -- the lanes multiplied are the piece in blocks of 64
+  pub fed-contiguous : Each Value xs → lanesProduct r ≡ contiguous xs
+  unfolding lanesProduct pieceProduct
+  fed-contiguous v =
+      let p = chained (r .m) in
+      let S = stands-split 8 p (exponentsOf r) (pieceProduct 52 (map rateFactor xs)) (lit≤ tt) (chain-stands r (lanes 52 (map rateFactor xs)) held) in
+      ap (λ (a : StableProductFloatAcc). record { m = a .m; e = a .e; bad = r .bad }) (stands-acc (split p .m) (exponentsOf r +ℤ split p .e) (pieceProduct 52 (map rateFactor xs)) S)
+      ∙ ap (λ (b : Bool). record { m = accOf (pieceProduct 52 (map rateFactor xs)) .m; e = pieceProduct 52 (map rateFactor xs) .exp; bad = b }) mark
+      ∙ sym (contiguous-is v)
+
+-- with no bad value, stepped lanes give the same
+pub unmarked-stepped : (xs : List Float) → Each Value xs → contiguous xs .bad ≡ false → contiguous xs ≡ stepped xs
+unmarked-stepped xs v e = contiguous-agrees rates ∙ sym (stepped-agrees rates)
+  where
+    rates : Each GoodRate xs
+    rates = each-rate v (sym (contiguous-mark xs v) ∙ e)
+
+-- ---- the values of a slice of f64 are values of binary64, and so are those that lie a stride apart
+pub strided-values : (xs : List Float) → ((i : ℕ) → T (fits binary64 (getD xs i nan))) → (s d : ℤ) (n : ℕ) → Each Value (strided xs s d n)
+unfolding strided
+strided-values xs v s d zero = none
+strided-values xs v s d (suc n) = more (v (natAbs s)) (strided-values xs v (s +ℤ d) d n)
+
+-- the lanes of at most 2^40 values are far from the ends of i64
+pub vectors-small : (xs : List Float) (b d : ℤ) (n : ℕ) (s : Lanes) → n ≤ 2 ^ 40 → LanesAfter startLanes (strided xs b d n) s → SmallLanes (2 ^ 56) s
+vectors-small xs b d n s h F = fed-small (strided xs b d n) s F (2 ^ 56) (subst (λ (m : ℕ). 1025 * m ≤ 2 ^ 56) (sym (length-strided xs b d n)) (omega arith))

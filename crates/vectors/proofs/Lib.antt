@@ -1,0 +1,12 @@
+-- Laws of vectors of eight values and of lanes that wait.
+pub mod Vectorwise
+pub mod Vectors
+pub mod Squares
+pub mod Waits
+pub mod Waiting
+pub mod Chaining
+pub mod Guarding
+pub mod Mixed
+pub mod Feds
+pub mod Shorts
+pub mod Stepping

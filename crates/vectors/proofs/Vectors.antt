@@ -1,0 +1,166 @@
+-- Vectors of eight values, one after another: a step that goes by the number mod 8 may begin anew with each vector. Assumes nothing.
+use Prim.Native.Nat.{ℕ, suc, _+_, _-_, _*_, _/_, _%_, _^_, _≤_, zero-le}
+use mathlib.Core.Path.{_≡_, refl, sym, ap, _∙_, subst}
+use mathlib.Core.List.{List, [], _∷_, _++_, append-nil, append-assoc}
+use native.Mathlib.Nat.{zero-add, le-trans, add-le-add}
+use native.Mathlib.Omega.{arith}
+use lib.ListN.{length, getD, set, replicate, length-set, length-replicate}
+use lib.IntN.{ℤ, pos, natAbs, _+ℤ_, _*ℤ_}
+use lib.Dec.{lit≤}
+use lib.Ieee.{Float, nan}
+use mir.Val.{SFits, toZ, ofZ}
+use mir.Syntax.{w64}
+use Rattle.integers.proofs.Difference.{ints, atoms}
+use Rattle.floats.specs.declared.Split.{Split}
+use Rattle.floats.specs.Product.{productOf}
+use Rattle.floats.specs.Splitting.{split}
+use Rattle.floats.proofs.Factor.{add-size}
+use Rattle.accumulator.specs.declared.StableProductFloatAcc.{StableProductFloatAcc}
+use Rattle.accumulator.proofs.Exponents.{held, sum-fits, sum-held}
+use Rattle.kernels.specs.declared.lanes.Lanes.{Lanes}
+use Rattle.kernels.specs.Lanes.{feed, laneOf, inOrder}
+use Rattle.kernels.specs.Blocks.{eOf}
+use Rattle.kernels.specs.InnerLanes.{SmallLanes}
+use Rattle.kernels.specs.InnerStrided.{strided, PlacesInside}
+use Rattle.kernels.proofs.Factors.{lane-again}
+use Rattle.kernels.proofs.Feeding.{feed-append, feed-eights, order-keeps}
+use Rattle.kernels.proofs.Sizes.{split-size}
+use Rattle.kernels.proofs.Striding.{length-strided}
+use Rattle.vectors.specs.declared.vector.Waiting.{Waiting}
+use Rattle.vectors.specs.InnerWaiting.{square, one, put, vectorOf, lesser, waitStep, chained, exponentsOf, lanesProduct, padded}
+use Rattle.vectors.proofs.Vectorwise.{strided-append}
+
+-- ---- a vector
+-- the values, and 1.0 in the lanes that are left
+pub vector-padded : (xs : List Float) → length xs ≤ 8 → vectorOf xs ≡ xs ++ replicate (8 - length xs) one
+unfolding vectorOf feed
+vector-padded [] h = refl
+vector-padded (a ∷ []) h = refl
+vector-padded (a ∷ b ∷ []) h = refl
+vector-padded (a ∷ b ∷ c ∷ []) h = refl
+vector-padded (a ∷ b ∷ c ∷ d ∷ []) h = refl
+vector-padded (a ∷ b ∷ c ∷ d ∷ e ∷ []) h = refl
+vector-padded (a ∷ b ∷ c ∷ d ∷ e ∷ f ∷ []) h = refl
+vector-padded (a ∷ b ∷ c ∷ d ∷ e ∷ f ∷ g ∷ []) h = refl
+vector-padded (a ∷ b ∷ c ∷ d ∷ e ∷ f ∷ g ∷ x ∷ []) h = refl
+vector-padded (a ∷ b ∷ c ∷ d ∷ e ∷ f ∷ g ∷ x ∷ y ∷ xs) h = absurd (omega arith)
+
+-- a whole vector
+pub vector-full : (xs : List Float) → length xs ≡ 8 → vectorOf xs ≡ xs
+vector-full xs h = vector-padded xs (omega arith) ∙ ap (λ (n : ℕ). xs ++ replicate n one) (let e : 8 - length xs ≡ 0 = omega arith in e) ∙ append-nil xs
+
+pub vector-whole : (xs : List Float) (s d : ℤ) → vectorOf (strided xs s d 8) ≡ strided xs s d 8
+vector-whole xs s d = vector-full (strided xs s d 8) (length-strided xs s d 8)
+
+-- eight lanes, whatever is put there
+pub vector-long : (xs : List Float) → length (vectorOf xs) ≡ 8
+unfolding vectorOf feed
+vector-long xs = go 0 (replicate 8 one) xs ∙ length-replicate 8 one
+  where
+    go : (k : ℕ) (vector xs : List Float) → length (feed put k vector xs) ≡ length vector
+    go k vector [] = refl
+    go k vector (x ∷ xs) = go (suc k) (set vector k x) xs ∙ length-set vector k x
+
+-- ---- places
+pub place-vector : (s d : ℤ) (i : ℕ) → s +ℤ d *ℤ pos (8 * i) +ℤ d *ℤ pos 8 ≡ s +ℤ d *ℤ pos (8 * (i + 1))
+place-vector s d i = simp ints (simp atoms (omega arith))
+
+pub inside-less : (len : ℕ) (s d : ℤ) (n m : ℕ) → PlacesInside len s d n → m ≤ n → PlacesInside len s d m
+inside-less len s d n m h l = record { least = λ i b. h .least i (omega arith); most = λ i b. h .most i (omega arith) }
+
+-- ---- steps that go by the number mod 8
+module _ {S : Type 0} (step : ℕ → S → Float → S) (again : (i : ℕ) (s : S) (x : Float) → step (i + 8) s x ≡ step i s x) (w t u : S) where
+  -- more values after i vectors
+  pub vectors-then : (xs ys : List Float) (i : ℕ) → length xs ≡ 8 * i → t ≡ feed step 0 w xs → u ≡ feed step 0 t ys → u ≡ feed step 0 w (xs ++ ys)
+  vectors-then xs ys i h p q =
+      q
+      ∙ ap (λ (v : S). feed step 0 v ys) p
+      ∙ sym (feed-eights step again i (feed step 0 w xs) ys)
+      ∙ ap (λ (n : ℕ). feed step n (feed step 0 w xs) ys) (sym (zero-add (length xs) ∙ h))
+      ∙ sym (feed-append step 0 w xs ys)
+
+  -- one vector more of values a stride apart
+  pub vectors-more : (xs : List Float) (s d : ℤ) (i : ℕ) → t ≡ feed step 0 w (strided xs s d (8 * i)) → u ≡ feed step 0 t (strided xs (s +ℤ d *ℤ pos (8 * i)) d 8) → u ≡ feed step 0 w (strided xs s d (8 * (i + 1)))
+  vectors-more xs s d i p q =
+      vectors-then (strided xs s d (8 * i)) (strided xs (s +ℤ d *ℤ pos (8 * i)) d 8) i (length-strided xs s d (8 * i)) p q
+      ∙ ap (feed step 0 w) (sym (strided-append xs s d (8 * i) 8) ∙ ap (strided xs s d) (let e : 8 * i + 8 ≡ 8 * (i + 1) = omega arith in e))
+
+-- ---- lanes that wait
+pub wait-again : (i : ℕ) (w : Waiting) (x : Float) → waitStep (i + 8) w x ≡ waitStep i w x
+unfolding waitStep
+wait-again i w x = ap (λ (k : ℕ). record { m = set (w .m) k (productOf 11 52 (getD (w .m) k nan) x); least = set (w .least) k (lesser (square x) (getD (w .least) k nan)) }) (lane-again i)
+
+pub wait-m-long : (i : ℕ) (w : Waiting) (xs : List Float) → length (feed waitStep i w xs .m) ≡ length (w .m)
+unfolding feed waitStep
+wait-m-long i w [] = refl
+wait-m-long i w (x ∷ xs) = wait-m-long (suc i) (waitStep i w x) xs ∙ length-set (w .m) (laneOf i) (productOf 11 52 (getD (w .m) (laneOf i) nan) x)
+
+pub wait-least-long : (i : ℕ) (w : Waiting) (xs : List Float) → length (feed waitStep i w xs .least) ≡ length (w .least)
+unfolding feed waitStep
+wait-least-long i w [] = refl
+wait-least-long i w (x ∷ xs) = wait-least-long (suc i) (waitStep i w x) xs ∙ length-set (w .least) (laneOf i) (lesser (square x) (getD (w .least) (laneOf i) nan))
+
+-- ---- a piece that is vectors and then fewer than eight values
+module _ (xs : List Float) (s d : ℤ) (n : ℕ) where
+  -- no value is left
+  pub vectors-padded : n % 8 ≡ 0 → strided xs s d (8 * (n / 8)) ≡ padded (strided xs s d n)
+  vectors-padded h =
+      ap (strided xs s d) (let e : 8 * (n / 8) ≡ n = omega arith in e)
+      ∙ sym (ap (λ (k : ℕ). strided xs s d n ++ replicate k one) (ap (λ (k : ℕ). 7 - (k + 7) % 8) (length-strided xs s d n) ∙ (let e : 7 - (n + 7) % 8 ≡ 0 = omega arith in e)) ∙ append-nil (strided xs s d n))
+
+  -- the values that are left are a vector by themselves
+  pub rest-padded : (n % 8 ≡ 0 → ⊥) → strided xs s d (8 * (n / 8)) ++ vectorOf (strided xs (s +ℤ d *ℤ pos (8 * (n / 8))) d (n % 8)) ≡ padded (strided xs s d n)
+  rest-padded h =
+      ap (λ (l : List Float). A ++ l) (vector-padded B (rw (length-strided xs (s +ℤ d *ℤ pos (8 * (n / 8))) d (n % 8)) (omega arith)))
+      ∙ sym (append-assoc A B (replicate (8 - length B) one))
+      ∙ ap (λ (l : List Float). l ++ replicate (8 - length B) one) (sym (strided-append xs s d (8 * (n / 8)) (n % 8)) ∙ ap (strided xs s d) (let e : 8 * (n / 8) + n % 8 ≡ n = omega arith in e))
+      ∙ ap (λ (k : ℕ). strided xs s d n ++ replicate k one) (ap (λ (k : ℕ). 8 - k) (length-strided xs (s +ℤ d *ℤ pos (8 * (n / 8))) d (n % 8)) ∙ (let e : 8 - n % 8 ≡ 7 - (n + 7) % 8 = omega (arith, h) in e) ∙ ap (λ (k : ℕ). 7 - (k + 7) % 8) (sym (length-strided xs s d n)))
+    where
+      A : List Float
+      A = strided xs s d (8 * (n / 8))
+
+      B : List Float
+      B = strided xs (s +ℤ d *ℤ pos (8 * (n / 8))) d (n % 8)
+
+-- ---- the lanes' exponents, added
+-- lane k's exponent added
+abbrev pub plus : Lanes → ℕ → ℤ → ℤ
+plus s k e = e +ℤ eOf s k
+
+module _ (n : ℕ) (s : Lanes) (h : SmallLanes n s) where
+  pub some-exponents-size : (k : ℕ) → natAbs (inOrder (plus s) k (pos 0)) ≤ n * k
+  some-exponents-size k =
+      order-keeps (plus s) (λ (k : ℕ) (z : ℤ). natAbs z ≤ n * k) k (λ j z l r. le-trans (add-size z (eOf s j)) (le-trans (add-le-add r (h .at j)) (omega arith))) (pos 0) zero-le
+
+  pub exponents-size : natAbs (exponentsOf s) ≤ n * 8
+  unfolding exponentsOf
+  exponents-size = some-exponents-size 8
+
+-- y added, on the machine, to what is x there
+module _ (x y z : ℤ) (e : z ≡ x) (hx : natAbs x ≤ 2 ^ 61) (hy : natAbs y ≤ 2 ^ 61) where
+  same : z ≡ toZ w64 (ofZ w64 x)
+  same = e ∙ sym (held x y hx hy x hx)
+
+  pub next-sum-fits : SFits w64 (z +ℤ toZ w64 (ofZ w64 y))
+  next-sum-fits = subst (λ (v : ℤ). SFits w64 (v +ℤ toZ w64 (ofZ w64 y))) (sym same) (sum-fits x y hx hy)
+
+  pub next-sum-held : toZ w64 (ofZ w64 (z +ℤ toZ w64 (ofZ w64 y))) ≡ x +ℤ y
+  next-sum-held = ap (λ (v : ℤ). toZ w64 (ofZ w64 (v +ℤ toZ w64 (ofZ w64 y)))) same ∙ sum-held x y hx hy
+
+-- ---- the lanes multiplied in order, from what the code has: the exponents z, and p, the split of the product q
+module _ (s : Lanes) (h : SmallLanes (2 ^ 56) s) (z : ℤ) (p : Split) (q : Float) (e : z ≡ exponentsOf s) (c : q ≡ chained (s .m)) (d : p ≡ split q) where
+  sum-small : natAbs z ≤ 2 ^ 61
+  sum-small = subst (λ (v : ℤ). natAbs v ≤ 2 ^ 61) (sym e) (le-trans (exponents-size (2 ^ 56) s h) (lit≤ tt))
+
+  split-small : natAbs (p .e) ≤ 2 ^ 61
+  split-small = subst (λ (r : Split). natAbs (r .e) ≤ 2 ^ 61) (sym d) (le-trans (split-size q) (lit≤ tt))
+
+  pub product-fits : SFits w64 (toZ w64 (ofZ w64 z) +ℤ toZ w64 (ofZ w64 (p .e)))
+  product-fits = sum-fits z (p .e) sum-small split-small
+
+  pub product-is : _≡_ {A = StableProductFloatAcc} (record { m = p .m; e = toZ w64 (ofZ w64 (toZ w64 (ofZ w64 z) +ℤ toZ w64 (ofZ w64 (p .e)))); bad = s .bad }) (lanesProduct s)
+  unfolding lanesProduct
+  product-is =
+      ap (λ (v : ℤ). record { m = p .m; e = v; bad = s .bad }) (sum-held z (p .e) sum-small split-small)
+      ∙ ap (λ (v : ℤ). record { m = p .m; e = v +ℤ p .e; bad = s .bad }) e
+      ∙ ap (λ (r : Split). record { m = r .m; e = exponentsOf s +ℤ r .e; bad = s .bad }) (d ∙ ap split c)

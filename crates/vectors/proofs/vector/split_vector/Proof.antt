@@ -1,0 +1,69 @@
+-- `vectors::vector::split_vector` meets its contract. The loop's invariant: the values from k on are left. Assumes nothing.
+use Prim.Native.Nat.{ℕ, _+_, _-_, _*_, _^_, _≤_, _<_}
+use mathlib.Core.Path.{_≡_, refl, sym, subst}
+use native.Mathlib.Omega.{arith}
+use lib.ListN.{drop, getD}
+use lib.Ieee.{nan}
+use Rattle.kernels.specs.Lanes.{feed}
+use Rattle.kernels.specs.Blocks.{splitStep}
+use Rattle.kernels.specs.InnerLanes.{SmallLanes}
+use Rattle.kernels.proofs.LaneSizes.{lanes-le, step-small}
+use Rattle.vectors.proofs.Vectorwise.{lane-more, lane-all}
+use Rattle.vectors.proofs.vector.split_vector.Statement.{statement}
+use Rattle.vectors.proofs.vector.split_vector.Tie as tie
+
+abbrev Inv-loop : tie.InvT-loop
+Inv-loop vector t₀ k₀ t k =
+    (k ≤ 8) × (feed splitStep k t (drop k (vector .v)) ≡ feed splitStep 0 t₀ (vector .v)) × SmallLanes (2 ^ 59 + 1024 * k) t
+
+abbrev μ-loop : tie.MeasureT-loop
+μ-loop vector t₀ k₀ t k = 8 - k
+
+loop-holds : tie.Need-loop-holds Inv-loop μ-loop
+loop-holds c = (omega arith, refl, lanes-le (2 ^ 59) (2 ^ 59 + 1024 * 0) (c .args .s) (omega arith) (c .pre .0))
+
+mul-split-step : tie.Need-mul-split-step Inv-loop μ-loop
+mul-split-step c = omega arith
+
+element-copy-out-split-step : tie.Need-element-copy-out-split-step Inv-loop μ-loop
+element-copy-out-split-step c = omega arith
+
+split-step-requires : tie.Need-split-step-requires Inv-loop μ-loop
+split-step-requires c κs = let t = c .before .before in lanes-le (2 ^ 59 + 1024 * t .loop .k) (2 ^ 60) (t .loop .t) (omega arith) (t .loop .inv .2)
+
+add-k : tie.Need-add-k Inv-loop μ-loop
+add-k c = omega arith
+
+loop-less : tie.Need-loop-less Inv-loop μ-loop
+loop-less c = omega arith
+
+loop-again : tie.Need-loop-again Inv-loop μ-loop
+loop-again c =
+    let t = c .before .before .before in
+    let v = t .before .args .t2 .v in
+    let x = getD v (t .loop .k) nan in (
+      omega arith,
+      lane-more splitStep (feed splitStep 0 (t .before .args .s) v) (t .loop .t) v (t .loop .k) (t .loop .inv .1) (c .split-step .result) nan (subst (λ (n : ℕ). t .loop .k < n) (sym (t .before .pre .1)) (c .before .before .loop-test .taken)) (c .split-step .ensures),
+      subst (SmallLanes (2 ^ 59 + 1024 * (t .loop .k + 1))) (sym (c .split-step .ensures)) (lanes-le (2 ^ 59 + 1024 * t .loop .k + 1024) (2 ^ 59 + 1024 * (t .loop .k + 1)) (splitStep (t .loop .k) (t .loop .t) x) (omega arith) (step-small (2 ^ 59 + 1024 * t .loop .k) (t .loop .t) (t .loop .inv .2) (t .loop .k) x)),
+    )
+
+returns : tie.Need-returns Inv-loop μ-loop
+returns c =
+    let t = c .before in
+    let v = t .before .args .t2 .v in
+    lane-all splitStep (feed splitStep 0 (t .before .args .s) v) (t .loop .t) v (t .loop .k) (t .loop .inv .1) (subst (λ (n : ℕ). n ≤ t .loop .k) (sym (t .before .pre .1)) (c .loop-test .left))
+
+pub split-vector-spec : {M : Type 1} → statement M
+split-vector-spec =
+    tie.close
+    (tie.spec
+    Inv-loop
+    μ-loop
+    loop-holds
+    mul-split-step
+    element-copy-out-split-step
+    split-step-requires
+    add-k
+    loop-less
+    loop-again
+    returns)

@@ -1,0 +1,91 @@
+-- Inner: lanes that wait: values are multiplied in unsplit, eight at a time, and a test at the end says whether the lanes are what split values give.
+use Prim.Native.Nat.{ℕ, _+_, _-_, _%_}
+use mathlib.Core.Bool.{Bool, false, not, cond, _&&_}
+use mathlib.Core.List.{List, _++_}
+use lib.ListN.{length, getD, set, replicate}
+use lib.IntN.{ℤ, pos, negsuc, _+ℤ_}
+use lib.Ieee.{Float, nan, fin, lt, le, neg}
+use Rattle.floats.specs.Product.{productOf}
+use Rattle.floats.specs.Splitting.{split}
+use Rattle.accumulator.specs.declared.StableProductFloatAcc.{StableProductFloatAcc}
+use Rattle.kernels.specs.declared.lanes.Lanes.{Lanes}
+use Rattle.kernels.specs.Lanes.{feed, laneOf, inOrder}
+use Rattle.kernels.specs.Blocks.{eOf, unsplitStep, splitStep}
+use Rattle.vectors.specs.declared.vector.Waiting.{Waiting}
+
+abbrev pub one : Float
+one = fin false 1 (pos 0)
+
+-- a vector: the values from lane 0 on, and 1.0 in the lanes that are left
+abbrev pub put : ℕ → List Float → Float → List Float
+put k vector x = set vector k x
+
+unfoldable pub vectorOf : List Float → List Float
+vectorOf xs = feed put 0 (replicate 8 one) xs
+
+-- the lesser of two by `<`; where one is a NaN, the second
+abbrev pub lesser : Float → Float → Float
+lesser x y = cond (lt x y) x y
+
+-- the size of a value, whatever its sign
+abbrev pub square : Float → Float
+square x = productOf 11 52 x x
+
+-- value i goes to lane i mod 8: multiplied in unsplit, and the least square of the lane's values is kept
+unfoldable pub waitStep : ℕ → Waiting → Float → Waiting
+waitStep i w x =
+    let k = laneOf i in
+    record { m = set (w .m) k (productOf 11 52 (getD (w .m) k nan) x); least = set (w .least) k (lesser (square x) (getD (w .least) k nan)) }
+
+-- A square from 2^-29 on is that of a value from 2^-15 on: 64 of them, multiplied into a lane in [1, 2), stay normal.
+abbrev pub LEAST : Float
+LEAST = fin false 1 (negsuc 28)
+
+abbrev pub notBelow : Float → Bool
+notBelow y = le LEAST y
+
+-- not infinite, not a NaN: no more than 2^1000 either way
+abbrev pub MOST : Float
+MOST = fin false 1 (pos 1000)
+
+abbrev pub notPast : Float → Bool
+notPast x = le x MOST && le (neg MOST) x
+
+-- the lanes' m multiplied in lane order, from 1.0
+unfoldable pub chained : List Float → Float
+chained ms = inOrder (λ (k : ℕ) (p : Float). productOf 11 52 p (getD ms k nan)) 8 one
+
+-- the lanes' exponents, added
+unfoldable pub exponentsOf : Lanes → ℤ
+exponentsOf s = inOrder (λ (k : ℕ) (e : ℤ). e +ℤ eOf s k) 8 (pos 0)
+
+-- the square of value k of a vector
+abbrev pub squareAt : List Float → ℕ → Float
+squareAt vector k = square (getD vector k nan)
+
+-- the least square of a vector of eight, lane beside lane
+unfoldable pub leastSquare : List Float → Float
+leastSquare vector =
+    lesser
+    (lesser (lesser (squareAt vector 0) (squareAt vector 4)) (lesser (squareAt vector 2) (squareAt vector 6)))
+    (lesser (lesser (squareAt vector 1) (squareAt vector 5)) (lesser (squareAt vector 3) (squareAt vector 7)))
+
+abbrev pub notLow : List Float → Bool
+notLow vector = notBelow (leastSquare vector)
+
+-- a vector multiplied unsplit if that is not below 2^-29 and not all are split, else split
+unfoldable pub guarded : Bool → Lanes → List Float → Lanes
+guarded all s vector = cond (not all && notLow vector) (feed unsplitStep 0 s vector) (feed splitStep 0 s vector)
+
+-- the lanes multiplied in lane order and brought back to [1, 2), with their exponents and their mark
+unfoldable pub lanesProduct : Lanes → StableProductFloatAcc
+unfolding chained exponentsOf
+lanesProduct s = let p = chained (s .m) in record { m = split p .m; e = exponentsOf s +ℤ split p .e; bad = s .bad }
+
+-- values, and 1.0 up to whole vectors
+abbrev pub padded : List Float → List Float
+padded xs = xs ++ replicate (7 - (length xs + 7) % 8) one
+
+-- lanes that begin to wait
+abbrev pub startWaiting : List Float → Waiting
+startWaiting ms = record { m = ms; least = replicate 8 one }

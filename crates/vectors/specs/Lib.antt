@@ -1,0 +1,3 @@
+-- Vectors of eight values, and lanes that wait. Definitions only.
+pub mod InnerSteps
+pub mod InnerWaiting

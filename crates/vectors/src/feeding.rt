@@ -1,0 +1,235 @@
+// The lanes of a piece, many vectors at a time.
+ghost use mathlib.Core.Path.{_≡_};
+ghost use mathlib.Core.Logic.{_⊎_};
+ghost use mathlib.Core.Bool.{_||_, true};
+ghost use Prim.Native.Nat.{_+_, _*_, _^_, _≤_, min};
+ghost use lib.ListN.{length};
+ghost use Rattle.kernels.specs.Lanes.{every, feed};
+ghost use Rattle.kernels.specs.InnerLanes.{window, SmallLanes, LanesAfter};
+ghost use Rattle.kernels.specs.InnerStrided.{strided, PlacesInside};
+ghost use Rattle.kernels.specs.Blocks.{startLanes};
+ghost use Rattle.vectors.specs.InnerSteps.{NotYetNormalised, Progress, holdAfter};
+ghost use Rattle.vectors.specs.InnerWaiting.{notPast, waitStep, startWaiting, exponentsOf, lanesProduct};
+use crate::vector::Vector;
+use crate::vector::Waiting;
+use accumulator::StableProductFloatAcc;
+use kernels::lanes::Lanes;
+
+const LANES: usize = StableProductFloatAcc::LANES;
+
+// Vectors that lanes wait for at most, values that are guarded together, and such steps from a failed try to the next.
+const MOST_VECTORS: usize = 64;
+
+const GUARDED: usize = 256;
+
+const HOLD: usize = 16;
+
+// Lanes that wait to be brought back, and how many values went to them.
+pub struct Step {
+    pub lanes: Lanes,
+    pub done: usize,
+}
+
+pub fn start_waiting(s: Lanes) -> Waiting
+    ensures { λ r. ⌜ r ≡ startWaiting (s .m) ⌝ }
+{
+    let m = s.m;
+    Waiting {
+        m,
+        least: [1.0; LANES],
+    }
+}
+
+// Vectors that lie side by side.
+fn wait_beside(w: Waiting, values: &[f64], at: usize, vectors: usize) -> Waiting
+    requires { ⌜ (length (w .m) ≡ 8) × (length (w .least) ≡ 8) × (at + 8 * vectors ≤ length (now values)) ⌝ }
+    ensures { λ r. ⌜ r ≡ feed waitStep 0 w (window (now (values .entry)) at (8 * vectors)) ⌝ }
+{
+    let mut t = w;
+    let mut i: usize = 0;
+    while i < vectors {
+        let vector = crate::vector::vector_at(values, at + i * LANES);
+        t = crate::vector::wait_vector(t, vector);
+        i += 1;
+    }
+    t
+}
+
+// Vectors a stride apart.
+fn wait_apart(w: Waiting, values: &[f64], start: i64, stride: i64, vectors: usize) -> Waiting
+    requires { ⌜ (length (w .m) ≡ 8) × (length (w .least) ≡ 8) × (vectors ≤ 2 ^ 40) × PlacesInside (length (now values)) start stride (8 * vectors) ⌝ }
+    ensures { λ r. ⌜ r ≡ feed waitStep 0 w (strided (now (values .entry)) start stride (8 * vectors)) ⌝ }
+{
+    let mut t = w;
+    let mut at = start;
+    let mut i: usize = 0;
+    while i < vectors {
+        let vector = crate::vector::vector_of(values, at, stride, LANES);
+        t = crate::vector::wait_vector(t, vector);
+        i += 1;
+        if i < vectors {
+            at += stride * 8;
+        }
+    }
+    t
+}
+
+pub fn wait_vectors(w: Waiting, values: &[f64], start: i64, stride: i64, vectors: usize) -> Waiting
+    requires { ⌜ (length (w .m) ≡ 8) × (length (w .least) ≡ 8) × (vectors ≤ 2 ^ 40) × PlacesInside (length (now values)) start stride (8 * vectors) ⌝ }
+    ensures { λ r. ⌜ r ≡ feed waitStep 0 w (strided (now (values .entry)) start stride (8 * vectors)) ⌝ }
+{
+    if vectors == 0 {
+        return w;
+    }
+    if stride == 1 {
+        return wait_beside(w, values, start as usize, vectors);
+    }
+    wait_apart(w, values, start, stride, vectors)
+}
+
+// Up to 64 vectors that wait. They count only if no square was below 2^-29 and no lane is infinite or a NaN; else nothing is done.
+fn tried(s: Lanes, values: &[f64], start: i64, stride: i64, vectors: usize) -> Step
+    requires { ⌜ SmallLanes (2 ^ 56) s × (length (s .m) ≡ 8) × (vectors ≤ 64) × PlacesInside (length (now values)) start stride (8 * vectors) ⌝ }
+    ensures { λ r. ⌜ NotYetNormalised s (strided (now (values .entry)) start stride (r .done)) (r .lanes) ⌝ }
+    ensures done { λ r. ⌜ (r .done ≡ 8 * vectors) ⊎ (r .done ≡ 0) ⌝ }
+{
+    let w = wait_vectors(start_waiting(s), values, start, stride, vectors);
+    let v = w.m;
+    if crate::vector::none_below(w) & crate::vector::none_past(Vector { v }) {
+        let m = w.m;
+        let e = s.e;
+        let bad = s.bad;
+        return Step {
+            lanes: Lanes { m, e, bad },
+            done: LANES * vectors,
+        };
+    }
+    Step { lanes: s, done: 0 }
+}
+
+// Up to 256 values, a vector split where it must be, or all of them. Unless all are, the lanes count only if none is infinite or a NaN.
+// m, e and bad are kept apart: copied as a whole, lanes take the bytes that fill them up with them, vector after vector.
+fn vectors_in(s: Lanes, values: &[f64], start: i64, stride: i64, len: usize, all: bool) -> Lanes
+    requires { ⌜ SmallLanes (2 ^ 56) s × (length (s .m) ≡ 8) × (len ≤ 256) × PlacesInside (length (now values)) start stride len ⌝ }
+    ensures { λ r. ⌜ ((all || every notPast (r .m)) ≡ true → NotYetNormalised s (strided (now (values .entry)) start stride len) r) ⌝ }
+    ensures long { λ r. ⌜ length (r .m) ≡ 8 ⌝ }
+{
+    let vectors = (len + 7) / LANES;
+    let mut m = s.m;
+    let mut e = s.e;
+    let mut bad = s.bad;
+    let mut at = start;
+    let mut i: usize = 0;
+    while i < vectors {
+        let vector = crate::vector::some_vector(values, at, stride, len - LANES * i);
+        let t = crate::vector::guarded_vector(Lanes { m, e, bad }, vector, all);
+        m = t.m;
+        e = t.e;
+        bad = t.bad;
+        i += 1;
+        if i < vectors {
+            at += stride * 8;
+        }
+    }
+    Lanes { m, e, bad }
+}
+
+// Up to 256 values. If a lane ends infinite or a NaN, they are done again, every vector split.
+fn guarded(s: Lanes, values: &[f64], start: i64, stride: i64, len: usize) -> Lanes
+    requires { ⌜ SmallLanes (2 ^ 56) s × (length (s .m) ≡ 8) × (len ≤ 256) × PlacesInside (length (now values)) start stride len ⌝ }
+    ensures { λ r. ⌜ NotYetNormalised s (strided (now (values .entry)) start stride len) r ⌝ }
+{
+    let mut t = s;
+    let mut turn: usize = 0;
+    while turn < 2 {
+        t = vectors_in(s, values, start, stride, len, turn == 1);
+        turn += 1;
+        let v = t.m;
+        if crate::vector::none_past(Vector { v }) {
+            turn = 2;
+        }
+    }
+    t
+}
+
+pub fn least(a: usize, b: usize) -> usize
+    ensures { λ r. ⌜ r ≡ min a b ⌝ }
+{
+    if a < b { a } else { b }
+}
+
+// The next vectors of a piece: a try, unless one failed a short while ago.
+fn next_step(s: Lanes, values: &[f64], at: i64, stride: i64, left: usize, hold: usize) -> Step
+    requires { ⌜ SmallLanes (2 ^ 56) s × (length (s .m) ≡ 8) × (left ≤ 2 ^ 40) × PlacesInside (length (now values)) at stride left ⌝ }
+    ensures { λ r. ⌜ NotYetNormalised s (strided (now (values .entry)) at stride (r .done)) (r .lanes) ⌝ }
+    ensures done { λ r. ⌜ Progress left hold (r .done) ⌝ }
+{
+    if hold == 0 {
+        if LANES <= left {
+            let n = least(MOST_VECTORS, left / LANES);
+            return tried(s, values, at, stride, n);
+        }
+    }
+    let done = least(GUARDED, left);
+    let lanes = guarded(s, values, at, stride, done);
+    Step { lanes, done }
+}
+
+// After a try that failed, so many steps are guarded before the next.
+fn next_hold(hold: usize, done: usize) -> usize
+    ensures { λ r. ⌜ r ≡ holdAfter hold done ⌝ }
+{
+    if done == 0 {
+        return HOLD;
+    }
+    if hold == 0 {
+        return 0;
+    }
+    hold - 1
+}
+
+// The lanes of a whole piece.
+pub fn fed_lanes(values: &[f64], start: i64, stride: i64, len: usize) -> Lanes
+    requires { ⌜ (len ≤ 2 ^ 40) × PlacesInside (length (now values)) start stride len ⌝ }
+    ensures { λ r. ⌜ LanesAfter startLanes (strided (now (values .entry)) start stride len) r ⌝ }
+{
+    let mut s = kernels::lanes::start_lanes();
+    let mut i: usize = 0;
+    let mut hold: usize = 0;
+    while i < len {
+        let at = crate::vector::place(start, stride, i);
+        let t = next_step(s, values, at, stride, len - i, hold);
+        s = kernels::lanes::stable_renorm(t.lanes);
+        hold = next_hold(hold, t.done);
+        i += t.done;
+    }
+    s
+}
+
+fn exponents(s: Lanes) -> i64
+    requires { ⌜ SmallLanes (2 ^ 56) s ⌝ }
+    ensures { λ r. ⌜ r ≡ exponentsOf s ⌝ }
+{
+    let mut e: i64 = 0;
+    let mut k: usize = 0;
+    while k < LANES {
+        e += s.e[k];
+        k += 1;
+    }
+    e
+}
+
+// The lanes multiplied in lane order. Each is in [1, 2), so that one bringing back at the end will do.
+pub fn lanes_product(s: Lanes) -> StableProductFloatAcc
+    requires { ⌜ SmallLanes (2 ^ 56) s × (length (s .m) ≡ 8) ⌝ }
+    ensures { λ r. ⌜ r ≡ lanesProduct s ⌝ }
+{
+    let v = s.m;
+    let p = floats::split_f64(crate::vector::chain(Vector { v }));
+    let e = exponents(s);
+    StableProductFloatAcc {
+        m: p.m,
+        e: e + p.e,
+        bad: s.bad,
+    }
+}

@@ -1,0 +1,4 @@
+// The two ways of working a piece, eight values at a time: lanes wait unsplit as long as a test shows that nothing is lost by it.
+pub mod feeding;
+pub mod piece;
+pub mod vector;
