@@ -17,16 +17,16 @@ and-both true false h = absurd (true≢false (sym h))
 and-both false q h = absurd (true≢false (sym h))
 
 -- ---- what it is to stand
-pub stands-unit : (a : StableProductFloatAcc) → inLimits a ≡ true → inUnit (a .m) ≡ true
+pub in-limits-unit : (a : StableProductFloatAcc) → inLimits a ≡ true → inUnit (a .m) ≡ true
 unfolding inLimits
-stands-unit a h = and-both (inUnit (a .m)) (withinLimit (a .e)) h .0
+in-limits-unit a h = and-both (inUnit (a .m)) (withinLimit (a .e)) h .0
 
-pub stands-limit : (a : StableProductFloatAcc) → inLimits a ≡ true → withinLimit (a .e) ≡ true
+pub in-limits-exponent : (a : StableProductFloatAcc) → inLimits a ≡ true → withinLimit (a .e) ≡ true
 unfolding inLimits
-stands-limit a h = and-both (inUnit (a .m)) (withinLimit (a .e)) h .1
+in-limits-exponent a h = and-both (inUnit (a .m)) (withinLimit (a .e)) h .1
 
-pub stands-small : (a : StableProductFloatAcc) → inLimits a ≡ true → natAbs (a .e) ≤ 2 ^ 61
-stands-small a h = le-trans (leb-true (natAbs (a .e)) (2 ^ 52) (stands-limit a h)) (lit≤ tt)
+pub in-limits-small : (a : StableProductFloatAcc) → inLimits a ≡ true → natAbs (a .e) ≤ 2 ^ 61
+in-limits-small a h = le-trans (leb-true (natAbs (a .e)) (2 ^ 52) (in-limits-exponent a h)) (lit≤ tt)
 
 -- ---- the answer
 module _ (a b : StableProductFloatAcc) where
@@ -64,7 +64,7 @@ module _ (a b : StableProductFloatAcc) where
   good h l = go (a .bad || b .bad) refl
     where
       go : (t : Bool) → (a .bad || b .bad) ≡ t → (a .bad || b .bad) ≡ false
-      go true e = absurd (true≢false (sym (stands-limit a h) ∙ ap (λ (r : StableProductFloatAcc). withinLimit (r .e)) (sym (combined-bad a b e)) ∙ l))
+      go true e = absurd (true≢false (sym (in-limits-exponent a h) ∙ ap (λ (r : StableProductFloatAcc). withinLimit (r .e)) (sym (combined-bad a b e)) ∙ l))
       go false e = e
 
   pub refused-joined : inLimits a ≡ true → inLimits b ≡ true → withinLimit (combined a b .e) ≡ false → refusal 10 ≡ joined a b
@@ -77,5 +77,5 @@ module _ (a b : StableProductFloatAcc) where
   -- a bad one gives the left m and e and the mark
   pub joined-bad : inLimits a ≡ true → inLimits b ≡ true → (a .bad || b .bad) ≡ true → joined a b ≡ accumulator (a .m) (a .e) true
   joined-bad h k q =
-      sym (accepted h k (ap (λ (r : StableProductFloatAcc). withinLimit (r .e)) (combined-bad a b q) ∙ stands-limit a h))
+      sym (accepted h k (ap (λ (r : StableProductFloatAcc). withinLimit (r .e)) (combined-bad a b q) ∙ in-limits-exponent a h))
       ∙ ap (λ (r : StableProductFloatAcc). accumulator (r .m) (r .e) (r .bad)) (combined-bad a b q)

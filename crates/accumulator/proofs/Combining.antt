@@ -11,7 +11,7 @@ use Rattle.floats.specs.Magnitude.{twoOrMore}
 use Rattle.floats.proofs.Product.{mul-binary64}
 use Rattle.accumulator.specs.declared.StableProductFloatAcc.{StableProductFloatAcc}
 use Rattle.accumulator.specs.Joining.{half, multiplied, combined}
-use Rattle.accumulator.proofs.Exponents.{held, sum, sum-held, more-held}
+use Rattle.accumulator.proofs.Exponents.{exact, sum, sum-exact, more-exact}
 
 pub acc-same : (m m' : Float) (e e' : ℤ) (q q' : Bool) → m ≡ m' → e ≡ e' → q ≡ q' → _≡_ {A = StableProductFloatAcc} (record { m = m; e = e; bad = q }) (record { m = m'; e = e'; bad = q' })
 acc-same m m' e e' q q' a b c = cc
@@ -50,7 +50,7 @@ half-is = refl
 -- ---- the three ways of the code
 module _ (a b : StableProductFloatAcc) (hx : natAbs (a .e) ≤ 2 ^ 61) (hy : natAbs (b .e) ≤ 2 ^ 61) where
   pub code-bad : (a .bad || b .bad) ≡ true → _≡_ {A = StableProductFloatAcc} (record { m = a .m; e = toZ w64 (ofZ w64 (a .e)); bad = true }) (combined a b)
-  code-bad h = acc-same (a .m) (a .m) (toZ w64 (ofZ w64 (a .e))) (a .e) true true refl (held (a .e) (b .e) hx hy (a .e) hx) refl ∙ sym (combined-bad a b h)
+  code-bad h = acc-same (a .m) (a .m) (toZ w64 (ofZ w64 (a .e))) (a .e) true true refl (exact (a .e) (b .e) hx hy (a .e) hx) refl ∙ sym (combined-bad a b h)
 
   -- the product of the floats, as the machine has it
   abbrev raw : Float
@@ -65,12 +65,12 @@ module _ (a b : StableProductFloatAcc) (hx : natAbs (a .e) ≤ 2 ^ 61) (hy : nat
       let m = productOf 11 52 (a .m) (b .m) in
       acc-same (mul binary64 raw (ofBits binary64 4602678819172646912)) (productOf 11 52 m half) (toZ w64 (ofZ w64 (toZ w64 (ofZ w64 (sum (a .e) (b .e) hx hy)) +ℤ pos 1))) (a .e +ℤ b .e +ℤ pos 1) false false
       (mul-binary64 raw (ofBits binary64 4602678819172646912) ∙ ap (λ (x : Float). productOf 11 52 x (ofBits binary64 4602678819172646912)) raw-is ∙ ap (productOf 11 52 m) half-is)
-      (more-held (a .e) (b .e) hx hy)
+      (more-exact (a .e) (b .e) hx hy)
       refl
       ∙ sym (combined-good a b h ∙ multiplied-two a b (subst (λ (x : Float). twoOrMore x ≡ true) raw-is t))
 
   pub code-less : (a .bad || b .bad) ≡ false → twoOrMore raw ≡ false
       → _≡_ {A = StableProductFloatAcc} (record { m = raw; e = toZ w64 (ofZ w64 (sum (a .e) (b .e) hx hy)); bad = false }) (combined a b)
   code-less h t =
-      acc-same raw (productOf 11 52 (a .m) (b .m)) (toZ w64 (ofZ w64 (sum (a .e) (b .e) hx hy))) (a .e +ℤ b .e) false false raw-is (sum-held (a .e) (b .e) hx hy) refl
+      acc-same raw (productOf 11 52 (a .m) (b .m)) (toZ w64 (ofZ w64 (sum (a .e) (b .e) hx hy))) (a .e +ℤ b .e) false false raw-is (sum-exact (a .e) (b .e) hx hy) refl
       ∙ sym (combined-good a b h ∙ multiplied-less a b (subst (λ (x : Float). twoOrMore x ≡ false) raw-is t))

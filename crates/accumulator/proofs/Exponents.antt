@@ -22,8 +22,8 @@ pub size-fits : (z : ℤ) → natAbs z ≤ 2 ^ 62 + 1 → SFits w64 z
 size-fits z h = record { sfits = lt-of-le-of-lt (le-trans (mag-le z) h) (lit< tt) }
 
 module _ (x y : ℤ) (hx : natAbs x ≤ 2 ^ 61) (hy : natAbs y ≤ 2 ^ 61) where
-  pub held : (z : ℤ) → natAbs z ≤ 2 ^ 61 → toZ w64 (ofZ w64 z) ≡ z
-  held z h = toZ-ofZ w64 z (size-fits z (le-trans h (lit≤ tt)))
+  pub exact : (z : ℤ) → natAbs z ≤ 2 ^ 61 → toZ w64 (ofZ w64 z) ≡ z
+  exact z h = toZ-ofZ w64 z (size-fits z (le-trans h (lit≤ tt)))
 
   sum-size : natAbs (x +ℤ y) ≤ 2 ^ 62
   sum-size = le-trans (add-size x y) (le-trans (add-le-add hx hy) (lit≤ tt))
@@ -36,26 +36,26 @@ module _ (x y : ℤ) (hx : natAbs x ≤ 2 ^ 61) (hy : natAbs y ≤ 2 ^ 61) where
   sum = toZ w64 (ofZ w64 x) +ℤ toZ w64 (ofZ w64 y)
 
   sum-is : sum ≡ x +ℤ y
-  sum-is = ap (λ (z : ℤ). z +ℤ toZ w64 (ofZ w64 y)) (held x hx) ∙ ap (λ (z : ℤ). x +ℤ z) (held y hy)
+  sum-is = ap (λ (z : ℤ). z +ℤ toZ w64 (ofZ w64 y)) (exact x hx) ∙ ap (λ (z : ℤ). x +ℤ z) (exact y hy)
 
   pub sum-fits : SFits w64 sum
   sum-fits = subst (SFits w64) (sym sum-is) (size-fits (x +ℤ y) (le-trans sum-size (lit≤ tt)))
 
-  pub sum-held : toZ w64 (ofZ w64 sum) ≡ x +ℤ y
-  sum-held = toZ-ofZ w64 sum sum-fits ∙ sum-is
+  pub sum-exact : toZ w64 (ofZ w64 sum) ≡ x +ℤ y
+  sum-exact = toZ-ofZ w64 sum sum-fits ∙ sum-is
 
   -- x + y + c with c of 0 or 1, where z is the machine's c
   pub near-fits : (c : ℕ) (z : ℤ) → c ≤ 1 → z ≡ pos c → SFits w64 (toZ w64 (ofZ w64 sum) +ℤ z)
-  near-fits c z h e = subst (SFits w64) (sym (ap (λ (u : ℤ). u +ℤ z) sum-held ∙ ap (λ (u : ℤ). x +ℤ y +ℤ u) e)) (size-fits (x +ℤ y +ℤ pos c) (more-size c h))
+  near-fits c z h e = subst (SFits w64) (sym (ap (λ (u : ℤ). u +ℤ z) sum-exact ∙ ap (λ (u : ℤ). x +ℤ y +ℤ u) e)) (size-fits (x +ℤ y +ℤ pos c) (more-size c h))
 
-  pub near-held : (c : ℕ) (z : ℤ) → c ≤ 1 → z ≡ pos c → toZ w64 (ofZ w64 (toZ w64 (ofZ w64 sum) +ℤ z)) ≡ x +ℤ y +ℤ pos c
-  near-held c z h e = toZ-ofZ w64 (toZ w64 (ofZ w64 sum) +ℤ z) (near-fits c z h e) ∙ ap (λ (u : ℤ). u +ℤ z) sum-held ∙ ap (λ (u : ℤ). x +ℤ y +ℤ u) e
+  pub near-exact : (c : ℕ) (z : ℤ) → c ≤ 1 → z ≡ pos c → toZ w64 (ofZ w64 (toZ w64 (ofZ w64 sum) +ℤ z)) ≡ x +ℤ y +ℤ pos c
+  near-exact c z h e = toZ-ofZ w64 (toZ w64 (ofZ w64 sum) +ℤ z) (near-fits c z h e) ∙ ap (λ (u : ℤ). u +ℤ z) sum-exact ∙ ap (λ (u : ℤ). x +ℤ y +ℤ u) e
 
   pub more-fits : SFits w64 (toZ w64 (ofZ w64 sum) +ℤ pos 1)
   more-fits = near-fits 1 (pos 1) (le-refl 1) refl
 
-  pub more-held : toZ w64 (ofZ w64 (toZ w64 (ofZ w64 sum) +ℤ pos 1)) ≡ x +ℤ y +ℤ pos 1
-  more-held = near-held 1 (pos 1) (le-refl 1) refl
+  pub more-exact : toZ w64 (ofZ w64 (toZ w64 (ofZ w64 sum) +ℤ pos 1)) ≡ x +ℤ y +ℤ pos 1
+  more-exact = near-exact 1 (pos 1) (le-refl 1) refl
 
 -- ---- -(k + 1) ≤ e ≤ k + 1
 pub limits : (k : ℕ) (e : ℤ) → (leZ (negsuc k) e && leZ e (pos (suc k))) ≡ leb (natAbs e) (suc k)

@@ -18,7 +18,7 @@ use borrow.Author.Tests.{leb-true}
 use Rattle.accumulator.specs.declared.StableProductFloatAcc.{StableProductFloatAcc}
 use Rattle.accumulator.specs.Joining.{identityAcc, factorOfAcc, half, multiplied, combined, withinLimit, inLimits, accumulator, refusal, joined}
 use Rattle.accumulator.proofs.Combining.{multiplied-two, multiplied-less, combined-bad, combined-good}
-use Rattle.accumulator.proofs.Answers.{stands-unit, refused-left, refused-right, accepted, refused-joined}
+use Rattle.accumulator.proofs.Answers.{in-limits-unit, refused-left, refused-right, accepted, refused-joined}
 
 -- ---- joining two that are not bad
 -- m is the float of `times` at the exponent 0, and e the sum of the exponents with the carry
@@ -120,10 +120,10 @@ module _ (a b : StableProductFloatAcc) (fa : T (fits binary64 (a .m))) (fb : T (
   A = accepted-is a b m e q p
 
   ua : inUnit (a .m) ≡ true
-  ua = stands-unit a (A .left)
+  ua = in-limits-unit a (A .left)
 
   ub : inUnit (b .m) ≡ true
-  ub = stands-unit b (A .right)
+  ub = in-limits-unit b (A .right)
 
   -- by the marks
   module _ (P : Float → Type 0) (left : P (a .m)) (product : P (multiplied a b .m)) where
@@ -164,6 +164,6 @@ pub identity-factor : factorOfAcc identityAcc ≡ unit 52
 unfolding factorAt
 identity-factor = refl
 
-pub identity-stands : inLimits identityAcc ≡ true
+pub identity-in-limits : inLimits identityAcc ≡ true
 unfolding inLimits inUnit
-identity-stands = refl
+identity-in-limits = refl

@@ -18,7 +18,7 @@ use Rattle.floats.proofs.Splitting.{split-m, split-e, float-rate}
 use Rattle.floats.proofs.Units.{both, up, both-normal, up-le, unit-product}
 use Rattle.accumulator.specs.declared.StableProductFloatAcc.{StableProductFloatAcc}
 use Rattle.accumulator.specs.Joining.{multiplied, combined}
-use Rattle.accumulator.proofs.Exponents.{sum, near-fits, near-held}
+use Rattle.accumulator.proofs.Exponents.{sum, near-fits, near-exact}
 use Rattle.accumulator.proofs.Combining.{acc-same, combined-good}
 use Rattle.accumulator.proofs.Joins.{settled}
 
@@ -58,5 +58,5 @@ module _ (a b : StableProductFloatAcc) (fa : T (fits binary64 (a .m))) (fb : T (
         let r = multiplied a b in
         let s = settled a b fa fb ua ub in
         let e = toZ w64 (ofZ w64 (toZ w64 (ofZ w64 (sum (a .e) (b .e) hx hy)) +ℤ toZ w64 (ofZ w64 (p .e)))) in
-        acc-same (p .m) (r .m) e (r .e) false (r .bad) m-is (near-held (a .e) (b .e) hx hy c (toZ w64 (ofZ w64 (p .e))) c-le e-is ∙ sym (s .e-is)) (sym (s .mark))
+        acc-same (p .m) (r .m) e (r .e) false (r .bad) m-is (near-exact (a .e) (b .e) hx hy c (toZ w64 (ofZ w64 (p .e))) c-le e-is ∙ sym (s .e-is)) (sym (s .mark))
         ∙ sym (combined-good a b h)

@@ -70,7 +70,7 @@ fn within_limit(e: i64) -> bool
 }
 
 // What refusal 9 asks of a given accumulator, bad or not.
-pub fn stands_up(a: StableProductFloatAcc) -> bool
+pub fn in_limits(a: StableProductFloatAcc) -> bool
     ensures { λ r. ⌜ r ≡ inLimits a ⌝ }
 {
     in_unit(a.m) && within_limit(a.e)
@@ -132,10 +132,10 @@ pub fn combine_units(
 pub fn join(a: StableProductFloatAcc, b: StableProductFloatAcc) -> Reduced
     ensures { λ r. ⌜ answerOf r ≡ joined a b ⌝ }
 {
-    if !stands_up(a) {
+    if !in_limits(a) {
         return Reduced::Refused(GIVEN_OUT_OF_RANGE);
     }
-    if !stands_up(b) {
+    if !in_limits(b) {
         return Reduced::Refused(GIVEN_OUT_OF_RANGE);
     }
     let r = stable_float_combine(a, b);

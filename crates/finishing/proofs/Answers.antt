@@ -13,7 +13,7 @@ use Rattle.accumulator.specs.declared.StableProductFloatAcc.{StableProductFloat
 use Rattle.accumulator.specs.declared.Reduced.{Reduced}
 use Rattle.accumulator.specs.declared.Reduced.the-variants.{Acc, Refused}
 use Rattle.accumulator.specs.Joining.{factorOfAcc, inLimits}
-use Rattle.accumulator.proofs.Answers.{stands-unit}
+use Rattle.accumulator.proofs.Answers.{in-limits-unit}
 use Rattle.floats.specs.Factor.{floatOf}
 use Rattle.floats.proofs.Magnitude.{at-normal}
 use Rattle.finishing.specs.Once.{roundedOnce}
@@ -69,4 +69,4 @@ module _ (a : StableProductFloatAcc) (h : inLimits a ≡ true) where
   pub finished-float : T (fits binary64 (a .m)) → a .bad ≡ false → finishedOf (Acc a) ≡ value (floatOf 11 52 (factorOfAcc a))
   finished-float f k =
       finished-once k
-      ∙ ap value (once-is (factorOfAcc a) (at-normal binary64 11 52 refl refl (lit< tt) (a .m) f (stands-unit a h) (a .e)))
+      ∙ ap value (once-is (factorOfAcc a) (at-normal binary64 11 52 refl refl (lit< tt) (a .m) f (in-limits-unit a h) (a .e)))

@@ -210,19 +210,19 @@ module _ (k : ℤ) where
 abbrev pub at : Float → ℤ → Float
 at m d = floatOf 11 52 (factorAt 52 m d)
 
-pub data Held (m : Float) (e : ℤ) (x : Float) (k : ℤ) : Type 0 where
-  begun : x ≡ m → k ≡ e → Held m e x k
-  raised : x ≡ at m (pos 1023) → k +ℤ pos 1023 ≡ e → ltZ (pos 0) k ≡ true → Held m e x k
-  lowered : x ≡ at m (negsuc 1021) → k -ℤ pos 1022 ≡ e → ltZ k (pos 0) ≡ true → Held m e x k
+pub data Scaling (m : Float) (e : ℤ) (x : Float) (k : ℤ) : Type 0 where
+  begun : x ≡ m → k ≡ e → Scaling m e x k
+  raised : x ≡ at m (pos 1023) → k +ℤ pos 1023 ≡ e → ltZ (pos 0) k ≡ true → Scaling m e x k
+  lowered : x ≡ at m (negsuc 1021) → k -ℤ pos 1022 ≡ e → ltZ k (pos 0) ≡ true → Scaling m e x k
 
-pub held-none : (m : Float) (e : ℤ) → Held m e m e
-held-none m e = begun refl refl
+pub scaling-none : (m : Float) (e : ℤ) → Scaling m e m e
+scaling-none m e = begun refl refl
 
 -- both steps fit i64
-pub held-fits : (m : Float) (e : ℤ) (x : Float) (k : ℤ) → withinLimit e ≡ true → Held m e x k → SFits w64 (k -ℤ pos 1023) × SFits w64 (k +ℤ pos 1022)
-held-fits m e x k l (begun p q) = same-fits k e (limited e l .low) (limited e l .high) q
-held-fits m e x k l (raised p q r) = raised-fits k e (limited e l .low) (limited e l .high) q
-held-fits m e x k l (lowered p q r) = lowered-fits k e (limited e l .low) (limited e l .high) q
+pub scaling-fits : (m : Float) (e : ℤ) (x : Float) (k : ℤ) → withinLimit e ≡ true → Scaling m e x k → SFits w64 (k -ℤ pos 1023) × SFits w64 (k +ℤ pos 1022)
+scaling-fits m e x k l (begun p q) = same-fits k e (limited e l .low) (limited e l .high) q
+scaling-fits m e x k l (raised p q r) = raised-fits k e (limited e l .low) (limited e l .high) q
+scaling-fits m e x k l (lowered p q r) = lowered-fits k e (limited e l .low) (limited e l .high) q
 
 module _ (m : Float) (fm : T (fits binary64 m)) (um : inUnit m ≡ true) where
   N : (d : ℤ) → Normalised 52 (factorAt 52 m d)
@@ -273,31 +273,31 @@ module _ (m : Float) (fm : T (fits binary64 m)) (um : inUnit m ≡ true) where
     fall d p h g = ap (λ (y : Float). mul binary64 y least) p ∙ ap (mul binary64 (at m d)) least-is ∙ step d (negsuc 1021) h g
 
     -- k is above 1023, and the product is infinite: the second time
-    pub raised-all : Held m e x k → pastLargest k ≡ true → isInfinite (mul binary64 x most) ≡ true → mul binary64 x most ≡ roundedOnce (factorAt 52 m e)
+    pub raised-all : Scaling m e x k → pastLargest k ≡ true → isInfinite (mul binary64 x most) ≡ true → mul binary64 x most ≡ roundedOnce (factorAt 52 m e)
     raised-all (begun p q) h i = absurd (clash (isInfinite (mul binary64 x most)) i (ap isInfinite (rise (pos 0) (p ∙ sym begin) refl refl) ∙ finite (pos 1023) refl refl))
     raised-all (raised p q r) h i = rise (pos 1023) p refl refl ∙ over (pos 2046) refl ∙ sym (over e (raised-over k e q h)) ∙ once e
     raised-all (lowered p q r) h i = absurd (not-minus k e r h)
 
     -- and it is not: the first time
-    pub raised-more : Held m e x k → pastLargest k ≡ true → isInfinite (mul binary64 x most) ≡ false → Held m e (mul binary64 x most) (k -ℤ pos 1023)
+    pub raised-more : Scaling m e x k → pastLargest k ≡ true → isInfinite (mul binary64 x most) ≡ false → Scaling m e (mul binary64 x most) (k -ℤ pos 1023)
     raised-more (begun p q) h i = raised (rise (pos 0) (p ∙ sym begin) refl refl) (raised-sum k e q) (raised-plus k e h)
     raised-more (raised p q r) h i = absurd (clash (isInfinite (mul binary64 x most)) (ap isInfinite (rise (pos 1023) p refl refl ∙ over (pos 2046) refl) ∙ infinite-is (isMinus m)) i)
     raised-more (lowered p q r) h i = absurd (not-minus k e r h)
 
     -- k is below -1022, and the product is zero: the second time
-    pub lowered-all : Held m e x k → fromLeastNormal k ≡ false → eq (mul binary64 x least) nought ≡ true → mul binary64 x least ≡ roundedOnce (factorAt 52 m e)
+    pub lowered-all : Scaling m e x k → fromLeastNormal k ≡ false → eq (mul binary64 x least) nought ≡ true → mul binary64 x least ≡ roundedOnce (factorAt 52 m e)
     lowered-all (begun p q) h i = absurd (clash (eq (mul binary64 x least) nought) i (ap (eq (mul binary64 x least)) nought-is ∙ ap (λ (y : Float). eq y (fin false 0 (pos 0))) (fall (pos 0) (p ∙ sym begin) refl refl) ∙ nonzero (negsuc 1021) refl refl))
     lowered-all (raised p q r) h i = absurd (not-plus k e r h)
     lowered-all (lowered p q r) h i = fall (negsuc 1021) p refl refl ∙ tiny (negsuc 2043) refl ∙ sym (tiny e (lowered-tiny k e q h)) ∙ once e
 
     -- and it is not: the first time
-    pub lowered-more : Held m e x k → fromLeastNormal k ≡ false → eq (mul binary64 x least) nought ≡ false → Held m e (mul binary64 x least) (k +ℤ pos 1022)
+    pub lowered-more : Scaling m e x k → fromLeastNormal k ≡ false → eq (mul binary64 x least) nought ≡ false → Scaling m e (mul binary64 x least) (k +ℤ pos 1022)
     lowered-more (begun p q) h i = lowered (fall (pos 0) (p ∙ sym begin) refl refl) (lowered-sum k e q) (lowered-minus k e h)
     lowered-more (raised p q r) h i = absurd (not-plus k e r h)
     lowered-more (lowered p q r) h i = absurd (clash (eq (mul binary64 x least) nought) (ap (eq (mul binary64 x least)) nought-is ∙ ap (λ (y : Float). eq y (fin false 0 (pos 0))) (fall (negsuc 1021) p refl refl ∙ tiny (negsuc 2043) refl) ∙ zero-is (isMinus m)) i)
 
     -- k is the exponent of a normal number: the last product
-    pub last : Held m e x k → mul binary64 x (fin false 1 k) ≡ roundedOnce (factorAt 52 m e)
+    pub last : Scaling m e x k → mul binary64 x (fin false 1 k) ≡ roundedOnce (factorAt 52 m e)
     last (begun p q) = ap (λ (y : Float). mul binary64 y (fin false 1 k)) (p ∙ sym begin) ∙ step (pos 0) k refl refl ∙ ap (at m) (zero-sum k e q) ∙ once e
     last (raised p q r) = ap (λ (y : Float). mul binary64 y (fin false 1 k)) p ∙ step (pos 1023) k refl refl ∙ ap (at m) (raised-whole k e q) ∙ once e
     last (lowered p q r) = ap (λ (y : Float). mul binary64 y (fin false 1 k)) p ∙ step (negsuc 1021) k refl refl ∙ ap (at m) (lowered-whole k e q) ∙ once e

@@ -16,7 +16,7 @@ use Rattle.integers.proofs.Machine.{nonneg-pos}
 use Rattle.floats.specs.Rounding.{unitPlaces, tiesToEven, delivered, rounded}
 use Rattle.floats.specs.Factor.{Factor, Normalised, NormalExponent, floatOf}
 use Rattle.floats.specs.Magnitude.{factorAt}
-use Rattle.floats.proofs.Nearest.{ties-is, kept-le-max, size-is}
+use Rattle.floats.proofs.Nearest.{ties-is, significand-le-max, size-is}
 use Rattle.floats.proofs.Bridge.{floatOf-is}
 use Rattle.floats.proofs.Overflow.{float-above}
 use Rattle.finishing.specs.Once.{counted, pastLargest, fromLeastNormal, roundedOnce}
@@ -45,7 +45,7 @@ rounded-low t em s S j e lo hi =
     ap (λ (x : ℕ). delivered (t + 1) em s (tiesToEven S (2 ^ x)) (x - suc j)) k
     ∙ ap (delivered (t + 1) em s (tiesToEven S (2 ^ suc j))) d
     ∙ delivered-below (t + 1) em s (tiesToEven S (2 ^ suc j)) 0
-    (low-room t em (tiesToEven S (2 ^ suc j)) e (le-trans (le-of-eq (ties-is S (2 ^ suc j) ∙ ap (λ (x : ℕ). closest S (2 ^ x)) (sym k))) (kept-le-max (t + 1) S (suc j))))
+    (low-room t em (tiesToEven S (2 ^ suc j)) e (le-trans (le-of-eq (ties-is S (2 ^ suc j) ∙ ap (λ (x : ℕ). closest S (2 ^ x)) (sym k))) (significand-le-max (t + 1) S (suc j))))
 
 -- ---- the place e + 1022 of an exponent
 module _ (e : ℤ) where

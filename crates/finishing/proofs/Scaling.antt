@@ -23,7 +23,7 @@ signs-plus false = refl
 same : (m S I L ue de uz dz ug dg uy dy uw dw : ℕ) → 0 < dg → 0 < de → 0 < dz
     → m * ue * L ≡ S * I * de → uy * dg ≡ ug * L * dy → ug * (de * dz) ≡ ue * uz * dg → uw * dz ≡ I * uz * dw
     → m * uy * dw ≡ S * uw * dy
-same m S I L ue de uz dz ug dg uy dy uw dw G D Z h one two three =
+same m S I L ue de uz dz ug dg uy dy uw dw G D Z h signedOne two three =
     let a : m * uy * dw * (dg * (de * dz)) ≡ m * dw * (de * dz) * (uy * dg) = simp (mul-assoc, mul-comm, mul-left-comm) in
     let b : m * dw * (de * dz) * (ug * L * dy) ≡ m * dw * L * dy * (ug * (de * dz)) = simp (mul-assoc, mul-comm, mul-left-comm) in
     let c : m * dw * L * dy * (ue * uz * dg) ≡ dw * dy * uz * dg * (m * ue * L) = simp (mul-assoc, mul-comm, mul-left-comm) in
@@ -31,7 +31,7 @@ same m S I L ue de uz dz ug dg uy dy uw dw G D Z h one two three =
     let e : S * dy * dg * de * (uw * dz) ≡ S * uw * dy * (dg * (de * dz)) = simp (mul-assoc, mul-comm, mul-left-comm) in
     eq-of-mul-eq-mul-right (dg * (de * dz)) (mul-pos G (mul-pos D Z)) (m * uy * dw) (S * uw * dy)
     (a
-    ∙ ap (λ (x : ℕ). m * dw * (de * dz) * x) one
+    ∙ ap (λ (x : ℕ). m * dw * (de * dz) * x) signedOne
     ∙ b
     ∙ ap (λ (x : ℕ). m * dw * L * dy * x) two
     ∙ c

@@ -29,14 +29,14 @@ unfoldable pub finishes : Float → ℤ → Float → Bool
 unfolding is finishedOf
 finishes m e x = is (finishedOf (Acc (record { m = m; e = e; bad = false }))) x
 
-abbrev one : Bool → Float
-one s = fin s 1 (pos 0)
+abbrev signedOne : Bool → Float
+signedOne s = fin s 1 (pos 0)
 
 unfoldable pub finishingTable : Bool
 unfolding finishes
 finishingTable =
-    finishes (one false) (negsuc 1074) (fin false 0 (pos 0))
+    finishes (signedOne false) (negsuc 1074) (fin false 0 (pos 0))
     && finishes (fin false (2 ^ 52 + 1) (negsuc 51)) (negsuc 1074) (fin false 1 (negsuc 1073))
     && finishes (fin false 3 (negsuc 0)) (negsuc 1073) (fin false 1 (negsuc 1072))
-    && finishes (one false) (pos 1024) (inf false)
-    && finishes (one true) (negsuc 1999) (fin true 0 (pos 0))
+    && finishes (signedOne false) (pos 1024) (inf false)
+    && finishes (signedOne true) (negsuc 1999) (fin true 0 (pos 0))

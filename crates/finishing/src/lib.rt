@@ -83,7 +83,7 @@ pub fn finish(answer: Reduced) -> Finished
         let n = code_of(answer);
         return Finished::Refused(n);
     };
-    if !accumulator::stands_up(a) {
+    if !accumulator::in_limits(a) {
         return Finished::Refused(GIVEN_OUT_OF_RANGE);
     }
     if a.bad {

@@ -78,15 +78,15 @@ module _ (t n : ℕ) (lo : 2 ^ (2 * t) ≤ n) (hi : n < 2 ^ (2 * t + 2)) where
       (mul-le-mul-right (2 ^ k) (le-trans (le-of-lt long-below) (le-of-eq (ap (λ (x : ℕ). 2 ^ x) (omega arith) ∙ pow-add 2 (t + 1) k)))))
       (le-of-eq (closest-exact (2 ^ (t + 1)) (2 ^ k) (pow-pos k))))
 
-  pub kept-least : 2 ^ t ≤ significand t n
-  kept-least = go (eqb (quotient t n) (2 ^ (t + 1)))
+  pub significand-least : 2 ^ t ≤ significand t n
+  significand-least = go (eqb (quotient t n) (2 ^ (t + 1)))
     where
       go : (b : Bool) → 2 ^ t ≤ cond b (2 ^ t) (quotient t n)
       go true = le-refl (2 ^ t)
       go false = quotient-least
 
-  pub kept-below : significand t n < 2 ^ (t + 1)
-  kept-below = go (eqb (quotient t n) (2 ^ (t + 1))) refl
+  pub significand-below : significand t n < 2 ^ (t + 1)
+  significand-below = go (eqb (quotient t n) (2 ^ (t + 1))) refl
     where
       go : (b : Bool) → eqb (quotient t n) (2 ^ (t + 1)) ≡ b → cond b (2 ^ t) (quotient t n) < 2 ^ (t + 1)
       go true e = pow-lt (omega arith)
@@ -98,7 +98,7 @@ unfolding times
 times-normal t f g F G =
     let lo = product-least t f g F G in
     let hi = product-below t f g F G in
-    record { least = kept-least t (f .sig * g .sig) lo hi; most = kept-below t (f .sig * g .sig) lo hi }
+    record { least = significand-least t (f .sig * g .sig) lo hi; most = significand-below t (f .sig * g .sig) lo hi }
 
 -- ---- the exponent of the product is the sum or one more
 one-or-none : (q P : ℕ) (b : Bool) → q < P → eqb q P ≡ b → _≡_ {A = ℕ} (cond b 1 0) 0
@@ -156,8 +156,8 @@ module _ (t S : ℕ) (most : S < 2 ^ (t + 1)) where
   not-full : eqb (quotient t (S * 2 ^ t)) (2 ^ (t + 1)) ≡ false
   not-full = ap (λ (x : ℕ). eqb x (2 ^ (t + 1))) quotient-unit ∙ ne-eqb S (2 ^ (t + 1)) (ne-of-lt most)
 
-  kept-unit : significand t (S * 2 ^ t) ≡ S
-  kept-unit = ap (λ (b : Bool). cond b (2 ^ t) (quotient t (S * 2 ^ t))) not-full ∙ quotient-unit
+  significand-unit : significand t (S * 2 ^ t) ≡ S
+  significand-unit = ap (λ (b : Bool). cond b (2 ^ t) (quotient t (S * 2 ^ t))) not-full ∙ quotient-unit
 
   carry-unit : carry t (S * 2 ^ t) ≡ 0
   carry-unit = ap (λ (b : Bool). cond b 0 1 + cond (eqb (quotient t (S * 2 ^ t)) (2 ^ (t + 1))) 1 0) short ∙ ap (λ (b : Bool). 0 + cond b 1 0) not-full
@@ -174,7 +174,7 @@ pub times-power : (t : ℕ) (f : Factor) (z : ℤ) → Normalised t f → times 
 unfolding times
 times-power t f z F =
     factor-same (signs (f .sign) false) (f .sign) (significand t (f .sig * 2 ^ t)) (f .sig) (f .exp +ℤ z +ℤ pos (carry t (f .sig * 2 ^ t))) (f .exp +ℤ z)
-    (signs-plus (f .sign)) (kept-unit t (f .sig) (F .most))
+    (signs-plus (f .sign)) (significand-unit t (f .sig) (F .most))
     (ap (λ (c : ℕ). f .exp +ℤ z +ℤ pos c) (carry-unit t (f .sig) (F .most)) ∙ +ℤ-idr (f .exp +ℤ z))
 
 pub times-unit-right : (t : ℕ) (f : Factor) → Normalised t f → times t f (unit t) ≡ f
@@ -185,7 +185,7 @@ unfolding times
 times-unit-left t f F =
     let n : 2 ^ t * f .sig ≡ f .sig * 2 ^ t = mul-comm (2 ^ t) (f .sig) in
     factor-same (f .sign) (f .sign) (significand t (2 ^ t * f .sig)) (f .sig) (pos 0 +ℤ f .exp +ℤ pos (carry t (2 ^ t * f .sig))) (f .exp)
-    refl (ap (significand t) n ∙ kept-unit t (f .sig) (F .most))
+    refl (ap (significand t) n ∙ significand-unit t (f .sig) (F .most))
     (ap (λ (c : ℕ). pos 0 +ℤ f .exp +ℤ pos c) (ap (carry t) n ∙ carry-unit t (f .sig) (F .most)) ∙ +ℤ-idr (pos 0 +ℤ f .exp) ∙ +ℤ-idl (f .exp))
 
 pub unit-normal : (t : ℕ) → Normalised t (unit t)
@@ -219,8 +219,8 @@ module _ (t : ℕ) (f g : Factor) (F : Normalised t f) (G : Normalised t g) wher
   u = 2 ^ (t + long t n)
 
   -- what is kept, with its carry, is the quotient with its divisor
-  pub kept-whole : significand t (f .sig * g .sig) * 2 ^ (t + carry t (f .sig * g .sig)) ≡ quotient t (f .sig * g .sig) * 2 ^ (t + long t (f .sig * g .sig))
-  kept-whole = go (eqb (quotient t (f .sig * g .sig)) (2 ^ (t + 1))) refl
+  pub significand-whole : significand t (f .sig * g .sig) * 2 ^ (t + carry t (f .sig * g .sig)) ≡ quotient t (f .sig * g .sig) * 2 ^ (t + long t (f .sig * g .sig))
+  significand-whole = go (eqb (quotient t (f .sig * g .sig)) (2 ^ (t + 1))) refl
     where
       l : ℕ
       l = long t (f .sig * g .sig)
@@ -240,7 +240,7 @@ module _ (t : ℕ) (f g : Factor) (F : Normalised t f) (G : Normalised t g) wher
   pub times-most : significand t (f .sig * g .sig) * 2 ^ (t + carry t (f .sig * g .sig)) * 2 ^ (t + 1) ≤ f .sig * g .sig * (2 ^ (t + 1) + 1)
   unfolding u n
   times-most =
-      le-trans (le-of-eq (ap (λ (x : ℕ). x * 2 ^ (t + 1)) kept-whole))
+      le-trans (le-of-eq (ap (λ (x : ℕ). x * 2 ^ (t + 1)) significand-whole))
       (scaled-most (quotient t n * u) n u (2 ^ t) (2 ^ (t + 1)) (pow-next t) (subst (λ (q : ℕ). q * u * 2 ≤ n * 2 + u) (sym (ties-is n u)) (closest-above n u (pow-pos (t + long t n)))) unit-least)
     where
       scaled-most : (x n u p P : ℕ) → P ≡ p * 2 → x * 2 ≤ n * 2 + u → u * p ≤ n → x * P ≤ n * (P + 1)
@@ -251,7 +251,7 @@ module _ (t : ℕ) (f g : Factor) (F : Normalised t f) (G : Normalised t g) wher
   times-least =
       le-trans
       (scaled-least (quotient t n * u) n u (2 ^ t) (2 ^ (t + 1)) (pow-next t) (subst (λ (q : ℕ). n * 2 ≤ q * u * 2 + u) (sym (ties-is n u)) (closest-below n u (pow-pos (t + long t n)))) unit-least)
-      (le-of-eq (ap (λ (x : ℕ). x * 2 ^ (t + 1)) (sym kept-whole)))
+      (le-of-eq (ap (λ (x : ℕ). x * 2 ^ (t + 1)) (sym significand-whole)))
     where
       scaled-least : (x n u p P : ℕ) → P ≡ p * 2 → n * 2 ≤ x * 2 + u → u * p ≤ n → n * (P - 1) ≤ x * P
       scaled-least x n u p P e h k = le-trans (le-of-eq (mul-sub n P 1 ∙ ap (λ (y : ℕ). n * P - y) (mul-one n))) (rw e (omega (arith, mul-le-mul-right p h)))

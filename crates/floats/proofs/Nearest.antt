@@ -104,16 +104,16 @@ closest-half n u q U e h =
     clash r k a b = omega (arith, mul-le-mul-right u k)
 
 -- ---- what is kept of c has at most p digits, or is 2 ^ p
-pub kept-le : (p c : ℕ) → closest c (2 ^ (size c - p)) ≤ 2 ^ p
-kept-le p c = le-trans (nearest-le (c / 2 ^ (size c - p)) (compare (c % 2 ^ (size c - p) * 2) (2 ^ (size c - p)))) (kept-lt p c)
+pub significand-le : (p c : ℕ) → closest c (2 ^ (size c - p)) ≤ 2 ^ p
+significand-le p c = le-trans (nearest-le (c / 2 ^ (size c - p)) (compare (c % 2 ^ (size c - p) * 2) (2 ^ (size c - p)))) (kept-lt p c)
 
 -- dropping more keeps less
-pub kept-le-max : (p c j : ℕ) → closest c (2 ^ max (size c - p) j) ≤ 2 ^ p
-kept-le-max p c j =
+pub significand-le-max : (p c j : ℕ) → closest c (2 ^ max (size c - p) j) ≤ 2 ^ p
+significand-le-max p c j =
     let k = max (size c - p) j in
     le-trans
     (closest-mono c (2 ^ k) c (2 ^ (size c - p)) (pow-pos k) (pow-pos (size c - p)) (le-trans (le-of-eq (mul-comm c (2 ^ (size c - p)))) (le-trans (mul-le-mul-right c (pow-mono (omega arith))) (le-of-eq (mul-comm (2 ^ k) c)))))
-    (kept-le p c)
+    (significand-le p c)
 
 -- ---- the digits of a number: `size` is the only z with n < 2 ^ z and 2 ^ (z - 1) ≤ n
 pub size-gt : (n j : ℕ) → 2 ^ j ≤ n → j < size n

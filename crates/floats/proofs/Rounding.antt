@@ -16,7 +16,7 @@ use lib.Ieee.Exact.{HasValue, odd-sign}
 use lib.Ieee.Nearest.{closest, closest-same, div-same}
 use borrow.Author.Tests.{ltb-false}
 use Rattle.floats.specs.Rounding.{tiesToEven, delivered, rounded}
-use Rattle.floats.proofs.Nearest.{ties-is, closest-one, closest-exact, kept-le, kept-le-max, size-shl, size-shr}
+use Rattle.floats.proofs.Nearest.{ties-is, closest-one, closest-exact, significand-le, significand-le-max, size-shl, size-shr}
 use Rattle.floats.proofs.Unique.{value-unique}
 
 -- ---- `delivered` is the kit's `units`, which sees only the number of units
@@ -89,8 +89,8 @@ module _ (p c j n den : ℕ) (D : 0 < den) (P : 0 < p) (e : n ≡ c * 2 ^ j * de
 
 -- ---- c / 2^J of a unit, J above 0: at least the J digits below a unit are dropped
 module _ (p c J n den : ℕ) (D : 0 < den) (e : n * 2 ^ J ≡ c * den) where
-  part-kept : (k d : ℕ) → d ≡ k + J → closest n (den * 2 ^ k) ≡ closest c (2 ^ d)
-  part-kept k d h =
+  part-significand : (k d : ℕ) → d ≡ k + J → closest n (den * 2 ^ k) ≡ closest c (2 ^ d)
+  part-significand k d h =
       closest-same n (den * 2 ^ k) c (2 ^ d) (mul-pos D (pow-pos k)) (pow-pos d)
       (ap (λ (y : ℕ). n * 2 ^ y) h
       ∙ ap (λ (y : ℕ). n * y) (pow-add 2 k J ∙ mul-comm (2 ^ k) (2 ^ J))
@@ -104,7 +104,7 @@ module _ (p c J n den : ℕ) (D : 0 < den) (e : n * 2 ^ J ≡ c * den) where
       let k-is : size (n / den) - p ≡ max (size c - p) J - J = omega arith in
       let back : max (size c - p) J ≡ max (size c - p) J - J + J = omega arith in
       ap (λ (y : ℕ). closest n (den * 2 ^ y) * 2 ^ y) k-is
-      ∙ ap (λ (y : ℕ). y * 2 ^ (max (size c - p) J - J)) (part-kept (max (size c - p) J - J) (max (size c - p) J) back)
+      ∙ ap (λ (y : ℕ). y * 2 ^ (max (size c - p) J - J)) (part-significand (max (size c - p) J - J) (max (size c - p) J) back)
 
 -- ---- `round`
 positive : (f : Format) → 0 < prec f
@@ -123,7 +123,7 @@ round-rounded f s num den c (pos j) D e =
     let k = size c - p in
     let e' : n ≡ c * 2 ^ j * den = sym (mul-one n) ∙ e in
     round-is f s num den
-    ∙ units-same f s (closest n (den * 2 ^ d)) d (closest c (2 ^ k)) (j + k) (kept-fraction p n den) (kept-le p c)
+    ∙ units-same f s (closest n (den * 2 ^ d)) d (closest c (2 ^ k)) (j + k) (kept-fraction p n den) (significand-le p c)
     (⊎-elim (whole-few p c j n den D (positive f) e') (whole-many p c j n den D (positive f) e') (few-or-many (size c) p))
     ∙ sym (delivered-ties f s c k (j + k))
 round-rounded f s num den c (negsuc j) D e =
@@ -133,7 +133,7 @@ round-rounded f s num den c (negsuc j) D e =
     let k = max (size c - p) (suc j) in
     let e' : n * 2 ^ suc j ≡ c * den = e ∙ ap (λ (x : ℕ). x * den) (mul-one c) in
     round-is f s num den
-    ∙ units-same f s (closest n (den * 2 ^ d)) d (closest c (2 ^ k)) (k - suc j) (kept-fraction p n den) (kept-le-max p c (suc j)) (part p c (suc j) n den D e')
+    ∙ units-same f s (closest n (den * 2 ^ d)) d (closest c (2 ^ k)) (k - suc j) (kept-fraction p n den) (significand-le-max p c (suc j)) (part p c (suc j) n den D e')
     ∙ sym (delivered-ties f s c k (k - suc j))
 
 -- two ways of writing one value round alike

@@ -45,21 +45,21 @@ natAbs-fits (pos n) f = let h = f .sfits in omega arith
 natAbs-fits (negsuc n) f = let h = f .sfits in omega arith
 
 -- ---- what a checked step answers
-pub narrowU-yes : (n : ℕ) → n < 2 ^ 64 → narrowU64 n ≡ record { ok = true; value = n }
+pub narrowU64-yes : (n : ℕ) → n < 2 ^ 64 → narrowU64 n ≡ record { ok = true; value = n }
 unfolding narrowU64
-narrowU-yes n h = ap (λ (b : Bool). keepU b n) (lt-ltb n (2 ^ 64) h)
+narrowU64-yes n h = ap (λ (b : Bool). keepU b n) (lt-ltb n (2 ^ 64) h)
 
-pub narrowU-no : (n : ℕ) → 2 ^ 64 ≤ n → narrowU64 n ≡ record { ok = false; value = 0 }
+pub narrowU64-no : (n : ℕ) → 2 ^ 64 ≤ n → narrowU64 n ≡ record { ok = false; value = 0 }
 unfolding narrowU64
-narrowU-no n h = ap (λ (b : Bool). keepU b n) (le-ltb n (2 ^ 64) h)
+narrowU64-no n h = ap (λ (b : Bool). keepU b n) (le-ltb n (2 ^ 64) h)
 
-pub narrow-yes : (z : ℤ) → SFits w64 z → narrowI64 z ≡ record { ok = true; value = z }
+pub narrowI64-yes : (z : ℤ) → SFits w64 z → narrowI64 z ≡ record { ok = true; value = z }
 unfolding narrowI64 fitsI64
-narrow-yes z f = ap (λ (b : Bool). keepI b z) (lt-ltb (mag z) (2 ^ 63) (f .sfits))
+narrowI64-yes z f = ap (λ (b : Bool). keepI b z) (lt-ltb (mag z) (2 ^ 63) (f .sfits))
 
-pub narrow-no : (z : ℤ) → (SFits w64 z → ⊥) → narrowI64 z ≡ record { ok = false; value = pos 0 }
+pub narrowI64-no : (z : ℤ) → (SFits w64 z → ⊥) → narrowI64 z ≡ record { ok = false; value = pos 0 }
 unfolding narrowI64 fitsI64
-narrow-no z f = ap (λ (b : Bool). keepI b z) (le-ltb (mag z) (2 ^ 63) (over (λ h. f (record { sfits = h }))))
+narrowI64-no z f = ap (λ (b : Bool). keepI b z) (le-ltb (mag z) (2 ^ 63) (over (λ h. f (record { sfits = h }))))
   where
     over : (mag z < 2 ^ 63 → ⊥) → 2 ^ 63 ≤ mag z
     over n = omega arith
@@ -105,9 +105,9 @@ pub toZ-small : (p : ℕ) → p < 2 ^ 63 → toZ w64 p ≡ pos p
 toZ-small p h = toZ-ofZ {w = w64} {z = pos p} (record { sfits = h })
 
 -- what an answer of `narrowU` says
-pub narrowU-ok : (r : CheckedU64) (n : ℕ) → r ≡ narrowU64 n → r .ok ≡ true → (r .value ≡ n) × (n < 2 ^ 64)
+pub narrowU64-ok : (r : CheckedU64) (n : ℕ) → r ≡ narrowU64 n → r .ok ≡ true → (r .value ≡ n) × (n < 2 ^ 64)
 unfolding narrowU64
-narrowU-ok r n e = go (ltb n (2 ^ 64)) refl
+narrowU64-ok r n e = go (ltb n (2 ^ 64)) refl
   where
     go : (b : Bool) → ltb n (2 ^ 64) ≡ b → r .ok ≡ true → (r .value ≡ n) × (n < 2 ^ 64)
     go true t k = let h : r ≡ keepU true n = e ∙ ap (λ (b : Bool). keepU b n) t in (ap (λ (r : CheckedU64). r .value) h, ltb-true n (2 ^ 64) t)
@@ -116,9 +116,9 @@ narrowU-ok r n e = go (ltb n (2 ^ 64)) refl
         let l : true ≡ false = sym k ∙ ap (λ (r : CheckedU64). r .ok) h in
         absurd (subst T l tt)
 
-pub narrowU-not-ok : (r : CheckedU64) (n : ℕ) → r ≡ narrowU64 n → r .ok ≡ false → 2 ^ 64 ≤ n
+pub narrowU64-not-ok : (r : CheckedU64) (n : ℕ) → r ≡ narrowU64 n → r .ok ≡ false → 2 ^ 64 ≤ n
 unfolding narrowU64
-narrowU-not-ok r n e = go (ltb n (2 ^ 64)) refl
+narrowU64-not-ok r n e = go (ltb n (2 ^ 64)) refl
   where
     go : (b : Bool) → ltb n (2 ^ 64) ≡ b → r .ok ≡ false → 2 ^ 64 ≤ n
     go true t k =
@@ -130,22 +130,22 @@ narrowU-not-ok r n e = go (ltb n (2 ^ 64)) refl
 -- ---- a signed product, by its magnitude p
 module _ (a : ℤ) (n p : ℕ) (e : p ≡ natAbs a * n) where
   pub signed-neg : ltZ a (pos 0) ≡ true → p < 2 ^ 63 → narrowI64 (a *ℤ pos n) ≡ record { ok = true; value = pos 0 -ℤ pos p }
-  signed-neg l h = rw (times-neg a n l, ← e) (narrow-yes (pos 0 -ℤ pos p) (neg-fits p (omega arith)))
+  signed-neg l h = rw (times-neg a n l, ← e) (narrowI64-yes (pos 0 -ℤ pos p) (neg-fits p (omega arith)))
 
   pub signed-pos : ltZ a (pos 0) ≡ false → p < 2 ^ 63 → narrowI64 (a *ℤ pos n) ≡ record { ok = true; value = pos p }
-  signed-pos l h = rw (times-pos a n l, ← e) (narrow-yes (pos p) (pos-fits p h))
+  signed-pos l h = rw (times-pos a n l, ← e) (narrowI64-yes (pos p) (pos-fits p h))
 
   pub signed-least : ltZ a (pos 0) ≡ true → p ≡ 2 ^ 63 → narrowI64 (a *ℤ pos n) ≡ record { ok = true; value = negsuc 9223372036854775807 }
-  signed-least l h = rw (times-neg a n l, ← e, h) (narrow-yes (negsuc 9223372036854775807) (record { sfits = omega arith }))
+  signed-least l h = rw (times-neg a n l, ← e, h) (narrowI64-yes (negsuc 9223372036854775807) (record { sfits = omega arith }))
 
   pub signed-over : ltZ a (pos 0) ≡ true → 2 ^ 63 < p → narrowI64 (a *ℤ pos n) ≡ record { ok = false; value = pos 0 }
-  signed-over l h = rw (times-neg a n l, ← e) (narrow-no (pos 0 -ℤ pos p) (λ f. clash (neg-fits-only p f)))
+  signed-over l h = rw (times-neg a n l, ← e) (narrowI64-no (pos 0 -ℤ pos p) (λ f. clash (neg-fits-only p f)))
     where
       clash : p ≤ 2 ^ 63 → ⊥
       clash k = omega arith
 
   pub unsigned-over : ltZ a (pos 0) ≡ false → 2 ^ 63 ≤ p → narrowI64 (a *ℤ pos n) ≡ record { ok = false; value = pos 0 }
-  unsigned-over l h = rw (times-pos a n l, ← e) (narrow-no (pos p) (λ f. clash (f .sfits)))
+  unsigned-over l h = rw (times-pos a n l, ← e) (narrowI64-no (pos p) (λ f. clash (f .sfits)))
     where
       clash : p < 2 ^ 63 → ⊥
       clash k = omega arith
@@ -182,13 +182,13 @@ pub same-bits : (a b : ℤ) → SFits w64 a → SFits w64 b → ofZ w64 a ≡ of
 same-bits a b f g e = sym (toZ-ofZ f) ∙ ap (toZ w64) e ∙ toZ-ofZ g
 
 -- what an answer of `narrow` says
-pub narrow-fits : (z : ℤ) → fitsI64 z ≡ true → SFits w64 z
+pub narrowI64-fits : (z : ℤ) → fitsI64 z ≡ true → SFits w64 z
 unfolding fitsI64
-narrow-fits z e = record { sfits = ltb-true (mag z) (2 ^ 63) e }
+narrowI64-fits z e = record { sfits = ltb-true (mag z) (2 ^ 63) e }
 
-pub narrow-over : (z : ℤ) → fitsI64 z ≡ false → SFits w64 z → ⊥
+pub narrowI64-over : (z : ℤ) → fitsI64 z ≡ false → SFits w64 z → ⊥
 unfolding fitsI64
-narrow-over z e f = clash (ltb-false (mag z) (2 ^ 63) e) (f .sfits)
+narrowI64-over z e f = clash (ltb-false (mag z) (2 ^ 63) e) (f .sfits)
   where
     clash : 2 ^ 63 ≤ mag z → mag z < 2 ^ 63 → ⊥
     clash h k = omega arith
@@ -197,9 +197,9 @@ pub fits-test : (z : ℤ) → SFits w64 z → fitsI64 z ≡ true
 unfolding fitsI64
 fits-test z f = lt-ltb (mag z) (2 ^ 63) (f .sfits)
 
-pub narrow-ok : (r : CheckedI64) (z : ℤ) → r ≡ narrowI64 z → r .ok ≡ true → (r .value ≡ z) × (fitsI64 z ≡ true)
+pub narrowI64-ok : (r : CheckedI64) (z : ℤ) → r ≡ narrowI64 z → r .ok ≡ true → (r .value ≡ z) × (fitsI64 z ≡ true)
 unfolding narrowI64
-narrow-ok r z e = go (fitsI64 z) refl
+narrowI64-ok r z e = go (fitsI64 z) refl
   where
     go : (b : Bool) → fitsI64 z ≡ b → r .ok ≡ true → (r .value ≡ z) × (fitsI64 z ≡ true)
     go true t k = let h : r ≡ keepI true z = e ∙ ap (λ (b : Bool). keepI b z) t in (ap (λ (r : CheckedI64). r .value) h, t)
@@ -208,9 +208,9 @@ narrow-ok r z e = go (fitsI64 z) refl
         let l : true ≡ false = sym k ∙ ap (λ (r : CheckedI64). r .ok) h in
         absurd (subst T l tt)
 
-pub narrow-not-ok : (r : CheckedI64) (z : ℤ) → r ≡ narrowI64 z → r .ok ≡ false → fitsI64 z ≡ false
+pub narrowI64-not-ok : (r : CheckedI64) (z : ℤ) → r ≡ narrowI64 z → r .ok ≡ false → fitsI64 z ≡ false
 unfolding narrowI64
-narrow-not-ok r z e = go (fitsI64 z) refl
+narrowI64-not-ok r z e = go (fitsI64 z) refl
   where
     go : (b : Bool) → fitsI64 z ≡ b → r .ok ≡ false → fitsI64 z ≡ false
     go true t k =

@@ -69,9 +69,9 @@ pub agreement : (ps : List Piece) → Admitted ps → joinedPieces ps ≡ accOf 
 agreement ps a = joined-agree (a .pieces)
 
 -- and they are an accumulator that can be joined and finished: 1 <= |m| < 2, |e| <= 2^52
-pub agreement-stands : (ps : List Piece) → Admitted ps → inLimits (joinedPieces ps) ≡ true
+pub agreement-in-limits : (ps : List Piece) → Admitted ps → inLimits (joinedPieces ps) ≡ true
 unfolding inLimits
-agreement-stands ps a =
+agreement-in-limits ps a =
     let r = joined-within (each-map GoodPiece FullPiece (λ p g. record { some-rate = g .some-rate; values = each-map GoodRate (λ (x : Float). T (fits binary64 x)) (λ x v. v .value) (g .good) }) (a .pieces)) in
     ap (λ (t : Bool). t && withinLimit (joinedPieces ps .e)) (r .0 .in-unit)
     ∙ le-leb (natAbs (joinedPieces ps .e)) (2 ^ 52) (le-trans (r .1) (let z = a .few in omega arith))

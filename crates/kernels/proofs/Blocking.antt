@@ -27,8 +27,8 @@ use Rattle.kernels.specs.Pieces.{GoodRate, accOf}
 use Rattle.kernels.proofs.Feeding.{feed-related, feed-append, feed-eights, feed-mark, order-keeps, order-related, and-both, every-each, each-map, each-both, each-take, each-drop, some-append, some-none, or-none, or-assoc, neither}
 use Rattle.kernels.proofs.Factors.{lane-lt, set-cases, times-again}
 use Rattle.kernels.specs.InnerLanes.{Represents, LanesRepresent}
-use Rattle.kernels.proofs.Standing.{stands-more, stands-times, stands-split, stands-rate, stands-whole, stands-one, stands-acc}
-use Rattle.kernels.proofs.Bounds.{within-good, within-exponent}
+use Rattle.kernels.proofs.Standing.{represents-more, represents-times, represents-split, represents-rate, represents-whole, represents-one, represents-acc}
+use Rattle.kernels.proofs.Bounds.{in-range-good, in-range-exponent}
 
 -- values of binary64, as all f64 are
 abbrev pub Value : Float → Type 0
@@ -41,13 +41,13 @@ each-rate none e = none
 each-rate (more {x = x} {xs = xs} v vs) e = let p = neither (isBad x) (some isBad xs) e in more (record { value = v; good = p .0 }) (each-rate vs (p .1))
 
 -- ---- eight lanes
-pub held-same : (b b' : ℕ → ℕ) (s s' : Lanes) (fs fs' : List Factor) → s .m ≡ s' .m → s .e ≡ s' .e → fs ≡ fs' → ((k : ℕ) → k < 8 → b k ≤ b' k) → LanesRepresent b s fs → LanesRepresent b' s' fs'
-held-same b b' s s' fs fs' p q r l h = record {
+pub represent-same : (b b' : ℕ → ℕ) (s s' : Lanes) (fs fs' : List Factor) → s .m ≡ s' .m → s .e ≡ s' .e → fs ≡ fs' → ((k : ℕ) → k < 8 → b k ≤ b' k) → LanesRepresent b s fs → LanesRepresent b' s' fs'
+represent-same b b' s s' fs fs' p q r l h = record {
   m-long = ap length (sym p) ∙ h .m-long;
   e-long = ap length (sym q) ∙ h .e-long;
   f-long = ap length (sym r) ∙ h .f-long;
   at = λ k i.
-      stands-more (b k) (b' k) (mOf s' k) (eOf s' k) (getD fs' k (unit 52)) (l k i)
+      represents-more (b k) (b' k) (mOf s' k) (eOf s' k) (getD fs' k (unit 52)) (l k i)
       (subst (λ (l : List Float). Represents (b k) (getD l k nan) (eOf s' k) (getD fs' k (unit 52))) p
       (subst (λ (l : List ℤ). Represents (b k) (mOf s k) (getD l k (pos 0)) (getD fs' k (unit 52))) q
       (subst (λ (l : List Factor). Represents (b k) (mOf s k) (eOf s k) (getD l k (unit 52))) r (h .at k i))));
@@ -65,31 +65,31 @@ module _ (b b' : ℕ → ℕ) (s : Lanes) (fs : List Factor) (j : ℕ) (m' : Flo
   in-f : j < length fs
   in-f = subst (λ (n : ℕ). j < n) (sym (h .f-long)) J
 
-  held-at : (k : ℕ) → k < 8 → Represents (b' k) (getD (set (s .m) j m') k nan) (getD (set (s .e) j e') k (pos 0)) (getD (set fs j g) k (unit 52))
-  held-at k i =
+  represent-at : (k : ℕ) → k < 8 → Represents (b' k) (getD (set (s .m) j m') k nan) (getD (set (s .e) j e') k (pos 0)) (getD (set fs j g) k (unit 52))
+  represent-at k i =
       set-cases (λ (x : Float). Represents (b' k) x (getD (set (s .e) j e') k (pos 0)) (getD (set fs j g) k (unit 52))) (s .m) j k m' nan in-m
       (λ p. set-cases (λ (y : ℤ). Represents (b' k) m' y (getD (set fs j g) k (unit 52))) (s .e) j k e' (pos 0) in-e
       (λ p'. set-cases (λ (f : Factor). Represents (b' k) m' e' f) fs j k g (unit 52) in-f (λ p''. subst (λ (x : ℕ). Represents (b' x) m' e' g) (sym p) S) (λ n. absurd (n p))) (λ n. absurd (n p)))
       (λ n. set-cases (λ (y : ℤ). Represents (b' k) (mOf s k) y (getD (set fs j g) k (unit 52))) (s .e) j k e' (pos 0) in-e (λ p. absurd (n p))
-      (λ n'. set-cases (λ (f : Factor). Represents (b' k) (mOf s k) (eOf s k) f) fs j k g (unit 52) in-f (λ p. absurd (n p)) (λ n''. stands-more (b k) (b' k) (mOf s k) (eOf s k) (getD fs k (unit 52)) (l k i n) (h .at k i))))
+      (λ n'. set-cases (λ (f : Factor). Represents (b' k) (mOf s k) (eOf s k) f) fs j k g (unit 52) in-f (λ p. absurd (n p)) (λ n''. represents-more (b k) (b' k) (mOf s k) (eOf s k) (getD fs k (unit 52)) (l k i n) (h .at k i))))
 
-  pub held-set : LanesRepresent b' (record { m = set (s .m) j m'; e = set (s .e) j e'; bad = q }) (set fs j g)
-  held-set = record {
+  pub represent-set : LanesRepresent b' (record { m = set (s .m) j m'; e = set (s .e) j e'; bad = q }) (set fs j g)
+  represent-set = record {
     m-long = length-set (s .m) j m' ∙ h .m-long;
     e-long = length-set (s .e) j e' ∙ h .e-long;
     f-long = length-set fs j g ∙ h .f-long;
-    at = held-at;
+    at = represent-at;
   }
 
-pub held-start : LanesRepresent (λ (k : ℕ). 0) startLanes (replicate 8 (unit 52))
-held-start = record {
+pub represent-start : LanesRepresent (λ (k : ℕ). 0) startLanes (replicate 8 (unit 52))
+represent-start = record {
   m-long = length-replicate 8 (fin false 1 (pos 0));
   e-long = length-replicate 8 (pos 0);
   f-long = length-replicate 8 (unit 52);
   at = λ k i.
       subst (λ (x : Float). Represents 0 x (getD (replicate 8 (pos 0)) k (pos 0)) (getD (replicate 8 (unit 52)) k (unit 52))) (sym (getD-replicate 8 k (fin false 1 (pos 0)) nan i))
       (subst (λ (y : ℤ). Represents 0 (fin false 1 (pos 0)) y (getD (replicate 8 (unit 52)) k (unit 52))) (sym (getD-replicate 8 k (pos 0) (pos 0) i))
-      (subst (λ (f : Factor). Represents 0 (fin false 1 (pos 0)) (pos 0) f) (sym (getD-replicate 8 k (unit 52) (unit 52) i)) stands-one));
+      (subst (λ (f : Factor). Represents 0 (fin false 1 (pos 0)) (pos 0) f) (sym (getD-replicate 8 k (unit 52) (unit 52) i)) represents-one));
 }
 
 -- ---- values
@@ -115,20 +115,20 @@ turn-other : (C i k : ℕ) → suc C * count k i ≤ suc C * count k (suc i)
 turn-other C i k = mul-le-mul-left (suc C) (let l : count k i ≤ count k (suc i) = omega arith in l)
 
 -- A value y with an exponent d that stand for a factor g, from whatever format and in whatever way they came: lane i mod 8 then stands for its product with g.
-pub value-held : (C i : ℕ) (s : Lanes) (fs : List Factor) (y : Float) (d : ℤ) (g : Factor) (q : Bool) → suc C * count (laneOf i) i + C + 1 ≤ 1022 → Represents C y d g → LanesRepresent (λ (k : ℕ). suc C * count k i) s fs
+pub value-represent : (C i : ℕ) (s : Lanes) (fs : List Factor) (y : Float) (d : ℤ) (g : Factor) (q : Bool) → suc C * count (laneOf i) i + C + 1 ≤ 1022 → Represents C y d g → LanesRepresent (λ (k : ℕ). suc C * count k i) s fs
     → LanesRepresent (λ (k : ℕ). suc C * count k (suc i)) (record { m = set (s .m) (laneOf i) (productOf 11 52 (mOf s (laneOf i)) y); e = set (s .e) (laneOf i) (eOf s (laneOf i) +ℤ d); bad = q }) (laneTimes 52 i fs g)
-value-held C i s fs y d g q l G h =
+value-represent C i s fs y d g q l G h =
     let j = laneOf i in
     let f = getD fs j (unit 52) in
     let m' = productOf 11 52 (mOf s j) y in
-    held-set (λ (k : ℕ). suc C * count k i) (λ (k : ℕ). suc C * count k (suc i)) s fs j m' (eOf s j +ℤ d) (times 52 f g) q h (lane-lt i)
-    (stands-more (suc C * count j i + C + 1) (suc C * count j (suc i)) m' (eOf s j +ℤ d) (times 52 f g) (turn-room C i)
-    (stands-times (suc C * count j i) C (mOf s j) y (eOf s j) d f g (h .at j (lane-lt i)) G l))
+    represent-set (λ (k : ℕ). suc C * count k i) (λ (k : ℕ). suc C * count k (suc i)) s fs j m' (eOf s j +ℤ d) (times 52 f g) q h (lane-lt i)
+    (represents-more (suc C * count j i + C + 1) (suc C * count j (suc i)) m' (eOf s j +ℤ d) (times 52 f g) (turn-room C i)
+    (represents-times (suc C * count j i) C (mOf s j) y (eOf s j) d f g (h .at j (lane-lt i)) G l))
     (λ k a n. turn-other C i k)
 
 pub split-more : (i : ℕ) (s : Lanes) (fs : List Factor) (x : Float) → i < 512 → Value x → LanesRepresent (λ (k : ℕ). 1 * count k i) s fs → LanesRepresent (λ (k : ℕ). 1 * count k (suc i)) (splitStep i s x) (laneTimes 52 i fs (rateFactor x))
 unfolding splitStep
-split-more i s fs x l v h = value-held 0 i s fs (split x .m) (split x .e) (rateFactor x) (s .bad || split x .bad) (omega arith) (stands-rate x) h
+split-more i s fs x l v h = value-represent 0 i s fs (split x .m) (split x .e) (rateFactor x) (s .bad || split x .bad) (omega arith) (represents-rate x) h
 
 -- unsplit: the value is in the bounds
 pub record Near (x : Float) : Type 0 where
@@ -141,10 +141,10 @@ unsplit-more i s fs x l n h =
     let j = laneOf i in
     let b : ℕ → ℕ = λ (k : ℕ). 121 * count k (suc i) in
     let t : Lanes = record { m = set (s .m) j (productOf 11 52 (mOf s j) x); e = s .e; bad = s .bad } in
-    let X = stands-whole 120 x (n .value) (within-good 120 (lit≤ tt) x (n .value) (n .near)) (within-exponent 119 (lit≤ tt) x (n .value) (n .near)) in
-    held-same b b (record { m = t .m; e = set (s .e) j (eOf s j +ℤ pos 0); bad = s .bad }) t (laneTimes 52 i fs (rateFactor x)) (laneTimes 52 i fs (rateFactor x))
+    let X = represents-whole 120 x (n .value) (in-range-good 120 (lit≤ tt) x (n .value) (n .near)) (in-range-exponent 119 (lit≤ tt) x (n .value) (n .near)) in
+    represent-same b b (record { m = t .m; e = set (s .e) j (eOf s j +ℤ pos 0); bad = s .bad }) t (laneTimes 52 i fs (rateFactor x)) (laneTimes 52 i fs (rateFactor x))
     refl (ap (set (s .e) j) (+ℤ-idr (eOf s j)) ∙ set-getD (s .e) j (pos 0)) refl (λ k a. le-refl (b k))
-    (value-held 120 i s fs x (pos 0) (rateFactor x) (s .bad) (turn-small 120 i (le-refl 120) l) X h)
+    (value-represent 120 i s fs x (pos 0) (rateFactor x) (s .bad) (turn-small 120 i (le-refl 120) l) X h)
 
 -- ---- bringing back
 -- lanes below j are brought back, the others are as they were
@@ -198,41 +198,41 @@ module _ (s : Lanes) (fs : List Factor) (each : (k : ℕ) → k < 8 → Represen
       let b = order-keeps renormLane (Back s fs) 8 (λ j t. back-turn j t) s (record { m-long = m; e-long = e; done = λ k i h. absurd (omega arith); left = λ k i h. (refl, refl) }) in
       record { m-long = b .m-long; e-long = b .e-long; f-long = f; at = λ k i. b .done k i i }
 
-pub renorm-held : (B : ℕ) → B ≤ 1022 → (fs : List Factor) (b : ℕ → ℕ) (s : Lanes) → ((k : ℕ) → k < 8 → b k ≤ B) → LanesRepresent b s fs → LanesRepresent (λ (k : ℕ). 0) (renorm s) fs
-renorm-held B small fs b s l H =
+pub renorm-represent : (B : ℕ) → B ≤ 1022 → (fs : List Factor) (b : ℕ → ℕ) (s : Lanes) → ((k : ℕ) → k < 8 → b k ≤ B) → LanesRepresent b s fs → LanesRepresent (λ (k : ℕ). 0) (renorm s) fs
+renorm-represent B small fs b s l H =
     renorm-each s fs
-    (λ k i. stands-split B (mOf s k) (eOf s k) (getD fs k (unit 52)) small (stands-more (b k) B (mOf s k) (eOf s k) (getD fs k (unit 52)) (l k i) (H .at k i)))
+    (λ k i. represents-split B (mOf s k) (eOf s k) (getD fs k (unit 52)) small (represents-more (b k) B (mOf s k) (eOf s k) (getD fs k (unit 52)) (l k i) (H .at k i)))
     (H .m-long) (H .e-long) (H .f-long)
 
 -- ---- values of one block, or those that are left: at most 64
 module _ (s : Lanes) (fs : List Factor) (xs : List Float) (short : length xs ≤ 64) (H : LanesRepresent (λ (k : ℕ). 0) s fs) where
   begins : (c : ℕ) → LanesRepresent (λ (k : ℕ). c * count k 0) s fs
-  begins c = held-same (λ (k : ℕ). 0) (λ (k : ℕ). c * count k 0) s s fs fs refl refl refl (λ k a. zero-le) H
+  begins c = represent-same (λ (k : ℕ). 0) (λ (k : ℕ). c * count k 0) s s fs fs refl refl refl (λ k a. zero-le) H
 
   few : (k : ℕ) → k < 8 → count k (length xs) ≤ 8
   few k a = omega arith
 
-  split-held : Each Value xs → LanesRepresent (λ (k : ℕ). 0) (renorm (feed splitStep 0 s xs)) (feed (laneTimes 52) 0 fs (map rateFactor xs))
-  split-held R =
-      renorm-held 968 (lit≤ tt) (feed (laneTimes 52) 0 fs (map rateFactor xs)) (λ (k : ℕ). 1 * count k (0 + length xs)) (feed splitStep 0 s xs) (λ k a. omega (arith, few k a))
+  split-represent : Each Value xs → LanesRepresent (λ (k : ℕ). 0) (renorm (feed splitStep 0 s xs)) (feed (laneTimes 52) 0 fs (map rateFactor xs))
+  split-represent R =
+      renorm-represent 968 (lit≤ tt) (feed (laneTimes 52) 0 fs (map rateFactor xs)) (λ (k : ℕ). 1 * count k (0 + length xs)) (feed splitStep 0 s xs) (λ k a. omega (arith, few k a))
       (feed-related splitStep (laneTimes 52) rateFactor Value (λ (i : ℕ). LanesRepresent (λ (k : ℕ). 1 * count k i)) 512 split-more 0 s fs R (omega arith) (begins 1))
 
-  unsplit-held : Each Near xs → LanesRepresent (λ (k : ℕ). 0) (renorm (feed unsplitStep 0 s xs)) (feed (laneTimes 52) 0 fs (map rateFactor xs))
-  unsplit-held R =
-      renorm-held 968 (lit≤ tt) (feed (laneTimes 52) 0 fs (map rateFactor xs)) (λ (k : ℕ). 121 * count k (0 + length xs)) (feed unsplitStep 0 s xs) (λ k a. omega (arith, few k a))
+  unsplit-represent : Each Near xs → LanesRepresent (λ (k : ℕ). 0) (renorm (feed unsplitStep 0 s xs)) (feed (laneTimes 52) 0 fs (map rateFactor xs))
+  unsplit-represent R =
+      renorm-represent 968 (lit≤ tt) (feed (laneTimes 52) 0 fs (map rateFactor xs)) (λ (k : ℕ). 121 * count k (0 + length xs)) (feed unsplitStep 0 s xs) (λ k a. omega (arith, few k a))
       (feed-related unsplitStep (laneTimes 52) rateFactor Near (λ (i : ℕ). LanesRepresent (λ (k : ℕ). 121 * count k i)) 64 unsplit-more 0 s fs R (omega arith) (begins 121))
 
   -- unsplit or split, a block stands for the same factors
-  block-held : Each Value xs → LanesRepresent (λ (k : ℕ). 0) (block s xs) (feed (laneTimes 52) 0 fs (map rateFactor xs))
+  block-represent : Each Value xs → LanesRepresent (λ (k : ℕ). 0) (block s xs) (feed (laneTimes 52) 0 fs (map rateFactor xs))
   unfolding block unsplit
-  block-held R = go (unsplit s xs) refl
+  block-represent R = go (unsplit s xs) refl
     where
       go : (t : Bool) → unsplit s xs ≡ t → LanesRepresent (λ (k : ℕ). 0) (renorm (cond t (feed unsplitStep 0 s xs) (feed splitStep 0 s xs))) (feed (laneTimes 52) 0 fs (map rateFactor xs))
       go true e =
-          unsplit-held
+          unsplit-represent
           (each-map (λ (x : Float). Value x × (inBounds x ≡ true)) Near (λ x p. record { value = p .0; near = p .1 })
           (each-both Value (λ (x : Float). inBounds x ≡ true) R (every-each inBounds xs (and-both (every inBounds xs) (not (some isNan (feed unsplitStep 0 s xs .m))) e .0))))
-      go false e = split-held R
+      go false e = split-represent R
 
 -- ---- all of a piece
 -- the plain lanes, 64 rates at a time
@@ -249,15 +249,15 @@ lanes-on fs xs h =
     long : 0 + length (map rateFactor (take 64 xs)) ≡ 8 * 8
     long = omega (arith, length-map (take 64 xs) rateFactor, length-take 64 xs)
 
-blocks-held : (n : ℕ) (s : Lanes) (fs : List Factor) (xs : List Float) → 64 * n ≤ length xs → length xs ≤ 64 * n + 64 → Each Value xs → LanesRepresent (λ (k : ℕ). 0) s fs
+blocks-represent : (n : ℕ) (s : Lanes) (fs : List Factor) (xs : List Float) → 64 * n ≤ length xs → length xs ≤ 64 * n + 64 → Each Value xs → LanesRepresent (λ (k : ℕ). 0) s fs
     → LanesRepresent (λ (k : ℕ). 0) (blocks n s xs) (feed (laneTimes 52) 0 fs (map rateFactor xs))
 unfolding blocks
-blocks-held zero s fs xs lo hi R H = split-held s fs xs (omega arith) H R
-blocks-held (suc n) s fs xs lo hi R H =
+blocks-represent zero s fs xs lo hi R H = split-represent s fs xs (omega arith) H R
+blocks-represent (suc n) s fs xs lo hi R H =
     let ys = take 64 xs in
     subst (LanesRepresent (λ (k : ℕ). 0) (blocks n (block s ys) (drop 64 xs))) (lanes-on fs xs (omega arith))
-    (blocks-held n (block s ys) (feed (laneTimes 52) 0 fs (map rateFactor ys)) (drop 64 xs) (omega (arith, length-drop 64 xs)) (omega (arith, length-drop 64 xs)) (each-drop Value 64 R)
-    (block-held s fs ys (omega (arith, length-take 64 xs)) H (each-take Value 64 R)))
+    (blocks-represent n (block s ys) (feed (laneTimes 52) 0 fs (map rateFactor ys)) (drop 64 xs) (omega (arith, length-drop 64 xs)) (omega (arith, length-drop 64 xs)) (each-drop Value 64 R)
+    (block-represent s fs ys (omega (arith, length-take 64 xs)) H (each-take Value 64 R)))
 
 -- ---- the lanes multiplied in order
 lane-in : (s : Lanes) (fs : List Factor) (k : ℕ) (a : StableProductFloatAcc) (p : Factor) → k < 8 → LanesRepresent (λ (k : ℕ). 0) s fs → Represents 0 (a .m) (a .e) p
@@ -266,7 +266,7 @@ unfolding laneIn
 lane-in s fs k a p h H P =
     let m = productOf 11 52 (a .m) (mOf s k) in
     let f = times 52 p (getD fs k (unit 52)) in
-    stands-split 1 m (a .e +ℤ eOf s k) f (lit≤ tt) (stands-times 0 0 (a .m) (mOf s k) (a .e) (eOf s k) p (getD fs k (unit 52)) P (H .at k h) (lit≤ tt))
+    represents-split 1 m (a .e +ℤ eOf s k) f (lit≤ tt) (represents-times 0 0 (a .m) (mOf s k) (a .e) (eOf s k) p (getD fs k (unit 52)) P (H .at k h) (lit≤ tt))
 
 -- ---- the mark
 pub split-mark : (i : ℕ) (s : Lanes) (xs : List Float) → feed splitStep i s xs .bad ≡ (s .bad || some isBad xs)
@@ -290,7 +290,7 @@ block-mark s xs v = go (unsplit s xs) refl
     good : every inBounds xs ≡ true → some isBad xs ≡ false
     good h =
         some-none isBad
-        (each-map (λ (x : Float). Value x × (inBounds x ≡ true)) (λ (x : Float). isBad x ≡ false) (λ x p. within-good 120 (lit≤ tt) x (p .0) (p .1))
+        (each-map (λ (x : Float). Value x × (inBounds x ≡ true)) (λ (x : Float). isBad x ≡ false) (λ x p. in-range-good 120 (lit≤ tt) x (p .0) (p .1))
         (each-both Value (λ (x : Float). inBounds x ≡ true) v (every-each inBounds xs h)))
 
     go : (t : Bool) → unsplit s xs ≡ t → renorm (cond t (feed unsplitStep 0 s xs) (feed splitStep 0 s xs)) .bad ≡ (s .bad || some isBad xs)
@@ -325,7 +325,7 @@ pub contiguous-is : {xs : List Float} → Each Value xs
 unfolding contiguous lanesIn pieceProduct lanes
 contiguous-is {xs} v =
     ap (λ (b : Bool). record { m = r .m; e = r .e; bad = b }) (contiguous-mark xs v)
-    ∙ ap (λ (a : StableProductFloatAcc). record { m = a .m; e = a .e; bad = some isBad xs }) (stands-acc (r .m) (r .e) (pieceProduct 52 (map rateFactor xs)) stood)
+    ∙ ap (λ (a : StableProductFloatAcc). record { m = a .m; e = a .e; bad = some isBad xs }) (represents-acc (r .m) (r .e) (pieceProduct 52 (map rateFactor xs)) stood)
   where
     s : Lanes
     s = blocks (length xs / 64) startLanes xs
@@ -336,13 +336,13 @@ contiguous-is {xs} v =
     r : StableProductFloatAcc
     r = contiguous xs
 
-    held : LanesRepresent (λ (k : ℕ). 0) s fs
-    held = blocks-held (length xs / 64) startLanes (replicate 8 (unit 52)) xs (omega arith) (omega arith) v held-start
+    represent : LanesRepresent (λ (k : ℕ). 0) s fs
+    represent = blocks-represent (length xs / 64) startLanes (replicate 8 (unit 52)) xs (omega arith) (omega arith) v represent-start
 
     stood : Represents 0 (r .m) (r .e) (pieceProduct 52 (map rateFactor xs))
     stood =
         order-related (laneIn s) (λ (k : ℕ) (p : Factor). times 52 p (getD fs k (unit 52))) (λ (a : StableProductFloatAcc) (p : Factor). Represents 0 (a .m) (a .e) p) 8
-        (λ k a p h P. lane-in s fs k a p h held P) (record { m = identityAcc .m; e = identityAcc .e; bad = s .bad }) (unit 52) stands-one
+        (λ k a p h P. lane-in s fs k a p h represent P) (record { m = identityAcc .m; e = identityAcc .e; bad = s .bad }) (unit 52) represents-one
 
 -- with no bad rate, blocks of 64 give the plain product of the piece
 pub contiguous-agrees : {xs : List Float} → Each GoodRate xs → contiguous xs ≡ accOf (pieceProduct 52 (map rateFactor xs))

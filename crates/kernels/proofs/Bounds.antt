@@ -22,11 +22,11 @@ use Rattle.kernels.proofs.Feeding.{and-both}
 use Rattle.kernels.proofs.Least.{reaches, reaching-good, reaching-exponent, rate-value}
 
 -- the lower bound alone
-within-reaches : (B : ℕ) (x : Float) → inRange B x ≡ true → reaches B x ≡ true
+in-range-reaches : (B : ℕ) (x : Float) → inRange B x ≡ true → reaches B x ≡ true
 unfolding inRange
-within-reaches B nan w = w
-within-reaches B (inf s) w = w
-within-reaches B (fin s m e) w = and-both (leb (down e) (m * up e * 2 ^ B)) (leb (m * up e) (2 ^ B * down e)) w .0
+in-range-reaches B nan w = w
+in-range-reaches B (inf s) w = w
+in-range-reaches B (fin s m e) w = and-both (leb (down e) (m * up e * 2 ^ B)) (leb (m * up e) (2 ^ B * down e)) w .0
 
 -- by any fraction a / c that the value equals: |x| ≤ 2^B
 value-most : (B : ℕ) (s : Bool) (a c : ℕ) (x : Float) → HasValue x s a c → inRange B x ≡ true → a ≤ 2 ^ B * c
@@ -45,18 +45,18 @@ power-le i j h = le-of-suc-le-suc (lt-of-not-le (λ (g : j < i). strict (pow-mon
     strict : 2 ^ suc j ≤ 2 ^ i → 2 ^ i ≤ 2 ^ j → ⊥
     strict a b = omega (arith, pow-pos j)
 
-pub within-good : (B : ℕ) → B ≤ 1021 → (x : Float) → T (fits binary64 x) → inRange B x ≡ true → isBad x ≡ false
-within-good B small x f w = reaching-good B small x f (within-reaches B x w)
+pub in-range-good : (B : ℕ) → B ≤ 1021 → (x : Float) → T (fits binary64 x) → inRange B x ≡ true → isBad x ≡ false
+in-range-good B small x f w = reaching-good B small x f (in-range-reaches B x w)
 
 -- ---- the exponent
 most-place : (e : ℤ) (p k : ℕ) → e +ℤ pos 1022 ≡ pos p → p ≤ suc k + 1022 → leZ e (pos (suc k)) ≡ true
 most-place e p k = simp ints (simp atoms (omega arith))
 
-pub within-exponent : (k : ℕ) → suc k ≤ 1021 → (x : Float) → T (fits binary64 x) → inRange (suc k) x ≡ true → natAbs (rateFactor x .exp) ≤ suc k
-within-exponent k small x f w =
+pub in-range-exponent : (k : ℕ) → suc k ≤ 1021 → (x : Float) → T (fits binary64 x) → inRange (suc k) x ≡ true → natAbs (rateFactor x .exp) ≤ suc k
+in-range-exponent k small x f w =
     leb-true (natAbs (g .exp)) (suc k)
     (sym (limits k (g .exp))
-    ∙ ap (λ (t : Bool). t && leZ (g .exp) (pos (suc k))) (reaching-exponent k x f good (within-reaches B x w))
+    ∙ ap (λ (t : Bool). t && leZ (g .exp) (pos (suc k))) (reaching-exponent k x f good (in-range-reaches B x w))
     ∙ most-place (g .exp) p k (R .above) most)
   where
     B : ℕ
@@ -66,7 +66,7 @@ within-exponent k small x f w =
     g = rateFactor x
 
     good : isBad x ≡ false
-    good = within-good B small x f w
+    good = in-range-good B small x f w
 
     R : NormalExponent 11 g
     R = rate-range x good

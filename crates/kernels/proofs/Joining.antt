@@ -17,7 +17,7 @@ use Rattle.accumulator.proofs.Combining.{combined-bad, combined-good, multiplie
 use Rattle.accumulator.proofs.Joins.{multiplied-unit, multiplied-fits, multiplied-times}
 use Rattle.kernels.specs.Stepped.{rateAcc}
 use Rattle.kernels.specs.Pieces.{GoodRate, accOf}
-use Rattle.kernels.proofs.Standing.{stands-rate, stands-one, stands-acc}
+use Rattle.kernels.proofs.Standing.{represents-rate, represents-one, represents-acc}
 
 -- ---- the mark
 multiplied-mark : (a b : StableProductFloatAcc) → multiplied a b .bad ≡ false
@@ -80,14 +80,14 @@ combined-times f g F G =
         ∙ ap (times 52 f) (factor-at-float binary64 11 52 refl refl (lit< tt) g (g .exp) G)
 
 pub identity-is : identityAcc ≡ accOf (unit 52)
-identity-is = stands-acc (identityAcc .m) (identityAcc .e) (unit 52) stands-one
+identity-is = represents-acc (identityAcc .m) (identityAcc .e) (unit 52) represents-one
 
 -- a rate that is not bad is the accumulator of its factor
 pub rate-is : (x : Float) → GoodRate x → rateAcc x ≡ accOf (rateFactor x)
 unfolding rateAcc
 rate-is x r =
     ap (λ (b : Bool). record { m = split x .m; e = split x .e; bad = b }) (split-bad x ∙ r .good)
-    ∙ stands-acc (split x .m) (split x .e) (rateFactor x) (stands-rate x)
+    ∙ represents-acc (split x .m) (split x .e) (rateFactor x) (represents-rate x)
 
 pub rate-mark : (x : Float) → rateAcc x .bad ≡ isBad x
 unfolding rateAcc

@@ -15,7 +15,7 @@ use Rattle.floats.specs.Product.{productOf}
 use Rattle.floats.specs.Splitting.{split}
 use Rattle.floats.proofs.Factor.{add-size}
 use Rattle.accumulator.specs.declared.StableProductFloatAcc.{StableProductFloatAcc}
-use Rattle.accumulator.proofs.Exponents.{held, sum-fits, sum-held}
+use Rattle.accumulator.proofs.Exponents.{exact, sum-fits, sum-exact}
 use Rattle.kernels.specs.declared.lanes.Lanes.{Lanes}
 use Rattle.kernels.specs.Lanes.{feed, laneOf, inOrder}
 use Rattle.kernels.specs.Blocks.{startLanes, mOf, eOf, unsplitStep, splitStep, renormLane, renorm, unsplit, block, blocks, laneIn}
@@ -134,14 +134,14 @@ module _ (x y z : ℤ) (hx : natAbs x ≤ 2 ^ 60) (hy : natAbs y ≤ 2 ^ 60) (hz
   abbrev pub first : ℤ
   first = toZ w64 (ofZ w64 x) +ℤ toZ w64 (ofZ w64 y)
 
-  first-held : toZ w64 (ofZ w64 first) ≡ toZ w64 (ofZ w64 (x +ℤ y))
-  first-held = sum-held x y (wide x hx) (wide y hy) ∙ sym (held (x +ℤ y) z both (wide z hz) (x +ℤ y) both)
+  first-exact : toZ w64 (ofZ w64 first) ≡ toZ w64 (ofZ w64 (x +ℤ y))
+  first-exact = sum-exact x y (wide x hx) (wide y hy) ∙ sym (exact (x +ℤ y) z both (wide z hz) (x +ℤ y) both)
 
   pub first-fits : SFits w64 first
   first-fits = sum-fits x y (wide x hx) (wide y hy)
 
   pub all-fits : SFits w64 (toZ w64 (ofZ w64 first) +ℤ toZ w64 (ofZ w64 z))
-  all-fits = subst (λ (v : ℤ). SFits w64 (v +ℤ toZ w64 (ofZ w64 z))) (sym first-held) (sum-fits (x +ℤ y) z both (wide z hz))
+  all-fits = subst (λ (v : ℤ). SFits w64 (v +ℤ toZ w64 (ofZ w64 z))) (sym first-exact) (sum-fits (x +ℤ y) z both (wide z hz))
 
-  pub all-held : toZ w64 (ofZ w64 (toZ w64 (ofZ w64 first) +ℤ toZ w64 (ofZ w64 z))) ≡ x +ℤ y +ℤ z
-  all-held = ap (λ (v : ℤ). toZ w64 (ofZ w64 (v +ℤ toZ w64 (ofZ w64 z)))) first-held ∙ sum-held (x +ℤ y) z both (wide z hz)
+  pub all-exact : toZ w64 (ofZ w64 (toZ w64 (ofZ w64 first) +ℤ toZ w64 (ofZ w64 z))) ≡ x +ℤ y +ℤ z
+  all-exact = ap (λ (v : ℤ). toZ w64 (ofZ w64 (v +ℤ toZ w64 (ofZ w64 z)))) first-exact ∙ sum-exact (x +ℤ y) z both (wide z hz)

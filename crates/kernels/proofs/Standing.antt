@@ -20,8 +20,8 @@ use Rattle.accumulator.specs.declared.StableProductFloatAcc.{StableProductFloat
 use Rattle.kernels.specs.Pieces.{accOf}
 use Rattle.kernels.specs.InnerLanes.{Represents}
 
-pub stands-more : (B C : ℕ) (m : Float) (e : ℤ) (f : Factor) → B ≤ C → Represents B m e f → Represents C m e f
-stands-more B C m e f h s = record { off = s .off; near = le-trans (s .near) h; m-is = s .m-is; e-is = s .e-is; normal = s .normal }
+pub represents-more : (B C : ℕ) (m : Float) (e : ℤ) (f : Factor) → B ≤ C → Represents B m e f → Represents C m e f
+represents-more B C m e f h s = record { off = s .off; near = le-trans (s .near) h; m-is = s .m-is; e-is = s .e-is; normal = s .normal }
 
 -- exponents of -1022 to 1022 are those of normal numbers
 pub near-in : (f : Factor) (z : ℤ) → natAbs z ≤ 1022 → NormalExponent 11 (withExponent f z)
@@ -47,9 +47,9 @@ module _ (B C : ℕ) (m x : Float) (e d : ℤ) (f g : Factor) (F : Represents B 
   unfolding times z c
   product-is = refl
 
-  pub stands-times : Represents (B + C + 1) (productOf 11 52 m x) (e +ℤ d) (times 52 f g)
+  pub represents-times : Represents (B + C + 1) (productOf 11 52 m x) (e +ℤ d) (times 52 f g)
   unfolding times z c
-  stands-times = record {
+  represents-times = record {
     off = z;
     near = size;
     m-is =
@@ -76,17 +76,17 @@ range-split m e f off R is at N =
       normal = N;
     }
 
-pub stands-split : (B : ℕ) (m : Float) (e : ℤ) (f : Factor) → B ≤ 1022 → Represents B m e f → Represents 0 (split m .m) (e +ℤ split m .e) f
-stands-split B m e f h s = range-split m e f (s .off) (near-in f (s .off) (le-trans (s .near) h)) (s .m-is) (s .e-is) (s .normal)
+pub represents-split : (B : ℕ) (m : Float) (e : ℤ) (f : Factor) → B ≤ 1022 → Represents B m e f → Represents 0 (split m .m) (e +ℤ split m .e) f
+represents-split B m e f h s = range-split m e f (s .off) (near-in f (s .off) (le-trans (s .near) h)) (s .m-is) (s .e-is) (s .normal)
 
 -- ---- rates
 -- a rate, split
-pub stands-rate : (x : Float) → Represents 0 (split x .m) (split x .e) (rateFactor x)
-stands-rate x = record { off = pos 0; near = le-refl 0; m-is = split-m x; e-is = sym (split-e x) ∙ sym (+ℤ-idr (split x .e)); normal = rate-normal x }
+pub represents-rate : (x : Float) → Represents 0 (split x .m) (split x .e) (rateFactor x)
+represents-rate x = record { off = pos 0; near = le-refl 0; m-is = split-m x; e-is = sym (split-e x) ∙ sym (+ℤ-idr (split x .e)); normal = rate-normal x }
 
 -- a rate as it is, at the exponent 0
-pub stands-whole : (C : ℕ) (x : Float) → T (fits binary64 x) → isBad x ≡ false → natAbs (rateFactor x .exp) ≤ C → Represents C x (pos 0) (rateFactor x)
-stands-whole C x b h k =
+pub represents-whole : (C : ℕ) (x : Float) → T (fits binary64 x) → isBad x ≡ false → natAbs (rateFactor x .exp) ≤ C → Represents C x (pos 0) (rateFactor x)
+represents-whole C x b h k =
     let f = rateFactor x in
     record {
       off = f .exp;
@@ -97,9 +97,9 @@ stands-whole C x b h k =
     }
 
 -- 1.0 and 0
-pub stands-one : Represents 0 (fin false 1 (pos 0)) (pos 0) (unit 52)
+pub represents-one : Represents 0 (fin false 1 (pos 0)) (pos 0) (unit 52)
 unfolding floatOf
-stands-one = record { off = pos 0; near = le-refl 0; m-is = refl; e-is = refl; normal = unit-normal 52 }
+represents-one = record { off = pos 0; near = le-refl 0; m-is = refl; e-is = refl; normal = unit-normal 52 }
 
 -- ---- the end
 none-off : (z : ℤ) → natAbs z ≤ 0 → z ≡ pos 0
@@ -111,8 +111,8 @@ acc-same : (m m' : Float) (e e' : ℤ) (q : Bool) → m ≡ m' → e ≡ e' → 
 acc-same m m' e e' q a b = cc
 
 -- brought back, m and e are those of the factor
-pub stands-acc : (m : Float) (e : ℤ) (f : Factor) → Represents 0 m e f → _≡_ {A = StableProductFloatAcc} (record { m = m; e = e; bad = false }) (accOf f)
-stands-acc m e f s =
+pub represents-acc : (m : Float) (e : ℤ) (f : Factor) → Represents 0 m e f → _≡_ {A = StableProductFloatAcc} (record { m = m; e = e; bad = false }) (accOf f)
+represents-acc m e f s =
     let z = none-off (s .off) (s .near) in
     acc-same m (floatOf 11 52 (withExponent f (pos 0))) e (f .exp) false
     (s .m-is ∙ ap (λ (y : ℤ). floatOf 11 52 (withExponent f y)) z)

@@ -27,12 +27,12 @@ abbrev noAcc : StableProductFloatAcc
 noAcc = record { m = nan; e = pos 0; bad = false }
 
 -- ---- eight lanes of accumulators are those of eight factors
-pub record Same (ls : List StableProductFloatAcc) (fs : List Factor) : Type 0 where
+pub record SameLanes (ls : List StableProductFloatAcc) (fs : List Factor) : Type 0 where
   pub acc-long : length ls ≡ 8
   pub factor-long : length fs ≡ 8
   pub at : (k : ℕ) → k < 8 → (accAt ls k ≡ accOf (getD fs k (unit 52))) × Normalised 52 (getD fs k (unit 52))
 
-same-start : Same (replicate 8 identityAcc) (replicate 8 (unit 52))
+same-start : SameLanes (replicate 8 identityAcc) (replicate 8 (unit 52))
 same-start = record {
   acc-long = length-replicate 8 identityAcc;
   factor-long = length-replicate 8 (unit 52);
@@ -41,8 +41,8 @@ same-start = record {
 }
 
 -- An accumulator that is a factor's, from whatever format it came, joined to lane i mod 8.
-pub joined-value : (i : ℕ) (ls : List StableProductFloatAcc) (fs : List Factor) (b : StableProductFloatAcc) (g : Factor) → b ≡ accOf g → Normalised 52 g → Same ls fs
-    → Same (set ls (laneOf i) (combined (accAt ls (laneOf i)) b)) (laneTimes 52 i fs g)
+pub joined-value : (i : ℕ) (ls : List StableProductFloatAcc) (fs : List Factor) (b : StableProductFloatAcc) (g : Factor) → b ≡ accOf g → Normalised 52 g → SameLanes ls fs
+    → SameLanes (set ls (laneOf i) (combined (accAt ls (laneOf i)) b)) (laneTimes 52 i fs g)
 joined-value i ls fs b g e N s = record {
   acc-long = length-set ls j a ∙ s .acc-long;
   factor-long = length-set fs j f ∙ s .factor-long;
@@ -79,14 +79,14 @@ joined-value i ls fs b g e N s = record {
         (λ p. (set-cases (λ (c : StableProductFloatAcc). c ≡ accOf f) ls j k a noAcc in-acc (λ p'. joined) (λ n. absurd (n p)), times-normal 52 (getD fs j (unit 52)) g normal N))
         (λ n. (set-cases (λ (c : StableProductFloatAcc). c ≡ accOf (getD fs k (unit 52))) ls j k a noAcc in-acc (λ p. absurd (n p)) (λ n'. s .at k h .0), s .at k h .1))
 
-same-more : (i : ℕ) (ls : List StableProductFloatAcc) (fs : List Factor) (x : Float) → GoodRate x → Same ls fs → Same (laneJoined i ls x) (laneTimes 52 i fs (rateFactor x))
+same-more : (i : ℕ) (ls : List StableProductFloatAcc) (fs : List Factor) (x : Float) → GoodRate x → SameLanes ls fs → SameLanes (laneJoined i ls x) (laneTimes 52 i fs (rateFactor x))
 unfolding laneJoined
 same-more i ls fs x r s = joined-value i ls fs (rateAcc x) (rateFactor x) (rate-is x r) (rate-normal x) s
 
-same-all : {xs : List Float} → Each GoodRate xs → Same (steppedLanes xs) (lanes 52 (map rateFactor xs))
+same-all : {xs : List Float} → Each GoodRate xs → SameLanes (steppedLanes xs) (lanes 52 (map rateFactor xs))
 unfolding steppedLanes lanes
 same-all {xs} R =
-    feed-related laneJoined (laneTimes 52) rateFactor GoodRate (λ (i : ℕ). Same) (length xs) (λ i s s' x h. same-more i s s' x) 0 (replicate 8 identityAcc) (replicate 8 (unit 52)) R (omega arith) same-start
+    feed-related laneJoined (laneTimes 52) rateFactor GoodRate (λ (i : ℕ). SameLanes) (length xs) (λ i s s' x h. same-more i s s' x) 0 (replicate 8 identityAcc) (replicate 8 (unit 52)) R (omega arith) same-start
 
 -- with no bad rate, stepped lanes give the plain product of the piece
 pub stepped-agrees : {xs : List Float} → Each GoodRate xs → stepped xs ≡ accOf (pieceProduct 52 (map rateFactor xs))

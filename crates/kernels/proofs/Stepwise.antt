@@ -19,10 +19,10 @@ use Rattle.kernels.specs.declared.lanes.Lanes.{Lanes}
 use Rattle.kernels.specs.Lanes.{feed, laneOf, every, some}
 use Rattle.kernels.specs.Blocks.{mOf, eOf, unsplitStep, splitStep, inBounds, renormLane, renorm, unsplit, block, laneIn}
 use Rattle.kernels.specs.InnerLanes.{SmallLanes}
-use Rattle.accumulator.proofs.Exponents.{sum-fits, sum-held}
+use Rattle.accumulator.proofs.Exponents.{sum-fits, sum-exact}
 use Rattle.kernels.proofs.Factors.{lane-again}
 use Rattle.kernels.proofs.Sizes.{split-size}
-use Rattle.kernels.proofs.LaneSizes.{all-fits, all-held}
+use Rattle.kernels.proofs.LaneSizes.{all-fits, all-exact}
 
 lane-is : (k : ℕ) → k < 8 → laneOf k ≡ k
 lane-is k h = mod-eq-of-lt h
@@ -47,7 +47,7 @@ module _ (s : Lanes) (h : SmallLanes (2 ^ 61) s) (x : Float) (p : Split) (e : p 
   added-fits j = sum-fits (eOf s j) (p .e) (h .at j) small
 
   added-is : (j : ℕ) → toZ w64 (ofZ w64 (toZ w64 (ofZ w64 (eOf s j)) +ℤ toZ w64 (ofZ w64 (p .e)))) ≡ eOf s j +ℤ split x .e
-  added-is j = sum-held (eOf s j) (p .e) (h .at j) small ∙ ap (λ (q : Split). eOf s j +ℤ q .e) e
+  added-is j = sum-exact (eOf s j) (p .e) (h .at j) small ∙ ap (λ (q : Split). eOf s j +ℤ q .e) e
 
   -- value i, split into its lane
   pub split-lane : (i : ℕ)

@@ -123,14 +123,14 @@ strided-small xs start stride n h =
     accs-le (1025 * length ys) (2 ^ 52) (steppedLanes ys) (rw (length-strided xs start stride n) (omega arith)) (joined-small (length ys) (steppedLanes ys) (joined-all ys))
 
 -- ---- the loop: i values are in the lanes ls, and the next is at `at`
-pub record Passed (xs : List Float) (start stride : ℤ) (n : ℕ) (ls : List StableProductFloatAcc) (at : ℤ) (i : ℕ) : Type 0 where
+pub record PlacesPassed (xs : List Float) (start stride : ℤ) (n : ℕ) (ls : List StableProductFloatAcc) (at : ℤ) (i : ℕ) : Type 0 where
   pub short : i ≤ n
   pub inside : PlacesInside (length xs) at stride (n - i)
   pub same : feed laneJoined i ls (strided xs at stride (n - i)) ≡ steppedLanes (strided xs start stride n)
   pub joined : Joined i ls
 
 module _ (xs : List Float) (start stride : ℤ) (n : ℕ) where
-  pub passed-none : (ls : List StableProductFloatAcc) → ls ≡ replicate 8 identityAcc → PlacesInside (length xs) start stride n → Passed xs start stride n ls start 0
+  pub passed-none : (ls : List StableProductFloatAcc) → ls ≡ replicate 8 identityAcc → PlacesInside (length xs) start stride n → PlacesPassed xs start stride n ls start 0
   unfolding steppedLanes
   passed-none ls e h = record {
     short = omega arith;
@@ -142,7 +142,7 @@ module _ (xs : List Float) (start stride : ℤ) (n : ℕ) where
       all : n - 0 ≡ n
       all = omega arith
 
-  module _ (ls : List StableProductFloatAcc) (at : ℤ) (i : ℕ) (p : Passed xs start stride n ls at i) where
+  module _ (ls : List StableProductFloatAcc) (at : ℤ) (i : ℕ) (p : PlacesPassed xs start stride n ls at i) where
     pub passed-all : n ≤ i → ls ≡ steppedLanes (strided xs start stride n)
     unfolding feed strided
     passed-all h = sym (ap (λ (k : ℕ). feed laneJoined i ls (strided xs at stride k)) (let z : n - i ≡ 0 = omega arith in z)) ∙ p .same
@@ -164,11 +164,11 @@ module _ (xs : List Float) (start stride : ℤ) (n : ℕ) where
       unfolding laneJoined
       longer = subst (Joined (i + 1)) (sym e) (subst (λ (k : ℕ). Joined k (laneJoined i ls (getD xs (natAbs at) nan))) (sym (add-one i)) (joined-more i ls (getD xs (natAbs at) nan) (p .joined)))
 
-      pub passed-more : i + 1 < n → Passed xs start stride n us (at +ℤ stride) (i + 1)
+      pub passed-more : i + 1 < n → PlacesPassed xs start stride n us (at +ℤ stride) (i + 1)
       passed-more h = record { short = omega arith; inside = inside-next (length xs) at stride (n - (i + 1)) (subst (PlacesInside (length xs) at stride) one-less (p .inside)); same = turned; joined = longer }
 
       -- the last value: no further place is formed
-      pub passed-last : n ≤ i + 1 → Passed xs start stride n us at (i + 1)
+      pub passed-last : n ≤ i + 1 → PlacesPassed xs start stride n us at (i + 1)
       unfolding feed strided
       passed-last h = record {
         short = omega arith;

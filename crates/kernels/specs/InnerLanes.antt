@@ -39,5 +39,5 @@ pub record LanesRepresent (b : ℕ → ℕ) (s : Lanes) (fs : List Factor) : Typ
 
 -- r is what lanes s in [1, 2) become by the values xs, in whatever way: the factors are the plain lanes', in [1, 2) again, and the mark is set by every bad value
 pub record LanesAfter (s : Lanes) (xs : List Float) (r : Lanes) : Type 0 where
-  pub held : (fs : List Factor) → LanesRepresent (λ (k : ℕ). 0) s fs → LanesRepresent (λ (k : ℕ). 0) r (feed (laneTimes 52) 0 fs (map rateFactor xs))
+  pub represent : (fs : List Factor) → LanesRepresent (λ (k : ℕ). 0) s fs → LanesRepresent (λ (k : ℕ). 0) r (feed (laneTimes 52) 0 fs (map rateFactor xs))
   pub mark : (fs : List Factor) → LanesRepresent (λ (k : ℕ). 0) s fs → r .bad ≡ (s .bad || some isBad xs)

@@ -24,8 +24,8 @@ use Rattle.layout.specs.Order.{keptAxes, axesOf, resetsFit}
 use Rattle.layout.specs.InnerAnswers.{orderedIf, orderedOr, checkedOr}
 use Rattle.layout.specs.Fuse.{fuse}
 use Rattle.layout.proofs.Ordering.{length-axes}
-use Rattle.layout.specs.Compile.{totalFrom, totalOf, layoutOf, emptyLayout, fusedOf, traversalAt, traversalOf, firstOf, compileRefusals, accepted, compileOf, overflows, aboveMost}
-use Rattle.layout.proofs.Tables.{held-of, table-of, table-count}
+use Rattle.layout.specs.Compile.{totalFrom, totalOf, layoutOf, emptyLayout, fusedOf, traversalAt, traversalOf, firstOf, compileRefusals, layoutBeside, compileOf, overflows, aboveMost}
+use Rattle.layout.proofs.Tables.{table-axes-of, table-of, table-count}
 use Rattle.layout.proofs.Fusing.{count-of, from-i, length-fuse}
 
 -- ---- rule 5: the axes after the first
@@ -42,7 +42,7 @@ copied-none t out e =
       after = omega arith;
       table = table-of [] (omega arith);
       few = omega (arith, count-of [] (omega arith));
-      copied = ap (λ (z : List ReduceOuterAxis). z ++ drop 1 (tableAxes t)) (held-of []);
+      copied = ap (λ (z : List ReduceOuterAxis). z ++ drop 1 (tableAxes t)) (table-axes-of []);
     })
 
 pub copied-more : (t out r : AxisTable) (i : ℕ) → CleanTable t → i < t .count → Copied t out i → r ≡ tableOf (tableAxes out ++ getD (t .places) i noAxis ∷ []) → Copied t r (i + 1)
@@ -57,7 +57,7 @@ copied-more t out r i w h p e =
       table = table-of (tableAxes out ++ getD (t .places) i noAxis ∷ []) (omega arith);
       few = omega (arith, count-of (tableAxes out ++ getD (t .places) i noAxis ∷ []) (omega arith));
       copied =
-          ap (λ (z : List ReduceOuterAxis). z ++ drop (i + 1) (tableAxes t)) (held-of (tableAxes out ++ getD (t .places) i noAxis ∷ []))
+          ap (λ (z : List ReduceOuterAxis). z ++ drop (i + 1) (tableAxes t)) (table-axes-of (tableAxes out ++ getD (t .places) i noAxis ∷ []))
           ∙ append-assoc (tableAxes out) (getD (t .places) i noAxis ∷ []) (drop (i + 1) (tableAxes t))
           ∙ ap (λ (z : List ReduceOuterAxis). tableAxes out ++ z) (sym (from-i t i w h))
           ∙ p .copied;
@@ -164,12 +164,12 @@ module _ (ns : List ℕ) (ss : List ℤ) where
       unfolding orderedIf
       ordered-table = ap (λ (o : Ordered). o .table) (q ∙ ap (λ (b : Bool). orderedIf b (axesOf ns ss)) resets)
 
-      pub ordered-held : length ns ≤ PLACES → CleanTable (o .table)
-      ordered-held h = rw ordered-table (table-of (axesOf ns ss) (omega (arith, length-axes ns ss)))
+      pub ordered-in-table : length ns ≤ PLACES → CleanTable (o .table)
+      ordered-in-table h = rw ordered-table (table-of (axesOf ns ss) (omega (arith, length-axes ns ss)))
 
       fused-option : fusedOf ns ss ≡ fuse (tableAxes (o .table))
       unfolding fusedOf
-      fused-option = ap (λ (b : Bool). cond b (fuse (axesOf ns ss)) none) resets ∙ ap fuse (sym (ap tableAxes ordered-table ∙ held-of (axesOf ns ss)))
+      fused-option = ap (λ (b : Bool). cond b (fuse (axesOf ns ss)) none) resets ∙ ap fuse (sym (ap tableAxes ordered-table ∙ table-axes-of (axesOf ns ss)))
 
       module _ (f : Ordered) (p : f ≡ orderedOr (fuse (tableAxes (o .table)))) where
         pub no-fusing : f .ok ≡ false → traversalOf ns ss ≡ none
@@ -186,14 +186,14 @@ module _ (ns : List ℕ) (ss : List ℤ) where
           where
             go : (x : Option (List ReduceOuterAxis)) → fuse (tableAxes (o .table)) ≡ x → fuse (tableAxes (o .table)) ≡ some (tableAxes (f .table))
             go none g = absurd (subst T (sym z ∙ ap (λ (o : Ordered). o .ok) (p ∙ ap orderedOr g)) tt)
-            go (some xs) g = g ∙ ap some (sym (ap (λ (o : Ordered). tableAxes (o .table)) (p ∙ ap orderedOr g) ∙ held-of xs))
+            go (some xs) g = g ∙ ap some (sym (ap (λ (o : Ordered). tableAxes (o .table)) (p ∙ ap orderedOr g) ∙ table-axes-of xs))
 
-        pub fused-held : length ns ≤ PLACES → f .ok ≡ true → CleanTable (f .table)
+        pub fused-in-table : length ns ≤ PLACES → f .ok ≡ true → CleanTable (f .table)
         unfolding orderedOr
-        fused-held h z =
+        fused-in-table h z =
             let l = length-fuse (tableAxes (o .table)) (tableAxes (f .table)) (fusing z) in
             let m = length-axes ns ss in
-            let j : length (tableAxes (o .table)) ≡ length (axesOf ns ss) = ap length (ap tableAxes ordered-table ∙ held-of (axesOf ns ss)) in
+            let j : length (tableAxes (o .table)) ≡ length (axesOf ns ss) = ap length (ap tableAxes ordered-table ∙ table-axes-of (axesOf ns ss)) in
             rw table-is (table-of (tableAxes (f .table)) (omega arith))
           where
             table-is : f .table ≡ tableOf (tableAxes (f .table))
@@ -204,28 +204,28 @@ module _ (ns : List ℕ) (ss : List ℤ) where
 
 -- ---- the ranks
 module _ (ns : List ℕ) (ss : List ℤ) where
-  answer : (c : ℕ) (o : Option FullTraversal) → firstOf (compileRefusals ns ss) ≡ c → traversalOf ns ss ≡ o → compileOf ns ss ≡ record { code = c; traversal = accepted c o }
+  answer : (c : ℕ) (o : Option FullTraversal) → firstOf (compileRefusals ns ss) ≡ c → traversalOf ns ss ≡ o → compileOf ns ss ≡ record { code = c; traversal = layoutBeside c o }
   unfolding compileOf
-  answer c o e f = ap (λ (k : ℕ). record { code = k; traversal = accepted k (traversalOf ns ss) }) e ∙ ap (λ (x : Option FullTraversal). record { code = c; traversal = accepted c x }) f
+  answer c o e f = ap (λ (k : ℕ). record { code = k; traversal = layoutBeside k (traversalOf ns ss) }) e ∙ ap (λ (x : Option FullTraversal). record { code = c; traversal = layoutBeside c x }) f
 
   pub code-1 : (length ns ≡ length ss → ⊥) → compileOf ns ss ≡ record { code = 1; traversal = emptyLayout }
-  unfolding compileRefusals firstOf accepted
+  unfolding compileRefusals firstOf layoutBeside
   code-1 n = answer 1 (traversalOf ns ss) (rw (ne-eqb (length ns) (length ss) n)) refl
 
   module _ (e : length ns ≡ length ss) where
     pub code-2 : PLACES < length ns → compileOf ns ss ≡ record { code = 2; traversal = emptyLayout }
-    unfolding compileRefusals firstOf accepted
+    unfolding compileRefusals firstOf layoutBeside
     code-2 h = answer 2 (traversalOf ns ss) (rw (eq-eqb (length ns) (length ss) e, lt-ltb 8 (length ns) h)) refl
 
     module _ (h : length ns ≤ PLACES) where
       pub code-3 : traversalOf ns ss ≡ none → compileOf ns ss ≡ record { code = 3; traversal = emptyLayout }
-      unfolding compileRefusals firstOf accepted overflows
+      unfolding compileRefusals firstOf layoutBeside overflows
       code-3 f = answer 3 none (rw (eq-eqb (length ns) (length ss) e, le-ltb 8 (length ns) h, f)) f
 
       pub code-4 : (l : FullTraversal) (t : ℕ) → traversalOf ns ss ≡ some l → totalOf ns ≡ some t → 2 ^ 40 < t → compileOf ns ss ≡ record { code = 4; traversal = emptyLayout }
-      unfolding compileRefusals firstOf accepted overflows aboveMost
+      unfolding compileRefusals firstOf layoutBeside overflows aboveMost
       code-4 l t f g k = answer 4 (some l) (rw (eq-eqb (length ns) (length ss) e, le-ltb 8 (length ns) h, f, g, lt-ltb (2 ^ 40) t k)) f
 
       pub code-0 : (l : FullTraversal) (t : ℕ) → traversalOf ns ss ≡ some l → totalOf ns ≡ some t → t ≤ 2 ^ 40 → compileOf ns ss ≡ record { code = 0; traversal = l }
-      unfolding compileRefusals firstOf accepted overflows aboveMost
+      unfolding compileRefusals firstOf layoutBeside overflows aboveMost
       code-0 l t f g k = answer 0 (some l) (rw (eq-eqb (length ns) (length ss) e, le-ltb 8 (length ns) h, f, g, le-ltb (2 ^ 40) t k)) f

@@ -19,7 +19,7 @@ use Rattle.layout.specs.Axes.{PLACES, noAxis, span, resetFits, axisOf}
 use Rattle.layout.specs.InnerTables.{CleanTable, tableOf, tableAxes}
 use Rattle.layout.specs.Fuse.{reach, joinOf, fuseFrom, fuse}
 use Rattle.layout.specs.InnerAnswers.{nextFrom, nextOf}
-use Rattle.layout.proofs.Tables.{held-of, table-of, table-count, table-room, take-from}
+use Rattle.layout.proofs.Tables.{table-axes-of, table-of, table-count, table-room, take-from}
 use Rattle.layout.proofs.Resets.{reset-large}
 
 pub some-inj : {A : Type 0} {x y : A} → some x ≡ some y → x ≡ y
@@ -50,7 +50,7 @@ module _ (a b : ReduceOuterAxis) where
 
 -- ---- one step
 pub count-of : (xs : List ReduceOuterAxis) → length xs ≤ PLACES → (tableOf xs) .count ≡ length xs
-count-of xs h = table-count (tableOf xs) (table-of xs h) ∙ ap length (held-of xs)
+count-of xs h = table-count (tableOf xs) (table-of xs h) ∙ ap length (table-axes-of xs)
 
 module _ (done : List ReduceOuterAxis) (a b : ReduceOuterAxis) (bs : List ReduceOuterAxis) where
   pub fused-one : (c : ReduceOuterAxis) → joinOf a b ≡ One c → fuseFrom done a (b ∷ bs) ≡ fuseFrom done c bs
@@ -80,7 +80,7 @@ continues done a b h = go (joinOf a b) refl
         (record {
           table = table-of done (omega arith);
           grows = omega (arith, count-of done (omega arith));
-          fuses = λ bs. ap (λ (z : List ReduceOuterAxis). fuseFrom z c bs) (held-of done) ∙ sym (fused-one done a b bs c e);
+          fuses = λ bs. ap (λ (z : List ReduceOuterAxis). fuseFrom z c bs) (table-axes-of done) ∙ sym (fused-one done a b bs c e);
         })
     go Two e k =
         rw e
@@ -88,7 +88,7 @@ continues done a b h = go (joinOf a b) refl
         record {
           table = table-of (done ++ a ∷ []) (omega arith);
           grows = omega (arith, count-of (done ++ a ∷ []) (omega arith));
-          fuses = λ bs. ap (λ (z : List ReduceOuterAxis). fuseFrom z b bs) (held-of (done ++ a ∷ [])) ∙ sym (fused-two done a b bs e);
+          fuses = λ bs. ap (λ (z : List ReduceOuterAxis). fuseFrom z b bs) (table-axes-of (done ++ a ∷ [])) ∙ sym (fused-two done a b bs e);
         })
     go Overflow e k = absurd (subst T (sym k) tt)
 
@@ -125,7 +125,7 @@ fused-first t f w n o d l =
       table = rw d (table-of [] (omega arith));
       few = rw d (omega (arith, count-of [] (omega arith)));
       fuses =
-          rw (d, l, held-of []) (ap (fuseFrom [] (getD (t .places) 0 noAxis)) refl ∙ ap fuse (sym (from-i t 0 w (omega arith))));
+          rw (d, l, table-axes-of []) (ap (fuseFrom [] (getD (t .places) 0 noAxis)) refl ∙ ap fuse (sym (from-i t 0 w (omega arith))));
     }
 
 pub fused-more : (t : AxisTable) (f g : Fusing) (i : ℕ) → CleanTable t → i < t .count → Fused t f i → g ≡ nextOf (tableAxes (f .done)) (f .last) (getD (t .places) i noAxis) → g .ok ≡ true → Fused t g (i + 1)

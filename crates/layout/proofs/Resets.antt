@@ -12,7 +12,7 @@ use borrow.Author.Tests.{lt-ltb, le-ltb}
 use Rattle.integers.specs.Integers.{fitsI64}
 use Rattle.integers.specs.InnerChecked.{keepI, narrowI64}
 use Rattle.integers.specs.declared.CheckedI64.{CheckedI64}
-use Rattle.integers.proofs.Machine.{narrow-ok, narrow-not-ok, fits-test, narrow-over, pos-fits}
+use Rattle.integers.proofs.Machine.{narrowI64-ok, narrowI64-not-ok, fits-test, narrowI64-over, pos-fits}
 use Rattle.layout.specs.Axes.{span, resetFits, axisOf}
 
 fits-small : (n : ℕ) → n < 2 ^ 63 → fitsI64 (pos n) ≡ true
@@ -35,12 +35,12 @@ module _ (n : ℕ) (s : ℤ) (h : n - 1 < 2 ^ 63) (r : CheckedI64) (e : r ≡ na
 
   pub reset-no-span : r .ok ≡ false → resetFits n s ≡ false
   unfolding span
-  reset-no-span k = small ∙ ap (λ (b : Bool). b && fitsI64 (negℤ (s *ℤ pos (n - 1)))) (narrow-not-ok r (s *ℤ pos (n - 1)) e k)
+  reset-no-span k = small ∙ ap (λ (b : Bool). b && fitsI64 (negℤ (s *ℤ pos (n - 1)))) (narrowI64-not-ok r (s *ℤ pos (n - 1)) e k)
 
   pub reset-span : r .ok ≡ true → narrowI64 (negℤ (r .value)) ≡ keepI (resetFits n s) (negℤ (span n s))
   unfolding span narrowI64
   reset-span k =
-      let v = narrow-ok r (s *ℤ pos (n - 1)) e k in
+      let v = narrowI64-ok r (s *ℤ pos (n - 1)) e k in
       ap (λ (z : ℤ). keepI (fitsI64 (negℤ z)) (negℤ z)) (v .0)
       ∙ ap (λ (b : Bool). keepI b (negℤ (s *ℤ pos (n - 1)))) (sym (small ∙ ap (λ (b : Bool). b && fitsI64 (negℤ (s *ℤ pos (n - 1)))) (v .1)))
 

@@ -13,13 +13,13 @@ use Rattle.layout.specs.declared.axis.AxisTable.{AxisTable}
 use Rattle.layout.specs.Axes.{PLACES, noAxis, placesOf}
 use Rattle.layout.specs.InnerTables.{tableOf, tableAxes, CleanTable}
 
-pub held-of : (xs : List ReduceOuterAxis) → tableAxes (tableOf xs) ≡ xs
+pub table-axes-of : (xs : List ReduceOuterAxis) → tableAxes (tableOf xs) ≡ xs
 unfolding tableAxes tableOf placesOf
-held-of xs = take-append-seam xs (replicate (PLACES - length xs) noAxis)
+table-axes-of xs = take-append-seam xs (replicate (PLACES - length xs) noAxis)
 
 pub table-of : (xs : List ReduceOuterAxis) → length xs ≤ PLACES → CleanTable (tableOf xs)
 unfolding tableOf
-table-of xs h = (ap tableOf (sym (held-of xs)), h)
+table-of xs h = (ap tableOf (sym (table-axes-of xs)), h)
 
 pub table-places : (t : AxisTable) → CleanTable t → t .places ≡ placesOf (tableAxes t)
 unfolding tableOf
@@ -33,9 +33,9 @@ pub length-placesOf : (xs : List ReduceOuterAxis) → length xs ≤ PLACES → l
 unfolding placesOf
 length-placesOf xs h = simp (length-append, length-replicate) (omega arith)
 
-pub length-held : (t : AxisTable) → t .count ≤ length (t .places) → length (tableAxes t) ≡ t .count
+pub length-table-axes : (t : AxisTable) → t .count ≤ length (t .places) → length (tableAxes t) ≡ t .count
 unfolding tableAxes
-length-held t h = simp length-take (omega arith)
+length-table-axes t h = simp length-take (omega arith)
 
 -- one free place less
 drop-zeros : (k : ℕ) → k < PLACES → drop 1 (replicate (PLACES - k) noAxis) ≡ replicate (PLACES - suc k) noAxis

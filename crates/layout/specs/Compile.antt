@@ -70,15 +70,15 @@ compileRefusals sizes strides =
     ∷ []
 
 -- the layout beside a code
-unfoldable pub accepted : ℕ → Option FullTraversal → FullTraversal
-accepted zero (some l) = l
-accepted zero none = emptyLayout
-accepted (suc n) l = emptyLayout
+unfoldable pub layoutBeside : ℕ → Option FullTraversal → FullTraversal
+layoutBeside zero (some l) = l
+layoutBeside zero none = emptyLayout
+layoutBeside (suc n) l = emptyLayout
 
 -- the whole answer: the code, and beside a refusal the layout of total 0
 unfoldable pub compileOf : List ℕ → List ℤ → Compiled
 compileOf sizes strides =
     record {
       code = firstOf (compileRefusals sizes strides);
-      traversal = accepted (firstOf (compileRefusals sizes strides)) (traversalOf sizes strides);
+      traversal = layoutBeside (firstOf (compileRefusals sizes strides)) (traversalOf sizes strides);
     }

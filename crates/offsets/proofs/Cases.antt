@@ -6,11 +6,11 @@ use Rattle.integers.specs.Integers.{fitsI64, eqZ}
 use Rattle.layout.specs.Axes.{span, axisOf, resetFits, placesOf}
 use Rattle.layout.specs.Order.{keptAxes, rank, precedes, insertAxis, orderFrom, axesOf, resetsFit}
 use Rattle.layout.specs.Fuse.{reach, joinOf, fuseFrom, fuse}
-use Rattle.layout.specs.Compile.{totalFrom, totalOf, fusedOf, layoutOf, emptyLayout, traversalAt, traversalOf, firstOf, overflows, aboveMost, compileRefusals, accepted, compileOf}
+use Rattle.layout.specs.Compile.{totalFrom, totalOf, fusedOf, layoutOf, emptyLayout, traversalAt, traversalOf, firstOf, overflows, aboveMost, compileRefusals, layoutBeside, compileOf}
 use Rattle.offsets.specs.Elements.{digits, shift, offset, insideValues, everyBelow, allInside}
 use Rattle.offsets.specs.Lists.{totalIn, rangeRefusals, listCode, offsetsFrom, listBuffer}
 use Rattle.offsets.specs.Cases.{compiles, refuses, sameZ, lists, layoutTable}
 
 pub layout-table : layoutTable ≡ true
-unfolding fitsI64 eqZ span axisOf resetFits placesOf keptAxes rank precedes insertAxis orderFrom axesOf resetsFit reach joinOf fuseFrom fuse totalFrom totalOf fusedOf layoutOf emptyLayout traversalAt traversalOf firstOf overflows aboveMost compileRefusals accepted compileOf digits shift offset insideValues everyBelow allInside totalIn rangeRefusals listCode offsetsFrom listBuffer compiles refuses sameZ lists layoutTable
+unfolding fitsI64 eqZ span axisOf resetFits placesOf keptAxes rank precedes insertAxis orderFrom axesOf resetsFit reach joinOf fuseFrom fuse totalFrom totalOf fusedOf layoutOf emptyLayout traversalAt traversalOf firstOf overflows aboveMost compileRefusals layoutBeside compileOf digits shift offset insideValues everyBelow allInside totalIn rangeRefusals listCode offsetsFrom listBuffer compiles refuses sameZ lists layoutTable
 layout-table = refl

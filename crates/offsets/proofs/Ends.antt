@@ -213,26 +213,26 @@ module _ (xs : List ReduceOuterAxis) (w : Axes xs) (base : ℤ) where
       same z = simp ints (simp atoms (omega arith))
 
 -- ---- a test of every number
-pub every-true : (n : ℕ) (p : ℕ → Bool) → ((k : ℕ) → k < n → p k ≡ true) → everyBelow n p ≡ true
+pub every-below-true : (n : ℕ) (p : ℕ → Bool) → ((k : ℕ) → k < n → p k ≡ true) → everyBelow n p ≡ true
 unfolding everyBelow
-every-true zero p f = refl
-every-true (suc n) p f = rw (every-true n p (λ k h. f k (omega arith)), f n (omega arith))
+every-below-true zero p f = refl
+every-below-true (suc n) p f = rw (every-below-true n p (λ k h. f k (omega arith)), f n (omega arith))
 
-pub every-at : (n : ℕ) (p : ℕ → Bool) → everyBelow n p ≡ true → (k : ℕ) → k < n → p k ≡ true
+pub every-below-at : (n : ℕ) (p : ℕ → Bool) → everyBelow n p ≡ true → (k : ℕ) → k < n → p k ≡ true
 unfolding everyBelow
-every-at zero p e k h = absurd (none h)
+every-below-at zero p e k h = absurd (none h)
   where
     none : k < 0 → ⊥
     none h = omega arith
-every-at (suc n) p e k h = go (every-at n p (and-left (everyBelow n p) (p n) e) k) (decLt k n)
+every-below-at (suc n) p e k h = go (every-below-at n p (and-left (everyBelow n p) (p n) e) k) (decLt k n)
   where
     go : (k < n → p k ≡ true) → Dec (k < n) → p k ≡ true
     go f (yes l) = f l
     go f (no l) = let q : k ≡ n = omega arith in rw q (and-right (everyBelow n p) (p n) e)
 
 -- ---- refusal 7: by its definition over every element, and by the two ends
-unfoldable pub endsWithin : List ReduceOuterAxis → ℤ → ℕ → Bool
-endsWithin xs base length = leZ (pos 0) (lowestOffset xs base) && ltZ (highestOffset xs base) (pos (2 ^ 63)) && ltZ (highestOffset xs base) (pos length)
+unfoldable pub endsInside : List ReduceOuterAxis → ℤ → ℕ → Bool
+endsInside xs base length = leZ (pos 0) (lowestOffset xs base) && ltZ (highestOffset xs base) (pos (2 ^ 63)) && ltZ (highestOffset xs base) (pos length)
 
 up-zero : (a b : ℤ) → leZ (pos 0) a ≡ true → a ≤ℤ b → leZ (pos 0) b ≡ true
 up-zero a b = simp ints (simp atoms (omega arith))
@@ -247,30 +247,30 @@ of-lt : (a b : ℤ) → ltZ a b ≡ true → a <ℤ b
 of-lt a b = simp ints (simp atoms (omega arith))
 
 -- an offset that refusal 7 lets through lies in the values
-pub within-low : (n : ℕ) (z : ℤ) → insideValues n z ≡ true → pos 0 ≤ℤ z
+pub inside-low : (n : ℕ) (z : ℤ) → insideValues n z ≡ true → pos 0 ≤ℤ z
 unfolding insideValues
-within-low n z e = of-le (pos 0) z (and3 (leZ (pos 0) z) (ltZ z (pos (2 ^ 63))) (ltZ z (pos n)) e .0)
+inside-low n z e = of-le (pos 0) z (and3 (leZ (pos 0) z) (ltZ z (pos (2 ^ 63))) (ltZ z (pos n)) e .0)
 
-pub within-high : (n : ℕ) (z : ℤ) → insideValues n z ≡ true → z <ℤ pos n
+pub inside-high : (n : ℕ) (z : ℤ) → insideValues n z ≡ true → z <ℤ pos n
 unfolding insideValues
-within-high n z e = of-lt z (pos n) (and3 (leZ (pos 0) z) (ltZ z (pos (2 ^ 63))) (ltZ z (pos n)) e .2)
+inside-high n z e = of-lt z (pos n) (and3 (leZ (pos 0) z) (ltZ z (pos (2 ^ 63))) (ltZ z (pos n)) e .2)
 
 module _ (xs : List ReduceOuterAxis) (w : Axes xs) (base : ℤ) (length : ℕ) where
   -- refusal 7 is given exactly if some element lies outside
   pub seven-exact : (allInside xs (elements xs) base length ≡ true) ↔ ((k : ℕ) → k < elements xs → insideValues length (offset xs base k) ≡ true)
   unfolding allInside
-  seven-exact = (every-at (elements xs) (λ k. insideValues length (offset xs base k)), every-true (elements xs) (λ k. insideValues length (offset xs base k)))
+  seven-exact = (every-below-at (elements xs) (λ k. insideValues length (offset xs base k)), every-below-true (elements xs) (λ k. insideValues length (offset xs base k)))
 
-  ends-all : endsWithin xs base length ≡ true → (k : ℕ) → insideValues length (offset xs base k) ≡ true
-  unfolding endsWithin insideValues
+  ends-all : endsInside xs base length ≡ true → (k : ℕ) → insideValues length (offset xs base k) ≡ true
+  unfolding endsInside insideValues
   ends-all e k =
       let l = offset-low xs w base k in
       let h = offset-high xs w base k in
       let p = and3 (leZ (pos 0) (lowestOffset xs base)) (ltZ (highestOffset xs base) (pos (2 ^ 63))) (ltZ (highestOffset xs base) (pos length)) e in
       rw (up-zero (lowestOffset xs base) (offset xs base k) (p .0) l, down-lt (offset xs base k) (highestOffset xs base) (pos (2 ^ 63)) (p .1) h, down-lt (offset xs base k) (highestOffset xs base) (pos length) (p .2) h)
 
-  all-ends : allInside xs (elements xs) base length ≡ true → endsWithin xs base length ≡ true
-  unfolding endsWithin insideValues
+  all-ends : allInside xs (elements xs) base length ≡ true → endsInside xs base length ≡ true
+  unfolding endsInside insideValues
   all-ends e =
       let f = seven-exact .0 e in
       let lo = offset xs base (lowNumber xs w base) in
@@ -280,17 +280,17 @@ module _ (xs : List ReduceOuterAxis) (w : Axes xs) (base : ℤ) (length : ℕ) w
       rw (← (low-offset xs w base), ← (high-offset xs w base), l .0, h .1, h .2)
 
   -- the test of the two ends is the test of every element
-  pub ends-exact : allInside xs (elements xs) base length ≡ endsWithin xs base length
-  ends-exact = go (allInside xs (elements xs) base length) (endsWithin xs base length) refl refl
+  pub ends-exact : allInside xs (elements xs) base length ≡ endsInside xs base length
+  ends-exact = go (allInside xs (elements xs) base length) (endsInside xs base length) refl refl
     where
-      go : (a b : Bool) → allInside xs (elements xs) base length ≡ a → endsWithin xs base length ≡ b → allInside xs (elements xs) base length ≡ endsWithin xs base length
+      go : (a b : Bool) → allInside xs (elements xs) base length ≡ a → endsInside xs base length ≡ b → allInside xs (elements xs) base length ≡ endsInside xs base length
       go true b e f = e ∙ sym (all-ends e)
       go false true e f = seven-exact .1 (λ k h. ends-all f k) ∙ sym f
       go false false e f = e ∙ sym f
 
   -- what an accepted layout and base give the cursor
-  pub ends-bounded : endsWithin xs base length ≡ true → Bounded xs base
-  unfolding endsWithin
+  pub ends-bounded : endsInside xs base length ≡ true → Bounded xs base
+  unfolding endsInside
   ends-bounded e =
       let p = and3 (leZ (pos 0) (lowestOffset xs base)) (ltZ (highestOffset xs base) (pos (2 ^ 63))) (ltZ (highestOffset xs base) (pos length)) e in
       record { low = of-le (pos 0) (lowestOffset xs base) (p .0); high = of-lt (highestOffset xs base) (pos (2 ^ 63)) (p .1) }

@@ -36,7 +36,7 @@ use Rattle.offsets.specs.Elements.{digits, shift, offset, elements}
 use Rattle.offsets.proofs.Stepping.{offset-cons}
 
 -- the same elements at the same offsets
-pub record Same (xs ys : List ReduceOuterAxis) : Type 0 where
+pub record SameElements (xs ys : List ReduceOuterAxis) : Type 0 where
   pub axes : Axes ys
   pub elements : elements ys ≡ elements xs
   pub offsets : (base : ℤ) (k : ℕ) → offset ys base k ≡ offset xs base k
@@ -57,7 +57,7 @@ axes-right [] ys w = w
 axes-right (a ∷ xs) ys w = axes-right xs ys (w .1)
 
 -- under axes that stand before them
-same-after : (done xs ys : List ReduceOuterAxis) → Axes done → Same xs ys → Same (done ++ xs) (done ++ ys)
+same-after : (done xs ys : List ReduceOuterAxis) → Axes done → SameElements xs ys → SameElements (done ++ xs) (done ++ ys)
 unfolding elements
 same-after [] xs ys w s = s
 same-after (a ∷ done) xs ys w s =
@@ -71,7 +71,7 @@ same-after (a ∷ done) xs ys w s =
     rest : (a : ReduceOuterAxis) (done : List ReduceOuterAxis) → Axes (a ∷ done) → Axes done
     rest a done w = axes-right (a ∷ []) done w
 
-same-trans : (xs ys zs : List ReduceOuterAxis) → Same xs ys → Same ys zs → Same xs zs
+same-trans : (xs ys zs : List ReduceOuterAxis) → SameElements xs ys → SameElements ys zs → SameElements xs zs
 same-trans xs ys zs s t = record { axes = t .axes; elements = t .elements ∙ s .elements; offsets = λ base k. t .offsets base k ∙ s .offsets base k }
 
 -- two axes that meet, as one
@@ -90,7 +90,7 @@ module _ (a b : ReduceOuterAxis) (xs : List ReduceOuterAxis) (w : Axes (a ∷ b 
       ring : (b s : ℤ) (q e r : ℕ) → b +ℤ s *ℤ pos (q * e + r) ≡ (b +ℤ s *ℤ pos r) +ℤ (s *ℤ pos e) *ℤ pos q
       ring b s q e r = simp ints (simp atoms (omega arith))
 
-  same-both : Same (a ∷ b ∷ xs) (axisOf (a .extent * b .extent) (a .«source_step») ∷ xs)
+  same-both : SameElements (a ∷ b ∷ xs) (axisOf (a .extent * b .extent) (a .«source_step») ∷ xs)
   unfolding axisOf Axes elements
   same-both =
       record {
@@ -129,26 +129,26 @@ joined a b c e = go (fitsI64 (reach a)) (eqZ (reach a) (b .«source_step»)) (re
     go true true true p q r = (one c (axisOf (a .extent * b .extent) (a .«source_step»)) (sym e ∙ join-one a b p q r), eqZ-true (reach a) (b .«source_step») q, r)
 
 -- fusing changes no element's offset
-pub fuse-same : (done : List ReduceOuterAxis) (a : ReduceOuterAxis) (bs ys : List ReduceOuterAxis) → Axes (done ++ a ∷ bs) → fuseFrom done a bs ≡ some ys → Same (done ++ a ∷ bs) ys
+pub fuse-same : (done : List ReduceOuterAxis) (a : ReduceOuterAxis) (bs ys : List ReduceOuterAxis) → Axes (done ++ a ∷ bs) → fuseFrom done a bs ≡ some ys → SameElements (done ++ a ∷ bs) ys
 unfolding fuseFrom
 fuse-same done a [] ys w e =
     let q : done ++ a ∷ [] ≡ ys = some-inj e in
-    subst (λ (l : List ReduceOuterAxis). Same (done ++ a ∷ []) l) q (record { axes = w; elements = refl; offsets = λ base k. refl })
+    subst (λ (l : List ReduceOuterAxis). SameElements (done ++ a ∷ []) l) q (record { axes = w; elements = refl; offsets = λ base k. refl })
 fuse-same done a (b ∷ bs) ys w e =
     go (joinOf a b) refl (λ c. fuse-same done c bs ys) (fuse-same (done ++ a ∷ []) b bs ys)
   where
     tail : Axes (a ∷ b ∷ bs)
     tail = axes-right done (a ∷ b ∷ bs) w
 
-    go : (j : Joined) → joinOf a b ≡ j → ((c : ReduceOuterAxis) → Axes (done ++ c ∷ bs) → fuseFrom done c bs ≡ some ys → Same (done ++ c ∷ bs) ys)
-        → (Axes (done ++ a ∷ [] ++ b ∷ bs) → fuseFrom (done ++ a ∷ []) b bs ≡ some ys → Same (done ++ a ∷ [] ++ b ∷ bs) ys) → Same (done ++ a ∷ b ∷ bs) ys
+    go : (j : Joined) → joinOf a b ≡ j → ((c : ReduceOuterAxis) → Axes (done ++ c ∷ bs) → fuseFrom done c bs ≡ some ys → SameElements (done ++ c ∷ bs) ys)
+        → (Axes (done ++ a ∷ [] ++ b ∷ bs) → fuseFrom (done ++ a ∷ []) b bs ≡ some ys → SameElements (done ++ a ∷ [] ++ b ∷ bs) ys) → SameElements (done ++ a ∷ b ∷ bs) ys
     go (One c) q f g =
         let j = joined a b c q in
-        let s : Same (done ++ a ∷ b ∷ bs) (done ++ c ∷ bs) = rw (j .0) (same-after done (a ∷ b ∷ bs) _ (axes-left done (a ∷ b ∷ bs) w) (same-both a b bs tail (j .1) (j .2))) in
+        let s : SameElements (done ++ a ∷ b ∷ bs) (done ++ c ∷ bs) = rw (j .0) (same-after done (a ∷ b ∷ bs) _ (axes-left done (a ∷ b ∷ bs) w) (same-both a b bs tail (j .1) (j .2))) in
         same-trans (done ++ a ∷ b ∷ bs) (done ++ c ∷ bs) ys s (f c (s .axes) (sym (fused-one done a b bs c q) ∙ e))
     go Two q f g =
         let m = append-assoc done (a ∷ []) (b ∷ bs) in
-        subst (λ (l : List ReduceOuterAxis). Same l ys) m (g (rw m w) (sym (fused-two done a b bs q) ∙ e))
+        subst (λ (l : List ReduceOuterAxis). SameElements l ys) m (g (rw m w) (sym (fused-two done a b bs q) ∙ e))
     go Overflow q f g = absurd (none-some (sym (fused-over done a b bs q) ∙ e))
 
 -- ---- small steps
@@ -262,7 +262,7 @@ unfolding placesOf
 placed xs = take-append-seam xs (replicate (PLACES - length xs) noAxis)
 
 -- ---- rule 5: the run and the outer axes are the fused axes
-no-run : Same [] (axisOf 1 (pos 1) ∷ [])
+no-run : SameElements [] (axisOf 1 (pos 1) ∷ [])
 unfolding Axes axisOf elements offset digits shift resetFits span fitsI64
 no-run =
     record {
@@ -275,7 +275,7 @@ no-run =
     ring b = simp ints (simp atoms (omega arith))
 
 pub layout-traversal : (t : ℕ) (ys : List ReduceOuterAxis) → Axes ys → length ys ≤ PLACES → elements ys ≡ t
-    → Traversal (layoutOf t ys) × Same ys (runOf (layoutOf t ys) ∷ outerOf (layoutOf t ys))
+    → Traversal (layoutOf t ys) × SameElements ys (runOf (layoutOf t ys) ∷ outerOf (layoutOf t ys))
 unfolding layoutOf runOf outerOf
 layout-traversal t [] w h e =
     (record { few = omega arith; places = length-placesOf [] (omega arith); axes = no-run .axes; total = no-run .elements ∙ e }, no-run)
@@ -312,24 +312,24 @@ unfolding overflows
 not-over none e = absurd (subst T e tt)
 not-over (some l) e = (l, refl)
 
-fuse-all : (xs ys : List ReduceOuterAxis) → Axes xs → fuse xs ≡ some ys → Same xs ys
+fuse-all : (xs ys : List ReduceOuterAxis) → Axes xs → fuse xs ≡ some ys → SameElements xs ys
 unfolding fuse
-fuse-all [] ys w e = subst (Same []) (some-inj e) (record { axes = w; elements = refl; offsets = λ base k. refl })
+fuse-all [] ys w e = subst (SameElements []) (some-inj e) (record { axes = w; elements = refl; offsets = λ base k. refl })
 fuse-all (a ∷ xs) ys w e = fuse-same [] a xs ys w e
 
-pub record Accepted (ns : List ℕ) (ss : List ℤ) (l : FullTraversal) : Type 0 where
+pub record AcceptedLayout (ns : List ℕ) (ss : List ℤ) (l : FullTraversal) : Type 0 where
   pub traversal : Traversal l
-  pub same : Same (axesOf ns ss) (runOf l ∷ outerOf l)
+  pub same : SameElements (axesOf ns ss) (runOf l ∷ outerOf l)
   pub axes : Axes (axesOf ns ss)
   pub total : elements (axesOf ns ss) ≡ l .total
   pub product : totalOf ns ≡ some (l .total)
 
 module _ (ns : List ℕ) (ss : List ℤ) (eq : length ns ≡ length ss) (small : length ns ≤ PLACES) where
-  with-fused : (t : ℕ) → totalOf ns ≡ some t → (t ≡ 0 → ⊥) → (xs : List ReduceOuterAxis) → fusedOf ns ss ≡ some xs → Accepted ns ss (layoutOf t xs)
+  with-fused : (t : ℕ) → totalOf ns ≡ some t → (t ≡ 0 → ⊥) → (xs : List ReduceOuterAxis) → fusedOf ns ss ≡ some xs → AcceptedLayout ns ss (layoutOf t xs)
   unfolding fusedOf axesOf totalOf
   with-fused t e n xs f = go (resetsFit (keptAxes ns ss)) refl
     where
-      go : (b : Bool) → resetsFit (keptAxes ns ss) ≡ b → Accepted ns ss (layoutOf t xs)
+      go : (b : Bool) → resetsFit (keptAxes ns ss) ≡ b → AcceptedLayout ns ss (layoutOf t xs)
       go false q = absurd (none-some (ap (λ (b : Bool). cond b (fuse (orderFrom [] (keptAxes ns ss))) none) (sym q) ∙ f))
       go true q =
           let p : t ≡ 1 * product ns = total-product 1 ns t e in
@@ -345,18 +345,18 @@ module _ (ns : List ℕ) (ss : List ℤ) (eq : length ns ≡ length ss) (small :
           few xs z = let a = length-fuse (orderFrom [] (keptAxes ns ss)) xs z in let b = length-order [] (keptAxes ns ss) in let d = length-kept ns ss in omega arith
 
   -- a layout that compiling gives
-  pub is-accepted : (l : FullTraversal) → traversalOf ns ss ≡ some l → 0 < l .total → Accepted ns ss l
+  pub is-accepted : (l : FullTraversal) → traversalOf ns ss ≡ some l → 0 < l .total → AcceptedLayout ns ss l
   unfolding traversalOf traversalAt emptyLayout
   is-accepted l e h = go (totalOf ns) refl
     where
-      go : (o : Option ℕ) → totalOf ns ≡ o → Accepted ns ss l
+      go : (o : Option ℕ) → totalOf ns ≡ o → AcceptedLayout ns ss l
       go none q = absurd (none-some (ap (traversalAt ns ss) (sym q) ∙ e))
       go (some t) q = zero-or (decLt 0 t)
         where
           at-t : traversalAt ns ss (some t) ≡ some l
           at-t = ap (traversalAt ns ss) (sym q) ∙ e
 
-          zero-or : Dec (0 < t) → Accepted ns ss l
+          zero-or : Dec (0 < t) → AcceptedLayout ns ss l
           zero-or (no n) = absurd (empty (ap (λ (x : FullTraversal). x .total) (some-inj (ap (λ (m : ℕ). traversalAt ns ss (some m)) z ∙ at-t))))
             where
               z : 0 ≡ t
@@ -369,13 +369,13 @@ module _ (ns : List ℕ) (ss : List ℤ) (eq : length ns ≡ length ss) (small :
               nz : t ≡ 0 → ⊥
               nz k = omega arith
 
-              fused : (o : Option (List ReduceOuterAxis)) → fusedOf ns ss ≡ o → Accepted ns ss l
+              fused : (o : Option (List ReduceOuterAxis)) → fusedOf ns ss ≡ o → AcceptedLayout ns ss l
               fused none f = absurd (none-some (ap (λ (o : Option (List ReduceOuterAxis)). elim o [ none ↦ none | some xs ↦ some (layoutOf t xs) ]) (sym f) ∙ at-fused))
                 where
                   at-fused : elim (fusedOf ns ss) [ none ↦ none | some xs ↦ some (layoutOf t xs) ] ≡ some l
                   at-fused = ap (λ (b : Bool). cond b (some emptyLayout) (elim (fusedOf ns ss) [ none ↦ none | some xs ↦ some (layoutOf t xs) ])) (sym (ne-eqb t 0 nz)) ∙ at-t
               fused (some xs) f =
-                  subst (Accepted ns ss) (some-inj (ap (λ (o : Option (List ReduceOuterAxis)). elim o [ none ↦ none | some xs ↦ some (layoutOf t xs) ]) (sym f) ∙ at-fused)) (with-fused t q nz xs f)
+                  subst (AcceptedLayout ns ss) (some-inj (ap (λ (o : Option (List ReduceOuterAxis)). elim o [ none ↦ none | some xs ↦ some (layoutOf t xs) ]) (sym f) ∙ at-fused)) (with-fused t q nz xs f)
                 where
                   at-fused : elim (fusedOf ns ss) [ none ↦ none | some xs ↦ some (layoutOf t xs) ] ≡ some l
                   at-fused = ap (λ (b : Bool). cond b (some emptyLayout) (elim (fusedOf ns ss) [ none ↦ none | some xs ↦ some (layoutOf t xs) ])) (sym (ne-eqb t 0 nz)) ∙ at-t

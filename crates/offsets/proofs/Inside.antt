@@ -17,7 +17,7 @@ use Rattle.offsets.specs.declared.bounds.Span.{Span}
 use Rattle.offsets.specs.Elements.{elements, allInside}
 use Rattle.offsets.specs.InnerBounds.{negativePart, positivePart, lowSum, highSum, lowestOffset, highestOffset, nowhere, widened, stayInside}
 use Rattle.offsets.specs.InnerCursors.{Axis, Axes}
-use Rattle.offsets.proofs.Ends.{low-zero, zero-high, endsWithin, ends-exact}
+use Rattle.offsets.proofs.Ends.{low-zero, zero-high, endsInside, ends-exact}
 
 -- one axis: its reset is r, its share z
 module _ (lo hi last : ℕ) (L H : ℤ) (lz : L ≤ℤ pos 0) (hz : pos 0 ≤ℤ H) where
@@ -184,21 +184,21 @@ spanning-all all xs b last s e p = sym (stays-in (s .low) (s .high) last (p .hig
 -- ---- from the ends to every element
 module _ (xs : List ReduceOuterAxis) (w : Axes xs) (length : ℕ) where
   pub base-below : (base : ℤ) → ltZ base (pos 0) ≡ true → false ≡ allInside xs (elements xs) base length
-  unfolding endsWithin lowestOffset
+  unfolding endsInside lowestOffset
   base-below base h = sym (ends-exact xs w base length ∙ rw (low base (lowSum xs) h (low-zero xs)))
     where
       low : (b L : ℤ) → ltZ b (pos 0) ≡ true → L ≤ℤ pos 0 → leZ (pos 0) (b +ℤ L) ≡ false
       low b L = simp ints (simp atoms (omega arith))
 
   pub base-past : (b : ℕ) → length ≤ b → false ≡ allInside xs (elements xs) (pos b) length
-  unfolding endsWithin highestOffset
+  unfolding endsInside highestOffset
   base-past b h = sym (ends-exact xs w (pos b) length ∙ rw (high b (highSum xs) length h (zero-high xs)) (and-false (leZ (pos 0) (lowestOffset xs (pos b)) && ltZ (pos b +ℤ highSum xs) (pos (2 ^ 63)))))
     where
       high : (b : ℕ) (H : ℤ) (n : ℕ) → n ≤ b → pos 0 ≤ℤ H → ltZ (pos b +ℤ H) (pos n) ≡ false
       high b H n h = simp ints (simp atoms (omega arith))
 
   pub last-short : (b : ℕ) → 0 < length → length < 2 ^ 63 → stayInside xs b b (length - 1) ≡ allInside xs (elements xs) (pos b) length
-  unfolding endsWithin stayInside lowestOffset highestOffset
+  unfolding endsInside stayInside lowestOffset highestOffset
   last-short b n h = sym (ends-exact xs w (pos b) length ∙ go (leZ (pos 0) (pos b +ℤ lowSum xs)) (ltZ (pos b +ℤ highSum xs) (pos length)) refl)
     where
       wide : (z : ℤ) (k : ℕ) → k < 2 ^ 63 → ltZ z (pos k) ≡ true → ltZ z (pos (2 ^ 63)) ≡ true
@@ -219,7 +219,7 @@ module _ (xs : List ReduceOuterAxis) (w : Axes xs) (length : ℕ) where
       go x false k = rw (k, over (pos b +ℤ highSum xs) length (length - 1) (omega arith) k) (and-false (x && ltZ (pos b +ℤ highSum xs) (pos (2 ^ 63))) ∙ sym (and-false x))
 
   pub last-long : (b : ℕ) → 2 ^ 63 ≤ length → stayInside xs b b 9223372036854775807 ≡ allInside xs (elements xs) (pos b) length
-  unfolding endsWithin stayInside lowestOffset highestOffset
+  unfolding endsInside stayInside lowestOffset highestOffset
   last-long b h = sym (ends-exact xs w (pos b) length ∙ go (leZ (pos 0) (pos b +ℤ lowSum xs)) (ltZ (pos b +ℤ highSum xs) (pos (2 ^ 63))) refl)
     where
       wide : (z : ℤ) (k : ℕ) → 2 ^ 63 ≤ k → ltZ z (pos (2 ^ 63)) ≡ true → ltZ z (pos k) ≡ true

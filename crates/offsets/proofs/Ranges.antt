@@ -16,23 +16,23 @@ use Rattle.layout.specs.declared.traversal.FullTraversal.{FullTraversal}
 use Rattle.layout.specs.declared.traversal.Compiled.{Compiled}
 use Rattle.layout.specs.Axes.{PLACES}
 use Rattle.layout.specs.Order.{axesOf}
-use Rattle.layout.specs.Compile.{Refusal, firstOf, compileRefusals, compileOf, accepted, emptyLayout, totalOf, traversalOf, overflows, aboveMost}
+use Rattle.layout.specs.Compile.{Refusal, firstOf, compileRefusals, compileOf, layoutBeside, emptyLayout, totalOf, traversalOf, overflows, aboveMost}
 use Rattle.offsets.specs.Elements.{offset, insideValues, everyBelow, allInside}
 use Rattle.offsets.specs.Pieces.{runOf, outerOf}
 use Rattle.offsets.specs.InnerCursors.{Traversal, Bounded}
 use Rattle.offsets.specs.Lists.{totalIn, rangeRefusals, rangeCode, listCode, offsetsFrom, listBuffer}
 use Rattle.offsets.specs.InnerLists.{rangeOf}
 use Rattle.offsets.proofs.Ends.{ends-exact, ends-bounded}
-use Rattle.offsets.proofs.Fused.{Accepted, Same, is-accepted, refused-none, not-over}
+use Rattle.offsets.proofs.Fused.{AcceptedLayout, SameElements, is-accepted, refused-none, not-over}
 
-every-same : (n : ℕ) (p q : ℕ → Bool) → ((k : ℕ) → p k ≡ q k) → everyBelow n p ≡ everyBelow n q
+every-below-same : (n : ℕ) (p q : ℕ → Bool) → ((k : ℕ) → p k ≡ q k) → everyBelow n p ≡ everyBelow n q
 unfolding everyBelow
-every-same zero p q f = refl
-every-same (suc n) p q f = rw (every-same n p q f, f n)
+every-below-same zero p q f = refl
+every-below-same (suc n) p q f = rw (every-below-same n p q f, f n)
 
-pub within-same : (xs ys : List ReduceOuterAxis) (n : ℕ) (base : ℤ) (len : ℕ) → Same xs ys → allInside ys n base len ≡ allInside xs n base len
+pub inside-same : (xs ys : List ReduceOuterAxis) (n : ℕ) (base : ℤ) (len : ℕ) → SameElements xs ys → allInside ys n base len ≡ allInside xs n base len
 unfolding allInside
-within-same xs ys n base len s = every-same n (λ k. insideValues len (offset ys base k)) (λ k. insideValues len (offset xs base k)) (λ k. ap (insideValues len) (s .offsets base k))
+inside-same xs ys n base len s = every-below-same n (λ k. insideValues len (offset ys base k)) (λ k. insideValues len (offset xs base k)) (λ k. ap (insideValues len) (s .offsets base k))
 
 -- a refusal that applies hides those after it
 first-hides : (rs qs : List Refusal) → (firstOf rs ≡ 0 → ⊥) → firstOf (rs ++ qs) ≡ firstOf rs
@@ -56,7 +56,7 @@ module _ (ns : List ℕ) (ss : List ℤ) where
     pub after : (rs : List Refusal) → firstOf (compileRefusals ns ss ++ rs) ≡ firstOf rs
 
   pub clear : (compileOf ns ss) .code ≡ 0 → Clear
-  unfolding compileOf compileRefusals accepted firstOf
+  unfolding compileOf compileRefusals layoutBeside firstOf
   clear e =
       let r4 : List Refusal = (4, aboveMost (totalOf ns)) ∷ [] in
       let r3 : List Refusal = (3, overflows (traversalOf ns ss)) ∷ r4 in
@@ -72,55 +72,55 @@ module _ (ns : List ℕ) (ss : List ℤ) where
         layout = l .0;
         compiled = l .1;
         most = d .0;
-        is = ap (λ (n : ℕ). accepted n (traversalOf ns ss)) e ∙ ap (accepted 0) (l .1);
+        is = ap (λ (n : ℕ). layoutBeside n (traversalOf ns ss)) e ∙ ap (layoutBeside 0) (l .1);
         after = λ rs. rw (a .0, b .0, c .0, d .0);
       }
 
-  pub clear-accepted : (c : Clear) → 0 < (compileOf ns ss) .traversal .total → Accepted ns ss ((compileOf ns ss) .traversal)
-  clear-accepted c h = subst (Accepted ns ss) (sym (c .is)) (is-accepted ns ss (c .same) (c .few) (c .layout) (c .compiled) (subst (λ (l : FullTraversal). 0 < l .total) (c .is) h))
+  pub clear-accepted : (c : Clear) → 0 < (compileOf ns ss) .traversal .total → AcceptedLayout ns ss ((compileOf ns ss) .traversal)
+  clear-accepted c h = subst (AcceptedLayout ns ss) (sym (c .is)) (is-accepted ns ss (c .same) (c .few) (c .layout) (c .compiled) (subst (λ (l : FullTraversal). 0 < l .total) (c .is) h))
 
 module _ (ns : List ℕ) (ss : List ℤ) (base : ℤ) (start end len : ℕ) where
-  range-at : (c : ℕ) → rangeCode ns ss base start end len ≡ c → rangeOf ns ss base start end len ≡ record { code = c; traversal = accepted c (some ((compileOf ns ss) .traversal)) }
+  range-at : (c : ℕ) → rangeCode ns ss base start end len ≡ c → rangeOf ns ss base start end len ≡ record { code = c; traversal = layoutBeside c (some ((compileOf ns ss) .traversal)) }
   unfolding rangeOf
-  range-at c e = ap (λ (n : ℕ). record { code = n; traversal = accepted n (some ((compileOf ns ss) .traversal)) }) e
+  range-at c e = ap (λ (n : ℕ). record { code = n; traversal = layoutBeside n (some ((compileOf ns ss) .traversal)) }) e
 
   -- refusals 1 to 4 are the compile's
   pub range-compile : ((compileOf ns ss) .code ≡ 0 → ⊥) → compileOf ns ss ≡ rangeOf ns ss base start end len
-  unfolding rangeCode compileOf accepted
+  unfolding rangeCode compileOf layoutBeside
   range-compile n =
       let q = first-hides (compileRefusals ns ss) (rangeRefusals ns ss base start end len) n in
       go (firstOf (compileRefusals ns ss)) refl q
     where
-      hidden : (k : ℕ) (o : Option FullTraversal) → _≡_ {A = Compiled} (record { code = suc k; traversal = accepted (suc k) o }) (record { code = suc k; traversal = accepted (suc k) (some ((compileOf ns ss) .traversal)) })
+      hidden : (k : ℕ) (o : Option FullTraversal) → _≡_ {A = Compiled} (record { code = suc k; traversal = layoutBeside (suc k) o }) (record { code = suc k; traversal = layoutBeside (suc k) (some ((compileOf ns ss) .traversal)) })
       hidden k o = refl
 
       go : (k : ℕ) → firstOf (compileRefusals ns ss) ≡ k → firstOf (compileRefusals ns ss ++ rangeRefusals ns ss base start end len) ≡ firstOf (compileRefusals ns ss)
-          → _≡_ {A = Compiled} (record { code = firstOf (compileRefusals ns ss); traversal = accepted (firstOf (compileRefusals ns ss)) (traversalOf ns ss) }) (rangeOf ns ss base start end len)
+          → _≡_ {A = Compiled} (record { code = firstOf (compileRefusals ns ss); traversal = layoutBeside (firstOf (compileRefusals ns ss)) (traversalOf ns ss) }) (rangeOf ns ss base start end len)
       go zero e q = absurd (n e)
-      go (suc k) e q = ap (λ (m : ℕ). record { code = m; traversal = accepted m (traversalOf ns ss) }) e ∙ hidden k (traversalOf ns ss) ∙ sym (range-at (suc k) (q ∙ e))
+      go (suc k) e q = ap (λ (m : ℕ). record { code = m; traversal = layoutBeside m (traversalOf ns ss) }) e ∙ hidden k (traversalOf ns ss) ∙ sym (range-at (suc k) (q ∙ e))
 
   module _ (c : Clear ns ss) where
     pub range-5 : end ≤ start → rangeOf ns ss base start end len ≡ record { code = 5; traversal = emptyLayout }
-    unfolding rangeCode rangeRefusals firstOf accepted
+    unfolding rangeCode rangeRefusals firstOf layoutBeside
     range-5 h = range-at 5 (c .after (rangeRefusals ns ss base start end len) ∙ rw (le-leb end start h))
 
     pub range-6 : start < end → (compileOf ns ss) .traversal .total < end → rangeOf ns ss base start end len ≡ record { code = 6; traversal = emptyLayout }
-    unfolding rangeCode rangeRefusals firstOf accepted totalIn
+    unfolding rangeCode rangeRefusals firstOf layoutBeside totalIn
     range-6 h k = range-at 6 (c .after (rangeRefusals ns ss base start end len) ∙ rw (lt-leb end start h, lt-ltb ((compileOf ns ss) .traversal .total) end k))
 
     module _ (h : start < end) (k : end ≤ (compileOf ns ss) .traversal .total) where
       -- the test over the compiled layout is the test over rule 2's axes
       tested : (b : Bool) → allInside (runOf ((compileOf ns ss) .traversal) ∷ outerOf ((compileOf ns ss) .traversal)) ((compileOf ns ss) .traversal .total) base len ≡ b → allInside (axesOf ns ss) ((compileOf ns ss) .traversal .total) base len ≡ b
-      tested b e = sym (within-same (axesOf ns ss) _ _ base len (clear-accepted ns ss c (omega arith) .same)) ∙ e
+      tested b e = sym (inside-same (axesOf ns ss) _ _ base len (clear-accepted ns ss c (omega arith) .same)) ∙ e
 
       pub range-7 : allInside (runOf ((compileOf ns ss) .traversal) ∷ outerOf ((compileOf ns ss) .traversal)) ((compileOf ns ss) .traversal .total) base len ≡ false
           → rangeOf ns ss base start end len ≡ record { code = 7; traversal = emptyLayout }
-      unfolding rangeCode rangeRefusals firstOf accepted totalIn
+      unfolding rangeCode rangeRefusals firstOf layoutBeside totalIn
       range-7 e = range-at 7 (c .after (rangeRefusals ns ss base start end len) ∙ rw (lt-leb end start h, le-ltb ((compileOf ns ss) .traversal .total) end k, tested false e))
 
       pub range-0 : allInside (runOf ((compileOf ns ss) .traversal) ∷ outerOf ((compileOf ns ss) .traversal)) ((compileOf ns ss) .traversal .total) base len ≡ true
           → rangeOf ns ss base start end len ≡ record { code = 0; traversal = (compileOf ns ss) .traversal }
-      unfolding rangeCode rangeRefusals firstOf accepted totalIn
+      unfolding rangeCode rangeRefusals firstOf layoutBeside totalIn
       range-0 e = range-at 0 (c .after (rangeRefusals ns ss base start end len) ∙ rw (lt-leb end start h, le-ltb ((compileOf ns ss) .traversal .total) end k, tested true e))
 
 -- ---- an accepted range
@@ -170,19 +170,19 @@ module _ (ns : List ℕ) (ss : List ℤ) (base : ℤ) (start end len : ℕ) wher
       }
 
   module _ (r : Ranged ns ss base start end len) where
-    pub ranged-accepted : Accepted ns ss ((compileOf ns ss) .traversal)
+    pub ranged-accepted : AcceptedLayout ns ss ((compileOf ns ss) .traversal)
     ranged-accepted = clear-accepted ns ss (r .clears) (omega (arith, r .forward, r .inside))
 
     -- the test of refusal 7, over the compiled axes
-    pub ranged-within : allInside (runOf ((compileOf ns ss) .traversal) ∷ outerOf ((compileOf ns ss) .traversal)) ((compileOf ns ss) .traversal .total) base len ≡ true
-    ranged-within = within-same (axesOf ns ss) _ _ base len (ranged-accepted .same) ∙ r .within
+    pub ranged-inside : allInside (runOf ((compileOf ns ss) .traversal) ∷ outerOf ((compileOf ns ss) .traversal)) ((compileOf ns ss) .traversal .total) base len ≡ true
+    ranged-inside = inside-same (axesOf ns ss) _ _ base len (ranged-accepted .same) ∙ r .within
 
     pub ranged-bounded : Bounded (runOf ((compileOf ns ss) .traversal) ∷ outerOf ((compileOf ns ss) .traversal)) base
     ranged-bounded =
         let a = ranged-accepted in
         let xs = runOf ((compileOf ns ss) .traversal) ∷ outerOf ((compileOf ns ss) .traversal) in
         ends-bounded xs (a .traversal .axes) base len
-        (sym (ends-exact xs (a .traversal .axes) base len) ∙ ap (λ (n : ℕ). allInside xs n base len) (a .traversal .total) ∙ ranged-within)
+        (sym (ends-exact xs (a .traversal .axes) base len) ∙ ap (λ (n : ℕ). allInside xs n base len) (a .traversal .total) ∙ ranged-inside)
 
     -- refusal 4 does not apply
     pub ranged-few : (compileOf ns ss) .traversal .total ≤ 2 ^ 40
@@ -210,7 +210,7 @@ module _ (ns : List ℕ) (ss : List ℤ) (base : ℤ) (start end len : ℕ) wher
   unfolding listBuffer
   buffer-filled out e = sym (ap (λ (b : Bool). cond b (offsetsFrom (axesOf ns ss) base start (end - start) ++ drop (end - start) out) out) (eq-eqb (listCode ns ss base start end len (length out)) 0 e))
 
-pub offsets-same : (xs ys : List ReduceOuterAxis) (base : ℤ) → Same xs ys → (n k : ℕ) → offsetsFrom ys base k n ≡ offsetsFrom xs base k n
+pub offsets-same : (xs ys : List ReduceOuterAxis) (base : ℤ) → SameElements xs ys → (n k : ℕ) → offsetsFrom ys base k n ≡ offsetsFrom xs base k n
 unfolding offsetsFrom
 offsets-same xs ys base s zero k = refl
 offsets-same xs ys base s (suc n) k = rw (s .offsets base k, offsets-same xs ys base s n (suc k))

@@ -75,9 +75,9 @@ module _ (l : FullTraversal) (t : Traversal l) (base : ℤ) (b : Bounded (runOf 
   pub first-small : Small (offset (outerOf l) base (k / l .«run_len») +ℤ l .«run_stride» *ℤ pos (k % l .«run_len»))
   first-small = rw first-is (bounded-offset (runOf l ∷ outerOf l) base k (t .axes) b)
 
-  pub run-stands : AtElement (outerOf l) (cursorAt (outerOf l) base (k / l .«run_len»))
+  pub run-at-element : AtElement (outerOf l) (cursorAt (outerOf l) base (k / l .«run_len»))
   unfolding outerOf
-  run-stands =
+  run-at-element =
       record { base = base; index = k / l .«run_len»; axes = outer-axes; few = simp length-take (omega (arith, t .few)); bounded = outer-bounded; at = refl }
 
   module _ (end : ℕ) (h : k < end) where
@@ -127,11 +127,11 @@ module _ (l : FullTraversal) (t : Traversal l) (base : ℤ) (b : Bounded (runOf 
 module _ (l : FullTraversal) (t : Traversal l) (c : RangeCursor) (o : OnRange l c) where
   col-is : c .col ≡ c .at % l .«run_len»
   unfolding rangeAt
-  col-is = ap (λ (x : RangeCursor). x .col) (o .stands)
+  col-is = ap (λ (x : RangeCursor). x .col) (o .cursor-is)
 
   runs-are : c .runs ≡ cursorAt (outerOf l) (o .base) (c .at / l .«run_len»)
   unfolding rangeAt
-  runs-are = ap (λ (x : RangeCursor). x .runs) (o .stands)
+  runs-are = ap (λ (x : RangeCursor). x .runs) (o .cursor-is)
 
   from-is : c .runs .«source_offset» ≡ offset (outerOf l) (o .base) (c .at / l .«run_len»)
   unfolding cursorAt
@@ -149,8 +149,8 @@ module _ (l : FullTraversal) (t : Traversal l) (c : RangeCursor) (o : OnRange l 
   pub on-first : Small (c .runs .«source_offset» +ℤ l .«run_stride» *ℤ pos (c .col))
   on-first = rw from-is (rw col-is (first-small l t (o .base) (o .bounded) (c .at)))
 
-  pub on-stands : AtElement (outerOf l) (c .runs)
-  on-stands = subst (AtElement (outerOf l)) (sym runs-are) (run-stands l t (o .base) (o .bounded) (c .at))
+  pub on-element : AtElement (outerOf l) (c .runs)
+  on-element = subst (AtElement (outerOf l)) (sym runs-are) (run-at-element l t (o .base) (o .bounded) (c .at))
 
 -- ---- the piece p at a cursor c, for the loops over a range
 pub record PieceHere (l : FullTraversal) (base : ℤ) (end : ℕ) (c : RangeCursor) (p : RangePiece) : Type 0 where
@@ -161,7 +161,7 @@ pub record PieceHere (l : FullTraversal) (base : ℤ) (end : ℕ) (c : RangeCurs
   pub ends : c .at + p .len ≤ end
   pub offsets : (i : ℕ) → i < p .len → p .first +ℤ l .«run_stride» *ℤ pos i ≡ offset (runOf l ∷ outerOf l) base (c .at + i)
   pub next-at : p .next .at ≡ c .at + p .len
-  pub next-stands : p .next .at < end → p .next ≡ rangeAt l base (p .next .at)
+  pub next-cursor-is : p .next .at < end → p .next ≡ rangeAt l base (p .next .at)
 
 module _ (l : FullTraversal) (t : Traversal l) (base : ℤ) (b : Bounded (runOf l ∷ outerOf l) base) (end : ℕ) (c : RangeCursor) (e : c ≡ rangeAt l base (c .at)) (h : c .at < end)
     (p : RangePiece) (q : p ≡ pieceOf l end c) where
@@ -187,7 +187,7 @@ module _ (l : FullTraversal) (t : Traversal l) (base : ℤ) (b : Bounded (runOf 
         ends = rw here-len (len-end l t base b (c .at) end h);
         offsets = λ i k. rw here-first (piece-offset l t base b (c .at) end h i (rw here-len at k));
         next-at = here-next;
-        next-stands = λ k.
+        next-cursor-is = λ k.
             ap (λ (x : RangePiece). x .next) piece-is
             ∙ piece-next l t base b (c .at) end h (omega (arith, here-next, here-len, k))
             ∙ ap (λ (n : ℕ). rangeAt l base (c .at + n)) (sym here-len) ∙ ap (rangeAt l base) (sym here-next);

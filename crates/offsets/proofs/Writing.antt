@@ -160,7 +160,7 @@ filled-over out at z s v n h =
 pub record Listing (l : FullTraversal) (base : ℤ) (start end : ℕ) (out₀ out : List ℤ) (c : RangeCursor) : Type 0 where
   pub from : start ≤ c .at
   pub upto : c .at ≤ end
-  pub stands : c .at < end → c ≡ rangeAt l base (c .at)
+  pub cursor-is : c .at < end → c ≡ rangeAt l base (c .at)
   pub lists : out ≡ listed (runOf l ∷ outerOf l) base start (c .at - start) out₀
 
 pub listing-none : (l : FullTraversal) (base : ℤ) (start end : ℕ) (out : List ℤ) (c : RangeCursor) → start < end → c ≡ rangeAt l base start → Listing l base start end out out c
@@ -170,7 +170,7 @@ listing-none l base start end out c h e =
     record {
       from = omega arith;
       upto = omega arith;
-      stands = λ _. e ∙ ap (rangeAt l base) (sym k);
+      cursor-is = λ _. e ∙ ap (rangeAt l base) (sym k);
       lists = ap (λ (m : ℕ). offsetsFrom (runOf l ∷ outerOf l) base start m ++ drop m out) (z k);
     }
   where
@@ -178,7 +178,7 @@ listing-none l base start end out c h e =
     z k = omega arith
 
 -- what the piece p at the cursor gives the loop
-pub record Taken (l : FullTraversal) (base : ℤ) (start end : ℕ) (out₀ out : List ℤ) (c : RangeCursor) (p : RangePiece) : Type 0 where
+pub record ListTaken (l : FullTraversal) (base : ℤ) (start end : ℕ) (out₀ out : List ℤ) (c : RangeCursor) (p : RangePiece) : Type 0 where
   pub some-len : 1 ≤ p .len
   pub enough : c .at - start + p .len ≤ length out
   pub first-fits : SFits w64 (p .first)
@@ -189,7 +189,7 @@ pub record Taken (l : FullTraversal) (base : ℤ) (start end : ℕ) (out₀ out 
 module _ (l : FullTraversal) (t : Traversal l) (base : ℤ) (b : Bounded (runOf l ∷ outerOf l) base) (start end : ℕ) (out₀ out : List ℤ) (c : RangeCursor) (room : end - start ≤ length out₀)
     (q : Listing l base start end out₀ out c) (h : c .at < end) (p : RangePiece) (e : p ≡ pieceOf l end c) where
   here : PieceHere l base end c p
-  here = piece-here l t base b end c (q .stands h) h p e
+  here = piece-here l t base b end c (q .cursor-is h) h p e
 
   -- the piece's offsets are the elements'
   listed-is : steps (p .first) (l .«run_stride») (p .len) ≡ offsetsFrom (runOf l ∷ outerOf l) base (c .at) (p .len)
@@ -210,7 +210,7 @@ module _ (l : FullTraversal) (t : Traversal l) (base : ℤ) (b : Bounded (runOf 
       record {
         from = omega (arith, here .next-at, q .from);
         upto = omega (arith, here .next-at, here .ends);
-        stands = here .next-stands;
+        cursor-is = here .next-cursor-is;
         lists =
             g
             ∙ ap (λ (x : List ℤ). take (c .at - start) out ++ x ++ drop (c .at - start + p .len) out) listed-is
@@ -226,5 +226,5 @@ module _ (l : FullTraversal) (t : Traversal l) (base : ℤ) (b : Bounded (runOf 
       ahead : c .at - start + p .len ≡ p .next .at - start
       ahead = omega (arith, q .from, here .next-at)
 
-  pub listing-taken : Taken l base start end out₀ out c p
+  pub listing-taken : ListTaken l base start end out₀ out c p
   listing-taken = record { some-len = here .some-len; enough = enough; first-fits = first-fits; offsets-fit = offsets-fit; next-at = here .next-at; more = listing-more }

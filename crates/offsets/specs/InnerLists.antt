@@ -5,7 +5,7 @@ use lib.ListN.{length}
 use lib.IntN.{ℤ, _+ℤ_}
 use mathlib.Core.Option.{some}
 use Rattle.layout.specs.declared.traversal.Compiled.{Compiled}
-use Rattle.layout.specs.Compile.{compileOf, accepted}
+use Rattle.layout.specs.Compile.{compileOf, layoutBeside}
 use Rattle.offsets.specs.Lists.{rangeCode}
 
 -- a range's code, beside the compiled layout where it is accepted
@@ -13,7 +13,7 @@ unfoldable pub rangeOf : List ℕ → List ℤ → ℤ → ℕ → ℕ → ℕ �
 rangeOf sizes strides base start end length =
     record {
       code = rangeCode sizes strides base start end length;
-      traversal = accepted (rangeCode sizes strides base start end length) (some ((compileOf sizes strides) .traversal));
+      traversal = layoutBeside (rangeCode sizes strides base start end length) (some ((compileOf sizes strides) .traversal));
     }
 
 -- n numbers from z on, a stride apart

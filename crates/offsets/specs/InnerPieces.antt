@@ -29,4 +29,4 @@ pieceOf l end c =
 pub record OnRange (l : FullTraversal) (c : RangeCursor) : Type 0 where
   pub base : ℤ
   pub bounded : Bounded (runOf l ∷ outerOf l) base
-  pub stands : c ≡ rangeAt l base (c .at)
+  pub cursor-is : c ≡ rangeAt l base (c .at)

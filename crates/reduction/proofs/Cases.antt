@@ -7,7 +7,7 @@ use Rattle.integers.specs.Integers.{fitsI64, eqZ}
 use Rattle.layout.specs.Axes.{span, axisOf, resetFits, placesOf}
 use Rattle.layout.specs.Order.{keptAxes, rank, precedes, insertAxis, orderFrom, axesOf, resetsFit}
 use Rattle.layout.specs.Fuse.{reach, joinOf, fuseFrom, fuse}
-use Rattle.layout.specs.Compile.{totalFrom, totalOf, fusedOf, layoutOf, emptyLayout, traversalAt, traversalOf, firstOf, overflows, aboveMost, compileRefusals, accepted, compileOf}
+use Rattle.layout.specs.Compile.{totalFrom, totalOf, fusedOf, layoutOf, emptyLayout, traversalAt, traversalOf, firstOf, overflows, aboveMost, compileRefusals, layoutBeside, compileOf}
 use Rattle.offsets.specs.Elements.{digits, shift, offset, insideValues, everyBelow, allInside}
 use Rattle.offsets.specs.Pieces.{runOf, outerOf}
 use Rattle.offsets.specs.Lists.{totalIn, rangeRefusals, rangeCode, offsetsFrom}
@@ -29,7 +29,7 @@ use Rattle.reduction.specs.Ranges.{piecesFrom, reduceOf}
 use Rattle.reduction.specs.Cases.{tells, reduces, productTable, caseTable}
 
 product-table : productTable ≡ true
-unfolding fitsI64 eqZ span axisOf resetFits placesOf keptAxes rank precedes insertAxis orderFrom axesOf resetsFit reach joinOf fuseFrom fuse totalFrom totalOf fusedOf layoutOf emptyLayout traversalAt traversalOf firstOf overflows aboveMost compileRefusals accepted compileOf digits shift offset insideValues everyBelow allInside totalIn rangeRefusals rangeCode offsetsFrom runOf outerOf piecesFrom reduceOf joinedPieces blocks.contiguous blocks.blocks blocks.block blocks.unsplit blocks.renorm blocks.renormLane lanes.inOrder lanes.feed blocks.splitStep blocks.unsplitStep blocks.inRange lanes.every lanes.some blocks.laneIn blocks.lanesIn split toBits valueOf ofParts delivered isBad badBits product rounded size odd isNan stepped steppedLanes lanesJoined laneJoined rateAcc combined multiplied twoOrMore sameFloat tells reduces productTable
+unfolding fitsI64 eqZ span axisOf resetFits placesOf keptAxes rank precedes insertAxis orderFrom axesOf resetsFit reach joinOf fuseFrom fuse totalFrom totalOf fusedOf layoutOf emptyLayout traversalAt traversalOf firstOf overflows aboveMost compileRefusals layoutBeside compileOf digits shift offset insideValues everyBelow allInside totalIn rangeRefusals rangeCode offsetsFrom runOf outerOf piecesFrom reduceOf joinedPieces blocks.contiguous blocks.blocks blocks.block blocks.unsplit blocks.renorm blocks.renormLane lanes.inOrder lanes.feed blocks.splitStep blocks.unsplitStep blocks.inRange lanes.every lanes.some blocks.laneIn blocks.lanesIn split toBits valueOf ofParts delivered isBad badBits product rounded size odd isNan stepped steppedLanes lanesJoined laneJoined rateAcc combined multiplied twoOrMore sameFloat tells reduces productTable
 product-table = refl
 
 pub case-table : caseTable ≡ true

@@ -147,9 +147,9 @@ module _ (l : FullTraversal) (t : Traversal l) (base : ℤ) (b : Bounded (runOf 
     range-mark = joined-mark (each-map FullPiece ValuePiece (λ p f. f .values) full) ∙ bad-visited
 
     -- 1 <= |m| < 2 and |e| <= 2^52, bad or not: the answer can be joined and finished
-    pub range-stands : inLimits (joinedPieces (piecesOf l base values end start)) ≡ true
+    pub range-in-limits : inLimits (joinedPieces (piecesOf l base values end start)) ≡ true
     unfolding inLimits
-    range-stands =
+    range-in-limits =
         let r = joined-within full in
         ap (λ (x : Bool). x && withinLimit (joinedPieces (piecesOf l base values end start) .e)) (r .0 .in-unit)
         ∙ le-leb (natAbs (joinedPieces (piecesOf l base values end start) .e)) (2 ^ 52) (le-trans (r .1) (omega (arith, count)))

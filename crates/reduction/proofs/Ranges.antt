@@ -20,7 +20,7 @@ use Rattle.offsets.specs.Elements.{insideValues, allInside}
 use Rattle.offsets.specs.InnerCursors.{Bounded, Traversal}
 use Rattle.offsets.specs.Pieces.{runOf, outerOf, pieceLength}
 use Rattle.offsets.specs.InnerPieces.{rangeAt, pieceOf}
-use Rattle.offsets.proofs.Ends.{seven-exact, within-low, within-high}
+use Rattle.offsets.proofs.Ends.{seven-exact, inside-low, inside-high}
 use Rattle.offsets.proofs.Walking.{len-pos, PieceHere, piece-here}
 use Rattle.offsets.proofs.Writing.{piece-steps}
 use Rattle.kernels.specs.Pieces.{Piece, worked, workedPiece, joinedPieces}
@@ -33,11 +33,11 @@ use Rattle.reduction.specs.Ranges.{valueAt, ratesFrom, pieceAt, piecesOf
 use Rattle.reduction.proofs.Pieces.{pieces-none, pieces-more, strided-steps, strided-near}
 
 -- what the piece p at a cursor gives the loop
-pub record Taken (l : FullTraversal) (base : ℤ) (values : List Float) (end : ℕ) (c : RangeCursor) (p : RangePiece) : Type 0 where
+pub record PieceTaken (l : FullTraversal) (base : ℤ) (values : List Float) (end : ℕ) (c : RangeCursor) (p : RangePiece) : Type 0 where
   pub some-len : 1 ≤ p .len
   pub ends : c .at + p .len ≤ end
   pub next-at : p .next .at ≡ c .at + p .len
-  pub next-stands : p .next .at < end → p .next ≡ rangeAt l base (p .next .at)
+  pub next-cursor-is : p .next .at < end → p .next ≡ rangeAt l base (p .next .at)
   pub inside : PlacesInside (length values) (p .first) (l .«run_stride») (p .len)
   pub worked-is : worked (eqZ (l .«run_stride») (pos 1)) (strided values (p .first) (l .«run_stride») (p .len)) ≡ workedPiece (pieceAt l base values end (c .at))
   pub pieces : piecesOf l base values end (c .at) ≡ pieceAt l base values end (c .at) ∷ piecesOf l base values end (p .next .at)
@@ -59,14 +59,14 @@ module _ (l : FullTraversal) (t : Traversal l) (base : ℤ) (b : Bounded (runOf 
       ∙ ap (λ (zs : List ℤ). map (valueAt values) zs) (piece-steps l t base b end c p here)
       ∙ ap (λ (n : ℕ). ratesFrom l base values (c .at) n) (here .len-is)
 
-  pub taken : Taken l base values end c p
+  pub taken : PieceTaken l base values end c p
   taken =
       record {
         some-len = here .some-len;
         ends = here .ends;
         next-at = here .next-at;
-        next-stands = here .next-stands;
-        inside = record { least = λ i k. within-low (length values) _ (lies i k); most = λ i k. within-high (length values) _ (lies i k) };
+        next-cursor-is = here .next-cursor-is;
+        inside = record { least = λ i k. inside-low (length values) _ (lies i k); most = λ i k. inside-high (length values) _ (lies i k) };
         worked-is = ap (worked (eqZ (l .«run_stride») (pos 1))) rates-are;
         pieces =
             pieces-more l base values end (λ k g. len-pos l t base b k end g) (c .at) h
@@ -76,12 +76,12 @@ module _ (l : FullTraversal) (t : Traversal l) (base : ℤ) (b : Bounded (runOf 
 -- ---- the loop: the cursor stands at c .at while that is below the end, and what is left joins to the range's product
 pub record Reducing (l : FullTraversal) (base : ℤ) (values : List Float) (start end : ℕ) (acc : StableProductFloatAcc) (c : RangeCursor) : Type 0 where
   pub upto : c .at ≤ end
-  pub stands : c .at < end → c ≡ rangeAt l base (c .at)
+  pub cursor-is : c .at < end → c ≡ rangeAt l base (c .at)
   pub small : natAbs (acc .e) ≤ 1048576 * c .at
   pub sound : Sound acc
   pub rest : foldl combined acc (map workedPiece (piecesOf l base values end (c .at))) ≡ joinedPieces (piecesOf l base values end start)
 
-module _ (l : FullTraversal) (base : ℤ) (values : List Float) (start end : ℕ) (c : RangeCursor) (p : RangePiece) (t : Taken l base values end c p) (b : StableProductFloatAcc)
+module _ (l : FullTraversal) (base : ℤ) (values : List Float) (start end : ℕ) (c : RangeCursor) (p : RangePiece) (t : PieceTaken l base values end c p) (b : StableProductFloatAcc)
     (e : b ≡ worked (eqZ (l .«run_stride») (pos 1)) (strided values (p .first) (l .«run_stride») (p .len))) where
   pub near : natAbs (b .e) ≤ 1048575 * p .len
   near = subst (λ (a : StableProductFloatAcc). natAbs (a .e) ≤ 1048575 * p .len) (sym e) (strided-near values (p .first) (l .«run_stride») (p .len) (t .some-len))
@@ -101,7 +101,7 @@ module _ (l : FullTraversal) (base : ℤ) (values : List Float) (start end : ℕ
   reducing-first v k =
       record {
         upto = omega (arith, t .next-at, t .ends);
-        stands = t .next-stands;
+        cursor-is = t .next-cursor-is;
         small = le-trans near (omega (arith, t .next-at));
         sound = piece-sound v;
         rest =
@@ -114,7 +114,7 @@ module _ (l : FullTraversal) (base : ℤ) (values : List Float) (start end : ℕ
   reducing-more v acc s r g =
       record {
         upto = omega (arith, t .next-at, t .ends);
-        stands = t .next-stands;
+        cursor-is = t .next-cursor-is;
         small = subst (λ (a : StableProductFloatAcc). natAbs (a .e) ≤ 1048576 * p .next .at) (sym g) (le-trans (combined-size acc b) (omega (arith, t .next-at, near, s .small, t .some-len)));
         sound = subst Sound (sym g) (combined-sound acc b (s .sound) (piece-sound v));
         rest =

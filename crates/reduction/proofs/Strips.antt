@@ -38,7 +38,7 @@ use Rattle.vectors.proofs.Feds.{strided-values}
 use Rattle.reduction.specs.Ranges.{pieceAt, piecesOf}
 use Rattle.reduction.specs.InnerStrips.{strip}
 use Rattle.reduction.proofs.Pieces.{strided-near}
-use Rattle.reduction.proofs.Ranges.{Taken, taken, Reducing}
+use Rattle.reduction.proofs.Ranges.{PieceTaken, taken, Reducing}
 
 -- ---- places a step apart
 pub place-zero : (z s : ℤ) → z +ℤ s *ℤ pos 0 ≡ z
@@ -112,7 +112,7 @@ module _ (l : FullTraversal) (t : Traversal l) (base : ℤ) (b : Bounded (runOf 
     before-end : q * l .«run_len» < end
     before-end = omega (arith, run-some l t)
 
-    run-taken : Taken l base values end (rangeAt l base (q * l .«run_len»)) (pieceOf l end (rangeAt l base (q * l .«run_len»)))
+    run-taken : PieceTaken l base values end (rangeAt l base (q * l .«run_len»)) (pieceOf l end (rangeAt l base (q * l .«run_len»)))
     unfolding rangeAt
     run-taken = taken l t base b values w end few (rangeAt l base (q * l .«run_len»)) refl before-end (pieceOf l end (rangeAt l base (q * l .«run_len»))) refl
 
@@ -194,7 +194,7 @@ runs-ahead l t at end r h some-axis some-extent z a k =
 -- ---- n whole runs from a cursor on
 module _ (l : FullTraversal) (t : Traversal l) (base : ℤ) (b : Bounded (runOf l ∷ outerOf l) base) (values : List Float)
     (w : allInside (runOf l ∷ outerOf l) (l .total) base (length values) ≡ true) (end : ℕ) (few : end ≤ l .total)
-    (c : RangeCursor) (stands : c ≡ rangeAt l base (c .at)) (n : ℕ)
+    (c : RangeCursor) (cursor-is : c ≡ rangeAt l base (c .at)) (n : ℕ)
     (some-axis : 0 < l .«axis_count») (at-run : c .at % l .«run_len» ≡ 0) (left : c .at / l .«run_len» % firstAxis l .extent + n ≤ firstAxis l .extent) (room : c .at + n * l .«run_len» ≤ end) where
   whole : c .at ≡ c .at / l .«run_len» * l .«run_len»
   whole = omega (arith, div-add-mod' (c .at) (l .«run_len»))
@@ -204,7 +204,7 @@ module _ (l : FullTraversal) (t : Traversal l) (base : ℤ) (b : Bounded (runOf 
 
   from-is : c .runs .«source_offset» ≡ offset (outerOf l) base (c .at / l .«run_len»)
   unfolding rangeAt cursorAt
-  from-is = ap (λ (x : RangeCursor). x .runs .«source_offset») stands
+  from-is = ap (λ (x : RangeCursor). x .runs .«source_offset») cursor-is
 
   lie : (j : ℕ) → j < n → c .runs .«source_offset» +ℤ firstAxis l .«source_step» *ℤ pos j ≡ offset (outerOf l) base (c .at / l .«run_len» + j)
   lie j k = ap (λ (z : ℤ). z +ℤ firstAxis l .«source_step» *ℤ pos j) from-is ∙ runs-lie l t base b some-axis (c .at / l .«run_len») n left j k
@@ -221,7 +221,7 @@ module _ (l : FullTraversal) (t : Traversal l) (base : ℤ) (b : Bounded (runOf 
   reducing-strip v start acc s r g d e =
       record {
         upto = omega (arith, next-at d e);
-        stands = λ k. e ∙ ap (rangeAt l base) (sym (next-at d e));
+        cursor-is = λ k. e ∙ ap (rangeAt l base) (sym (next-at d e));
         small = subst (λ (a : StableProductFloatAcc). natAbs (a .e) ≤ 1048576 * d .at) (sym g) (le-trans (strip-small values _ _ _ (run-some l t) n _ acc) (omega (arith, next-at d e, s .small)));
         sound = subst Sound (sym g) (strip-sound values v (firstAxis l .«source_step») (l .«run_stride») (l .«run_len») n (c .runs .«source_offset») acc (s .sound));
         rest =

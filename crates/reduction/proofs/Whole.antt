@@ -18,7 +18,7 @@ use Rattle.accumulator.specs.declared.StableProductFloatAcc.{StableProductFloat
 use Rattle.accumulator.specs.declared.Reduced.{Reduced}
 use Rattle.accumulator.specs.declared.Reduced.the-variants.{Acc, Refused}
 use Rattle.accumulator.specs.Joining.{Answer, answerOf, accumulator, refusal, factorOfAcc, inLimits}
-use Rattle.accumulator.proofs.Answers.{stands-unit}
+use Rattle.accumulator.proofs.Answers.{in-limits-unit}
 use Rattle.finishing.specs.Once.{roundedOnce}
 use Rattle.finishing.specs.Finishing.{value, finishedOf}
 use Rattle.finishing.proofs.Answers.{finished-bad, finished-once}
@@ -29,28 +29,28 @@ use Rattle.kernels.specs.Plain.{plainProduct}
 use Rattle.kernels.specs.Pieces.{Piece, patternsOf, accOf}
 use Rattle.reduction.specs.Ranges.{valueAt, piecesOf, ratesOf, visitedRates, rangeProduct, reduceOf}
 use Rattle.reduction.proofs.Calls.{reduce-accepted}
-use Rattle.reduction.proofs.Demand.{range-rates, range-mark, range-stands, range-agrees}
+use Rattle.reduction.proofs.Demand.{range-rates, range-mark, range-in-limits, range-agrees}
 
 -- ---- an answer is known by what it tells
-abbrev told-m : Answer → Float
-told-m (accumulator m e bad) = m
-told-m (refusal n) = nan
+abbrev answer-m : Answer → Float
+answer-m (accumulator m e bad) = m
+answer-m (refusal n) = nan
 
-abbrev told-e : ℤ → Answer → ℤ
-told-e d (accumulator m e bad) = e
-told-e d (refusal n) = d
+abbrev answer-e : ℤ → Answer → ℤ
+answer-e d (accumulator m e bad) = e
+answer-e d (refusal n) = d
 
-abbrev told-bad : Answer → Bool
-told-bad (accumulator m e bad) = bad
-told-bad (refusal n) = false
+abbrev answer-bad : Answer → Bool
+answer-bad (accumulator m e bad) = bad
+answer-bad (refusal n) = false
 
 abbrev is-accumulator : Answer → Bool
 is-accumulator (accumulator m e bad) = true
 is-accumulator (refusal n) = false
 
-told-acc : (r : Reduced) (a : StableProductFloatAcc) → answerOf r ≡ answerOf (Acc a) → r ≡ Acc a
-told-acc (Refused n) a e = absurd (subst T (sym (ap is-accumulator e)) tt)
-told-acc (Acc b) a e = ap Acc (same (ap told-m e) (ap (told-e (a .e)) e) (ap told-bad e))
+answer-acc : (r : Reduced) (a : StableProductFloatAcc) → answerOf r ≡ answerOf (Acc a) → r ≡ Acc a
+answer-acc (Refused n) a e = absurd (subst T (sym (ap is-accumulator e)) tt)
+answer-acc (Acc b) a e = ap Acc (same (ap answer-m e) (ap (answer-e (a .e)) e) (ap answer-bad e))
   where
     same : b .m ≡ a .m → b .e ≡ a .e → b .bad ≡ a .bad → b ≡ a
     same p q r = rw (p, q, r) refl
@@ -83,14 +83,14 @@ module _ (ns : List ℕ) (ss : List ℤ) (base : ℤ) (start end : ℕ) (values 
       let r = rangeProduct ns ss base start end values in
       let same = ap (map (valueAt values)) (offsets-same (axesOf ns ss) _ base (a .same) (end - start) start) in
       let mark = range-mark l (a .traversal) base b values v end start (g .forward) few ∙ ap (some isBad) same in
-      let up = range-stands l (a .traversal) base b values v end start (g .forward) few in
+      let up = range-in-limits l (a .traversal) base b values v end start (g .forward) few in
       let answer = reduce-accepted ns ss base start end values e in
       record {
         answer = answer;
         rates = range-rates l (a .traversal) base b values v end start (g .forward) few ∙ same;
         mark = mark;
         plain = λ k. range-agrees l (a .traversal) base b values v end start (g .forward) few (ap (some isBad) same ∙ sym mark ∙ k);
-        unit = stands-unit r up;
-        once = λ q t k. ap finishedOf (told-acc q r (t ∙ answer)) ∙ finished-once r up k;
-        marked = λ q t k. ap finishedOf (told-acc q r (t ∙ answer)) ∙ finished-bad r up k;
+        unit = in-limits-unit r up;
+        once = λ q t k. ap finishedOf (answer-acc q r (t ∙ answer)) ∙ finished-once r up k;
+        marked = λ q t k. ap finishedOf (answer-acc q r (t ∙ answer)) ∙ finished-bad r up k;
       }

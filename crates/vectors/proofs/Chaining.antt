@@ -18,9 +18,9 @@ use Rattle.kernels.specs.declared.lanes.Lanes.{Lanes}
 use Rattle.kernels.specs.Lanes.{inOrder}
 use Rattle.kernels.specs.Blocks.{mOf, eOf}
 use Rattle.kernels.specs.InnerLanes.{Represents, LanesRepresent}
-use Rattle.kernels.proofs.Standing.{stands-times, stands-one, stands-more}
+use Rattle.kernels.proofs.Standing.{represents-times, represents-one, represents-more}
 use Rattle.vectors.specs.InnerWaiting.{one, chained, exponentsOf}
-use Rattle.vectors.proofs.Waits.{Waits, waits-more, waits-times, stands-waits}
+use Rattle.vectors.proofs.Waits.{Waits, waits-more, waits-times, represents-waits}
 use Rattle.vectors.proofs.Waiting.{WaitLanes, LostLane}
 
 abbrev times-in : List Factor → ℕ → Factor → Factor
@@ -33,24 +33,24 @@ product-in ms k p = productOf 11 52 p (getD ms k nan)
 module _ (s : Lanes) (fs : List Factor) (H : LanesRepresent (λ (k : ℕ). 0) s fs) where
   upto : (n : ℕ) → n ≤ 8 → Represents n (inOrder (product-in (s .m)) n one) (inOrder (λ (k : ℕ) (e : ℤ). e +ℤ eOf s k) n (pos 0)) (inOrder (times-in fs) n (unit 52))
   unfolding inOrder
-  upto zero h = stands-one
+  upto zero h = represents-one
   upto (suc n) h =
       let P = upto n (le-of-lt h) in
       let p = inOrder (product-in (s .m)) n one in
       let e = inOrder (λ (k : ℕ) (e : ℤ). e +ℤ eOf s k) n (pos 0) in
       let f = inOrder (times-in fs) n (unit 52) in
-      stands-more (n + 0 + 1) (suc n) (productOf 11 52 p (mOf s n)) (e +ℤ eOf s n) (times 52 f (getD fs n (unit 52))) (omega arith)
-      (stands-times n 0 p (mOf s n) e (eOf s n) f (getD fs n (unit 52)) P (H .at n h) (omega arith))
+      represents-more (n + 0 + 1) (suc n) (productOf 11 52 p (mOf s n)) (e +ℤ eOf s n) (times 52 f (getD fs n (unit 52))) (omega arith)
+      (represents-times n 0 p (mOf s n) e (eOf s n) f (getD fs n (unit 52)) P (H .at n h) (omega arith))
 
-  pub chain-stands : Represents 8 (chained (s .m)) (exponentsOf s) (inOrder (times-in fs) 8 (unit 52))
+  pub chain-represents : Represents 8 (chained (s .m)) (exponentsOf s) (inOrder (times-in fs) 8 (unit 52))
   unfolding chained exponentsOf
-  chain-stands = upto 8 (le-refl 8)
+  chain-represents = upto 8 (le-refl 8)
 
 -- ---- lanes that wait, each at most 120 deep and with the exponent 0
 module _ (ms : List Float) (fs : List Factor) (es : List ℤ) (zeros : (k : ℕ) → getD es k (pos 0) ≡ pos 0) (W : WaitLanes (λ (k : ℕ). 120) ms es fs) where
   on : (n : ℕ) → n ≤ 8 → Waits (120 * n) (inOrder (product-in ms) n one) (pos 0) (inOrder (times-in fs) n (unit 52)) ⊎ (isLost (inOrder (product-in ms) n one) ≡ true)
   unfolding inOrder
-  on zero h = inl (stands-waits one (pos 0) (unit 52) stands-one)
+  on zero h = inl (represents-waits one (pos 0) (unit 52) represents-one)
   on (suc n) h = go (on n (le-of-lt h))
     where
       p : Float

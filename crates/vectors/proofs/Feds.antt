@@ -27,15 +27,15 @@ use Rattle.kernels.specs.Stepped.{stepped}
 use Rattle.kernels.specs.InnerStrided.{strided}
 use Rattle.kernels.proofs.Feeding.{feed-append, feed-eights, each-map, each-of, some-append, some-none, or-none, or-assoc}
 use Rattle.kernels.proofs.Factors.{NormalLanes, lane-normal, lane-lt, times-again}
-use Rattle.kernels.proofs.Standing.{stands-split, stands-acc}
+use Rattle.kernels.proofs.Standing.{represents-split, represents-acc}
 use Rattle.kernels.proofs.Stepping.{stepped-agrees}
-use Rattle.kernels.proofs.Blocking.{Value, each-rate, held-start, contiguous-is, contiguous-mark, contiguous-agrees}
+use Rattle.kernels.proofs.Blocking.{Value, each-rate, represent-start, contiguous-is, contiguous-mark, contiguous-agrees}
 use Rattle.kernels.proofs.Striding.{length-strided}
 use Rattle.kernels.proofs.Bounded.{Short, lane-size, rate-short}
 use Rattle.vectors.specs.declared.vector.Waiting.{Waiting}
 use Rattle.vectors.specs.InnerWaiting.{one, padded, waitStep, notBelow, notPast, startWaiting, chained, exponentsOf, lanesProduct}
 use Rattle.vectors.proofs.Vectorwise.{strided-append}
-use Rattle.vectors.proofs.Chaining.{chain-stands}
+use Rattle.vectors.proofs.Chaining.{chain-represents}
 
 getD-past : {A : Type 0} (l : List A) (k : ℕ) (d : A) → length l ≤ k → getD l k d ≡ d
 getD-past [] k d h = refl
@@ -48,9 +48,9 @@ zeros k = 0
 -- ---- one list after another
 pub fed-append : (s r q : Lanes) (xs ys : List Float) (n : ℕ) → length xs ≡ 8 * n → LanesAfter s xs r → LanesAfter r ys q → LanesAfter s (xs ++ ys) q
 fed-append s r q xs ys n l F G = record {
-  held = λ fs H. subst (LanesRepresent zeros q) (sym (whole fs)) (G .held (feed (laneTimes 52) 0 fs (map rateFactor xs)) (F .held fs H));
+  represent = λ fs H. subst (LanesRepresent zeros q) (sym (whole fs)) (G .represent (feed (laneTimes 52) 0 fs (map rateFactor xs)) (F .represent fs H));
   mark = λ fs H.
-      G .mark (feed (laneTimes 52) 0 fs (map rateFactor xs)) (F .held fs H)
+      G .mark (feed (laneTimes 52) 0 fs (map rateFactor xs)) (F .represent fs H)
       ∙ ap (λ (b : Bool). b || some isBad ys) (F .mark fs H)
       ∙ or-assoc (s .bad) (some isBad xs) (some isBad ys)
       ∙ ap (λ (b : Bool). s .bad || b) (sym (some-append isBad xs ys));
@@ -69,7 +69,7 @@ fed-append s r q xs ys n l F G = record {
 -- no value changes nothing
 pub fed-none : (s : Lanes) → LanesAfter s [] s
 unfolding feed some
-fed-none s = record { held = λ fs H. H; mark = λ fs H. sym (or-none (s .bad)) }
+fed-none s = record { represent = λ fs H. H; mark = λ fs H. sym (or-none (s .bad)) }
 
 -- ---- 1.0 changes nothing
 one-rate : rateFactor one ≡ unit 52
@@ -109,12 +109,12 @@ unfolding feed
 fed-normal i fs [] N = N
 fed-normal i fs (x ∷ xs) N = fed-normal (suc i) (laneTimes 52 i fs (rateFactor x)) xs (lane-normal 52 i fs (rateFactor x) (rate-normal x) N)
 
-held-normal : (s : Lanes) (fs : List Factor) → LanesRepresent zeros s fs → NormalLanes 52 fs
-held-normal s fs H = record { long = H .f-long; at = λ k i. H .at k i .normal }
+represent-normal : (s : Lanes) (fs : List Factor) → LanesRepresent zeros s fs → NormalLanes 52 fs
+represent-normal s fs H = record { long = H .f-long; at = λ k i. H .at k i .normal }
 
 pub fed-pad : (s r : Lanes) (xs : List Float) (n : ℕ) → LanesAfter s (xs ++ replicate n one) r → LanesAfter s xs r
 fed-pad s r xs n F = record {
-  held = λ fs H. subst (LanesRepresent zeros r) (ones-after fs xs n (fed-normal 0 fs xs (held-normal s fs H) .at)) (F .held fs H);
+  represent = λ fs H. subst (LanesRepresent zeros r) (ones-after fs xs n (fed-normal 0 fs xs (represent-normal s fs H) .at)) (F .represent fs H);
   mark = λ fs H.
       F .mark fs H
       ∙ ap (λ (b : Bool). s .bad || b) (some-append isBad xs (replicate n one) ∙ ap (λ (b : Bool). some isBad xs || b) (ones-good n) ∙ or-none (some isBad xs));
@@ -122,19 +122,19 @@ fed-pad s r xs n F = record {
 
 -- ---- from the start
 module _ (xs : List Float) (r : Lanes) (F : LanesAfter startLanes xs r) where
-  held : LanesRepresent zeros r (lanes 52 (map rateFactor xs))
+  represent : LanesRepresent zeros r (lanes 52 (map rateFactor xs))
   unfolding lanes
-  held = F .held (replicate 8 (unit 52)) held-start
+  represent = F .represent (replicate 8 (unit 52)) represent-start
 
   mark : r .bad ≡ some isBad xs
-  mark = F .mark (replicate 8 (unit 52)) held-start
+  mark = F .mark (replicate 8 (unit 52)) represent-start
 
   pub fed-eight : length (r .m) ≡ 8
-  fed-eight = held .m-long
+  fed-eight = represent .m-long
 
   -- a lane's exponent is its factor's
   lane-exponent : (k : ℕ) → k < 8 → eOf r k ≡ getD (lanes 52 (map rateFactor xs)) k (unit 52) .exp
-  lane-exponent k i = let s = held .at k i in ap (λ (a : StableProductFloatAcc). a .e) (stands-acc (mOf r k) (eOf r k) (getD (lanes 52 (map rateFactor xs)) k (unit 52)) s)
+  lane-exponent k i = let s = represent .at k i in ap (λ (a : StableProductFloatAcc). a .e) (represents-acc (mOf r k) (eOf r k) (getD (lanes 52 (map rateFactor xs)) k (unit 52)) s)
 
   short-rates : (ys : List Float) → Each (Short 52 1024) (map rateFactor ys)
   short-rates [] = none
@@ -144,7 +144,7 @@ module _ (xs : List Float) (r : Lanes) (F : LanesAfter startLanes xs r) where
   fed-small n h = record { at = λ k. go k (ltb k 8) refl }
     where
       far : (k : ℕ) → 8 ≤ k → eOf r k ≡ pos 0
-      far k l = getD-past (r .e) k (pos 0) (subst (λ (m : ℕ). m ≤ k) (sym (held .e-long)) l)
+      far k l = getD-past (r .e) k (pos 0) (subst (λ (m : ℕ). m ≤ k) (sym (represent .e-long)) l)
 
       go : (k : ℕ) (b : Bool) → ltb k 8 ≡ b → natAbs (eOf r k) ≤ n
       go k true e =
@@ -157,8 +157,8 @@ module _ (xs : List Float) (r : Lanes) (F : LanesAfter startLanes xs r) where
   unfolding lanesProduct pieceProduct
   fed-contiguous v =
       let p = chained (r .m) in
-      let S = stands-split 8 p (exponentsOf r) (pieceProduct 52 (map rateFactor xs)) (lit≤ tt) (chain-stands r (lanes 52 (map rateFactor xs)) held) in
-      ap (λ (a : StableProductFloatAcc). record { m = a .m; e = a .e; bad = r .bad }) (stands-acc (split p .m) (exponentsOf r +ℤ split p .e) (pieceProduct 52 (map rateFactor xs)) S)
+      let S = represents-split 8 p (exponentsOf r) (pieceProduct 52 (map rateFactor xs)) (lit≤ tt) (chain-represents r (lanes 52 (map rateFactor xs)) represent) in
+      ap (λ (a : StableProductFloatAcc). record { m = a .m; e = a .e; bad = r .bad }) (represents-acc (split p .m) (exponentsOf r +ℤ split p .e) (pieceProduct 52 (map rateFactor xs)) S)
       ∙ ap (λ (b : Bool). record { m = accOf (pieceProduct 52 (map rateFactor xs)) .m; e = pieceProduct 52 (map rateFactor xs) .exp; bad = b }) mark
       ∙ sym (contiguous-is v)
 

@@ -20,7 +20,7 @@ use Rattle.kernels.proofs.Feeding.{each-map, some-none, or-none}
 use Rattle.kernels.proofs.Blocking.{Value, count, renorm-each, renorm-mark}
 use Rattle.vectors.specs.declared.vector.Waiting.{Waiting}
 use Rattle.vectors.specs.InnerWaiting.{waitStep, notBelow, notPast}
-use Rattle.vectors.proofs.Waits.{Waits, waits-more, waits-split, stands-waits}
+use Rattle.vectors.proofs.Waits.{Waits, waits-more, waits-split, represents-waits}
 use Rattle.vectors.proofs.Waiting.{WaitLanes, LostLane, Guarded, waited, guards, every-at, past-lost}
 
 abbrev zeros : ℕ → ℕ
@@ -41,7 +41,7 @@ module _ (s : Lanes) (w : Waiting) (xs : List Float) (v : Each Value xs) (short 
         f-long = H .f-long;
         at = λ k i.
             subst (λ (ms : List Float). Waits (15 * count k 0) (getD ms k nan) (getD (s .e) k (pos 0)) (getD fs k (unit 52))) (sym same)
-            (waits-more 0 (15 * count k 0) (mOf s k) (eOf s k) (getD fs k (unit 52)) zero-le (stands-waits (mOf s k) (eOf s k) (getD fs k (unit 52)) (H .at k i)));
+            (waits-more 0 (15 * count k 0) (mOf s k) (eOf s k) (getD fs k (unit 52)) zero-le (represents-waits (mOf s k) (eOf s k) (getD fs k (unit 52)) (H .at k i)));
       })
 
   good-mark : (b : Bool) → Each GoodRate xs → b ≡ (b || some isBad xs)
@@ -55,13 +55,13 @@ module _ (s : Lanes) (w : Waiting) (xs : List Float) (v : Each Value xs) (short 
   kept = record { m = feed waitStep 0 w xs .m; e = s .e; bad = s .bad }
 
   pub waited-fed : every notPast (feed waitStep 0 w xs .m) ≡ true → LanesAfter s xs (renorm kept)
-  waited-fed p = record { held = λ fs H. held fs H (outcome fs H); mark = λ fs H. mark fs (outcome fs H) }
+  waited-fed p = record { represent = λ fs H. represent fs H (outcome fs H); mark = λ fs H. mark fs (outcome fs H) }
     where
-      held : (fs : List Factor) → LanesRepresent zeros s fs
+      represent : (fs : List Factor) → LanesRepresent zeros s fs
           → (WaitLanes (λ (k : ℕ). 15 * count k (0 + length xs)) (feed waitStep 0 w xs .m) (s .e) (feed (laneTimes 52) 0 fs (map rateFactor xs)) × Each GoodRate xs) ⊎ LostLane (feed waitStep 0 w xs .m)
           → LanesRepresent zeros (renorm kept) (feed (laneTimes 52) 0 fs (map rateFactor xs))
-      held fs H (inr l) = absurd (not-lost p l)
-      held fs H (inl q) =
+      represent fs H (inr l) = absurd (not-lost p l)
+      represent fs H (inl q) =
           renorm-each kept (feed (laneTimes 52) 0 fs (map rateFactor xs))
           (λ k i. waits-split (15 * count k (0 + length xs)) (mOf kept k) (eOf kept k) (getD (feed (laneTimes 52) 0 fs (map rateFactor xs)) k (unit 52)) (q .0 .at k i))
           (q .0 .m-long) (H .e-long) (q .0 .f-long)

@@ -26,12 +26,12 @@ use Rattle.kernels.proofs.Feeding.{feed-related, feed-append, feed-eights, each
 use Rattle.kernels.proofs.Factors.{lane-lt, lane-again, set-cases, times-again}
 use Rattle.kernels.proofs.LaneSizes.{lanes-le, unsplit-small, split-small}
 use Rattle.kernels.proofs.Stepwise.{unsplit-again}
-use Rattle.kernels.proofs.Standing.{stands-rate}
+use Rattle.kernels.proofs.Standing.{represents-rate}
 use Rattle.kernels.proofs.Least.{least-lesser}
-use Rattle.kernels.proofs.Blocking.{Value, count, split-more, held-same, renorm-held, renorm-each, renorm-mark, split-mark, unsplit-mark}
+use Rattle.kernels.proofs.Blocking.{Value, count, split-more, represent-same, renorm-represent, renorm-each, renorm-mark, split-mark, unsplit-mark}
 use Rattle.vectors.specs.InnerWaiting.{square, squareAt, lesser, notBelow, notPast, leastSquare, notLow, guarded}
 use Rattle.vectors.proofs.Squares.{square-nan}
-use Rattle.vectors.proofs.Waits.{Waits, waits-more, waits-times, waits-split, stands-waits}
+use Rattle.vectors.proofs.Waits.{Waits, waits-more, waits-times, waits-split, represents-waits}
 use Rattle.vectors.proofs.Waiting.{LostLane, Guarded, guard-cases, every-at, past-lost}
 
 abbrev zeros : ℕ → ℕ
@@ -147,7 +147,7 @@ value-waits i s fs y d g q l G h = go (waits-times (depth i j) 15 (mOf s j) y (e
 split-out : (i : ℕ) (s : Lanes) (fs : List Factor) (x : Float) → i < 256 → Value x → Out i s fs → Out (suc i) (splitStep i s x) (laneTimes 52 i fs (rateFactor x))
 unfolding splitStep
 split-out i s fs x l v (inl h) =
-    value-waits i s fs (split x .m) (split x .e) (rateFactor x) (s .bad || split x .bad) l (waits-more 0 15 (split x .m) (split x .e) (rateFactor x) zero-le (stands-waits (split x .m) (split x .e) (rateFactor x) (stands-rate x))) h
+    value-waits i s fs (split x .m) (split x .e) (rateFactor x) (s .bad || split x .bad) l (waits-more 0 15 (split x .m) (split x .e) (rateFactor x) zero-le (represents-waits (split x .m) (split x .e) (rateFactor x) (represents-rate x))) h
 split-out i s fs x l v (inr p) = inr (lost-stays (s .m) (laneOf i) (split x .m) (lane-lt i) p)
 
 unsplit-out : (i : ℕ) (s : Lanes) (fs : List Factor) (x : Float) → i < 256 → Guarded x → Out i s fs → Out (suc i) (unsplitStep i s x) (laneTimes 52 i fs (rateFactor x))
@@ -315,8 +315,8 @@ module _ (i : ℕ) (t : Lanes) (gs : List Factor) (vector : List Float) (eight :
       (subst (λ (u : Lanes). R (8 * suc i) u (feed (laneTimes 52) (8 * i) gs (map rateFactor vector))) (feed-eights step again i t vector)
       (subst (λ (n : ℕ). R n (feed step (8 * i) t vector) (feed (laneTimes 52) (8 * i) gs (map rateFactor vector))) counted h))
 
-  vector-held : LanesRepresent (λ (k : ℕ). 1 * count k (8 * i)) t gs → LanesRepresent (λ (k : ℕ). 1 * count k (8 * suc i)) (feed splitStep 0 t vector) (feed (laneTimes 52) 0 gs (map rateFactor vector))
-  vector-held h =
+  vector-represent : LanesRepresent (λ (k : ℕ). 1 * count k (8 * i)) t gs → LanesRepresent (λ (k : ℕ). 1 * count k (8 * suc i)) (feed splitStep 0 t vector) (feed (laneTimes 52) 0 gs (map rateFactor vector))
+  vector-represent h =
       shifted (λ (n : ℕ). LanesRepresent (λ (k : ℕ). 1 * count k n)) splitStep split-again
       (feed-related splitStep (laneTimes 52) rateFactor Value (λ (n : ℕ). LanesRepresent (λ (k : ℕ). 1 * count k n)) 512 split-more (8 * i) t gs v (le-trans within (lit≤ tt)) h)
 
@@ -360,7 +360,7 @@ pub record Mixed (all : Bool) (n : ℕ) (s : Lanes) (xs : List Float) (i : ℕ) 
   pub count-is : length xs ≡ 8 * i
   pub small : SmallLanes (n + 8192 * i) t
   pub waits : (fs : List Factor) → LanesRepresent zeros s fs → Out (8 * i) t (feed (laneTimes 52) 0 fs (map rateFactor xs))
-  pub held : all ≡ true → (fs : List Factor) → LanesRepresent zeros s fs → LanesRepresent (λ (k : ℕ). 1 * count k (8 * i)) t (feed (laneTimes 52) 0 fs (map rateFactor xs))
+  pub represent : all ≡ true → (fs : List Factor) → LanesRepresent zeros s fs → LanesRepresent (λ (k : ℕ). 1 * count k (8 * i)) t (feed (laneTimes 52) 0 fs (map rateFactor xs))
   pub mark : (t .bad ≡ (s .bad || some isBad xs)) ⊎ (LostLane (t .m) × (all ≡ false))
 
 pub mixed-none : (all : Bool) (n : ℕ) (s : Lanes) → length (s .m) ≡ 8 → SmallLanes n s → Mixed all n s [] 0 s
@@ -375,9 +375,9 @@ mixed-none all n s l h = record {
         m-long = H .m-long;
         e-long = H .e-long;
         f-long = H .f-long;
-        at = λ k i. waits-more 0 (depth (8 * 0) k) (mOf s k) (eOf s k) (getD fs k (unit 52)) zero-le (stands-waits (mOf s k) (eOf s k) (getD fs k (unit 52)) (H .at k i));
+        at = λ k i. waits-more 0 (depth (8 * 0) k) (mOf s k) (eOf s k) (getD fs k (unit 52)) zero-le (represents-waits (mOf s k) (eOf s k) (getD fs k (unit 52)) (H .at k i));
       });
-  held = λ e fs H. held-same zeros (λ (k : ℕ). 1 * count k (8 * 0)) s s fs fs refl refl refl (λ k a. zero-le) H;
+  represent = λ e fs H. represent-same zeros (λ (k : ℕ). 1 * count k (8 * 0)) s s fs fs refl refl refl (λ k a. zero-le) H;
   mark = inl (sym (or-none (s .bad)));
 }
 
@@ -389,10 +389,10 @@ mixed-more all n s xs i t u vector R l e v g =
       count-is = length-append xs vector ∙ (let a = R .count-is in let b = e in omega arith);
       small = lanes-le (n + 8192 * i + 8192) (n + 8192 * suc i) (guarded all t vector) (omega arith) (guarded-small all (n + 8192 * i) t vector e (R .small));
       waits = λ fs H. subst (Out (8 * suc i) (guarded all t vector)) (sym (whole fs)) (vector-out i t (feed (laneTimes 52) 0 fs (map rateFactor xs)) vector e l v all (R .long) (R .waits fs H));
-      held = λ a fs H.
+      represent = λ a fs H.
           subst (LanesRepresent (λ (k : ℕ). 1 * count k (8 * suc i)) (guarded all t vector)) (sym (whole fs))
           (subst (λ (w : Lanes). LanesRepresent (λ (k : ℕ). 1 * count k (8 * suc i)) w (feed (laneTimes 52) 0 (feed (laneTimes 52) 0 fs (map rateFactor xs)) (map rateFactor vector))) (every-split all t vector a)
-          (vector-held i t (feed (laneTimes 52) 0 fs (map rateFactor xs)) vector e l v (R .held a fs H)));
+          (vector-represent i t (feed (laneTimes 52) 0 fs (map rateFactor xs)) vector e l v (R .represent a fs H)));
       mark = marked (R .mark) (vector-mark i t [] vector e l v all (R .long));
     })
   where
@@ -431,7 +431,7 @@ mixed-fed all n s xs i t R l e = go all refl e
 
     go : (a : Bool) → all ≡ a → (a || every notPast (t .m)) ≡ true → LanesAfter s xs (renorm t)
     go true a p = record {
-      held = λ fs H. renorm-held 968 (lit≤ tt) (feed (laneTimes 52) 0 fs (map rateFactor xs)) (λ (k : ℕ). 1 * count k (8 * i)) t (λ k b. omega arith) (R .held a fs H);
+      represent = λ fs H. renorm-represent 968 (lit≤ tt) (feed (laneTimes 52) 0 fs (map rateFactor xs)) (λ (k : ℕ). 1 * count k (8 * i)) t (λ k b. omega arith) (R .represent a fs H);
       mark = λ fs H. marked (R .mark) (λ k f. true≢false (sym a ∙ f));
     }
-    go false a p = record { held = λ fs H. back p (feed (laneTimes 52) 0 fs (map rateFactor xs)) (R .waits fs H); mark = λ fs H. marked (R .mark) (λ k f. not-lost p k) }
+    go false a p = record { represent = λ fs H. back p (feed (laneTimes 52) 0 fs (map rateFactor xs)) (R .waits fs H); mark = λ fs H. marked (R .mark) (λ k f. not-lost p k) }

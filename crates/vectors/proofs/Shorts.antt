@@ -20,8 +20,8 @@ use Rattle.kernels.specs.Blocks.{startLanes, contiguous}
 use Rattle.kernels.proofs.Feeding.{each-map, some-none}
 use Rattle.kernels.proofs.Factors.{units-normal}
 use Rattle.kernels.proofs.Sizes.{replicate-either}
-use Rattle.kernels.proofs.Standing.{stands-acc}
-use Rattle.kernels.proofs.Blocking.{Value, count, held-start, contiguous-is}
+use Rattle.kernels.proofs.Standing.{represents-acc}
+use Rattle.kernels.proofs.Blocking.{Value, count, represent-start, contiguous-is}
 use Rattle.vectors.specs.declared.vector.Waiting.{Waiting}
 use Rattle.vectors.specs.InnerWaiting.{one, padded, startWaiting, waitStep, notBelow, notPast, chained}
 use Rattle.vectors.proofs.Waits.{Waits, waits-more, waits-split}
@@ -67,7 +67,7 @@ module _ (xs : List Float) (v : Each Value xs) (short : length xs ≤ 64) where
   pub short-contiguous : every notBelow (feed waitStep 0 (startWaiting (replicate 8 one)) (padded xs) .least) ≡ true → notPast p ≡ true
       → _≡_ {A = StableProductFloatAcc} (record { m = split p .m; e = split p .e; bad = false }) (contiguous xs)
   unfolding fs pieceProduct
-  short-contiguous b n = go (outcome startLanes (startWaiting (replicate 8 one)) (padded xs) (padded-values xs (7 - (length xs + 7) % 8) v) (let h = long in omega arith) refl refl b (replicate 8 (unit 52)) held-start)
+  short-contiguous b n = go (outcome startLanes (startWaiting (replicate 8 one)) (padded xs) (padded-values xs (7 - (length xs + 7) % 8) v) (let h = long in omega arith) refl refl b (replicate 8 (unit 52)) represent-start)
     where
       lost : isLost p ≡ true → _≡_ {A = StableProductFloatAcc} (record { m = split p .m; e = split p .e; bad = false }) (contiguous xs)
       lost e = absurd (past-lost p n e)
@@ -75,7 +75,7 @@ module _ (xs : List Float) (v : Each Value xs) (short : length xs ≤ 64) where
       stood : Each GoodRate (padded xs) → Waits 960 p (pos 0) (pieceProduct 52 (map rateFactor xs)) → _≡_ {A = StableProductFloatAcc} (record { m = split p .m; e = split p .e; bad = false }) (contiguous xs)
       stood R W =
           ap (λ (z : ℤ). record { m = split p .m; e = z; bad = false }) (sym (+ℤ-idl (split p .e)))
-          ∙ stands-acc (split p .m) (pos 0 +ℤ split p .e) (pieceProduct 52 (map rateFactor xs)) (waits-split 960 p (pos 0) (pieceProduct 52 (map rateFactor xs)) W)
+          ∙ represents-acc (split p .m) (pos 0 +ℤ split p .e) (pieceProduct 52 (map rateFactor xs)) (waits-split 960 p (pos 0) (pieceProduct 52 (map rateFactor xs)) W)
           ∙ ap (λ (c : Bool). record { m = accOf (pieceProduct 52 (map rateFactor xs)) .m; e = pieceProduct 52 (map rateFactor xs) .exp; bad = c })
           (sym (some-none isBad (each-map GoodRate (λ (x : Float). isBad x ≡ false) (λ x q. q .good) (front xs (replicate (7 - (length xs + 7) % 8) one) R))))
           ∙ sym (contiguous-is v)

@@ -20,7 +20,7 @@ use Rattle.kernels.specs.InnerLanes.{SmallLanes, LanesAfter}
 use Rattle.floats.specs.Splitting.{rateFactor}
 use Rattle.kernels.proofs.Striding.{length-strided}
 use Rattle.kernels.proofs.LaneSizes.{lanes-le}
-use Rattle.kernels.proofs.Blocking.{Value, renorm-held, renorm-mark}
+use Rattle.kernels.proofs.Blocking.{Value, renorm-represent, renorm-mark}
 use Rattle.vectors.specs.InnerWaiting.{vectorOf, padded, notPast, guarded}
 use Rattle.vectors.specs.InnerSteps.{NotYetNormalised, Progress, holdAfter}
 use Rattle.vectors.proofs.Vectorwise.{strided-append}
@@ -94,6 +94,6 @@ fed-step xs b d i n s r e F G =
 -- lanes that are brought back already stay as they are
 pub unmoved : (s : Lanes) → SmallLanes (2 ^ 56) s → NotYetNormalised s [] s
 unmoved s h = record {
-  fed = record { held = λ fs H. renorm-held 0 (lit≤ tt) (feed (laneTimes 52) 0 fs (map rateFactor [])) (λ (k : ℕ). 0) s (λ k i. le-refl 0) (fed-none s .held fs H); mark = λ fs H. renorm-mark s ∙ fed-none s .mark fs H };
+  fed = record { represent = λ fs H. renorm-represent 0 (lit≤ tt) (feed (laneTimes 52) 0 fs (map rateFactor [])) (λ (k : ℕ). 0) s (λ k i. le-refl 0) (fed-none s .represent fs H); mark = λ fs H. renorm-mark s ∙ fed-none s .mark fs H };
   small = lanes-le (2 ^ 56) (2 ^ 59) s (lit≤ tt) h;
 }

@@ -16,7 +16,7 @@ use Rattle.floats.specs.Product.{productOf}
 use Rattle.floats.specs.Splitting.{split}
 use Rattle.floats.proofs.Factor.{add-size}
 use Rattle.accumulator.specs.declared.StableProductFloatAcc.{StableProductFloatAcc}
-use Rattle.accumulator.proofs.Exponents.{held, sum-fits, sum-held}
+use Rattle.accumulator.proofs.Exponents.{exact, sum-fits, sum-exact}
 use Rattle.kernels.specs.declared.lanes.Lanes.{Lanes}
 use Rattle.kernels.specs.Lanes.{feed, laneOf, inOrder}
 use Rattle.kernels.specs.Blocks.{eOf}
@@ -139,13 +139,13 @@ module _ (n : ℕ) (s : Lanes) (h : SmallLanes n s) where
 -- y added, on the machine, to what is x there
 module _ (x y z : ℤ) (e : z ≡ x) (hx : natAbs x ≤ 2 ^ 61) (hy : natAbs y ≤ 2 ^ 61) where
   same : z ≡ toZ w64 (ofZ w64 x)
-  same = e ∙ sym (held x y hx hy x hx)
+  same = e ∙ sym (exact x y hx hy x hx)
 
   pub next-sum-fits : SFits w64 (z +ℤ toZ w64 (ofZ w64 y))
   next-sum-fits = subst (λ (v : ℤ). SFits w64 (v +ℤ toZ w64 (ofZ w64 y))) (sym same) (sum-fits x y hx hy)
 
-  pub next-sum-held : toZ w64 (ofZ w64 (z +ℤ toZ w64 (ofZ w64 y))) ≡ x +ℤ y
-  next-sum-held = ap (λ (v : ℤ). toZ w64 (ofZ w64 (v +ℤ toZ w64 (ofZ w64 y)))) same ∙ sum-held x y hx hy
+  pub next-sum-exact : toZ w64 (ofZ w64 (z +ℤ toZ w64 (ofZ w64 y))) ≡ x +ℤ y
+  next-sum-exact = ap (λ (v : ℤ). toZ w64 (ofZ w64 (v +ℤ toZ w64 (ofZ w64 y)))) same ∙ sum-exact x y hx hy
 
 -- ---- the lanes multiplied in order, from what the code has: the exponents z, and p, the split of the product q
 module _ (s : Lanes) (h : SmallLanes (2 ^ 56) s) (z : ℤ) (p : Split) (q : Float) (e : z ≡ exponentsOf s) (c : q ≡ chained (s .m)) (d : p ≡ split q) where
@@ -161,6 +161,6 @@ module _ (s : Lanes) (h : SmallLanes (2 ^ 56) s) (z : ℤ) (p : Split) (q : Floa
   pub product-is : _≡_ {A = StableProductFloatAcc} (record { m = p .m; e = toZ w64 (ofZ w64 (toZ w64 (ofZ w64 z) +ℤ toZ w64 (ofZ w64 (p .e)))); bad = s .bad }) (lanesProduct s)
   unfolding lanesProduct
   product-is =
-      ap (λ (v : ℤ). record { m = p .m; e = v; bad = s .bad }) (sum-held z (p .e) sum-small split-small)
+      ap (λ (v : ℤ). record { m = p .m; e = v; bad = s .bad }) (sum-exact z (p .e) sum-small split-small)
       ∙ ap (λ (v : ℤ). record { m = p .m; e = v +ℤ p .e; bad = s .bad }) e
       ∙ ap (λ (r : Split). record { m = r .m; e = exponentsOf s +ℤ r .e; bad = s .bad }) (d ∙ ap split c)

@@ -124,8 +124,8 @@ waits-rate k x v h l =
     }
 
 -- ---- from and to lanes in [1, 2)
-pub stands-waits : (m : Float) (e : ℤ) (f : Factor) → Represents 0 m e f → Waits 0 m e f
-stands-waits m e f s =
+pub represents-waits : (m : Float) (e : ℤ) (f : Factor) → Represents 0 m e f → Waits 0 m e f
+represents-waits m e f s =
     let R = near-in f (s .off) (le-trans (s .near) (let h : 0 ≤ 1022 = omega arith in h)) in
     record { off = s .off; range = R; low = at-0 (s .off) (R .place) (s .near) (R .above); m-is = s .m-is; e-is = s .e-is; normal = s .normal }
   where

@@ -12,14 +12,14 @@ sub-if1 c = search needs
 returns : tie.Need-returns
 returns c =
     let e = c .before .args .e in
-    let held = toZ-ofZ w64 e (c .before .fits .e) in
-    rw held (limit-taken e (rw held at (c .if1 .taken)))
+    let exact = toZ-ofZ w64 e (c .before .fits .e) in
+    rw exact (limit-taken e (rw exact at (c .if1 .taken)))
 
 returns-2 : tie.Need-returns-2
 returns-2 c =
     let e = c .before .args .e in
-    let held = toZ-ofZ w64 e (c .before .fits .e) in
-    rw held (limit-left e (rw held at (c .if1 .left)))
+    let exact = toZ-ofZ w64 e (c .before .fits .e) in
+    rw exact (limit-left e (rw exact at (c .if1 .left)))
 
 pub within-limit-spec : {M : Type 1} → statement M
 within-limit-spec = tie.close (tie.spec sub-if1 returns returns-2)

@@ -11,18 +11,18 @@ use borrow.Author.Needs.{needs}
 use Rattle.floats.specs.Magnitude.{factorAt}
 use Rattle.accumulator.specs.Joining.{withinLimit}
 use Rattle.finishing.specs.Once.{pastLargest, roundedOnce}
-use Rattle.finishing.proofs.Loops.{Held, held-none, held-fits, raised-all, raised-more, raised-less, lowered-all, lowered-more, lowered-less, lowered-below, under-taken, under-left, last}
+use Rattle.finishing.proofs.Loops.{Scaling, scaling-none, scaling-fits, raised-all, raised-more, raised-less, lowered-all, lowered-more, lowered-less, lowered-below, under-taken, under-left, last}
 use Rattle.finishing.proofs.f64_ldexp.Statement.{statement}
 use Rattle.finishing.proofs.f64_ldexp.Tie as tie
 
 abbrev Inv-loop : tie.InvT-loop
-Inv-loop m e x₀ k₀ x k = Held m (toZ w64 e) x (toZ w64 k)
+Inv-loop m e x₀ k₀ x k = Scaling m (toZ w64 e) x (toZ w64 k)
 
 abbrev μ-loop : tie.MeasureT-loop
 μ-loop m e x₀ k₀ x k = natAbs (toZ w64 k)
 
 abbrev Inv-loop2 : tie.InvT-loop2
-Inv-loop2 m e x₀ k₀ x k = Held m (toZ w64 e) x (toZ w64 k) × (pastLargest (toZ w64 k) ≡ false)
+Inv-loop2 m e x₀ k₀ x k = Scaling m (toZ w64 e) x (toZ w64 k) × (pastLargest (toZ w64 k) ≡ false)
 
 abbrev μ-loop2 : tie.MeasureT-loop2
 μ-loop2 m e x₀ k₀ x k = natAbs (toZ w64 k)
@@ -45,7 +45,7 @@ module _ (s : tie.Start Inv-loop μ-loop Inv-loop2 μ-loop2) where
   answer x h = h ∙ ap (λ (z : ℤ). roundedOnce (factorAt 52 (s .args .m) z)) e-is
 
 loop-holds : tie.Need-loop-holds Inv-loop μ-loop Inv-loop2 μ-loop2
-loop-holds c = held-none (c .args .m) (e c)
+loop-holds c = scaling-none (c .args .m) (e c)
 
 float-from-bits-x : tie.Need-float-from-bits-x Inv-loop μ-loop Inv-loop2 μ-loop2
 unfolding nanBits
@@ -56,7 +56,7 @@ sub-k : tie.Need-sub-k Inv-loop μ-loop Inv-loop2 μ-loop2
 sub-k c =
     let l = c .before .loop in
     let s = c .before .before in
-    held-fits (s .args .m) (e s) (l .x) (toZ w64 (l .k)) (limit s) (l .inv) .0
+    scaling-fits (s .args .m) (e s) (l .x) (toZ w64 (l .k)) (limit s) (l .inv) .0
 
 is-infinite-requires : tie.Need-is-infinite-requires Inv-loop μ-loop Inv-loop2 μ-loop2
 is-infinite-requires c κs = search needs
@@ -72,14 +72,14 @@ loop-less c =
     let l = c .before .before .before .loop in
     let s = c .before .before .before .before in
     let k = toZ w64 (l .k) in
-    rw (toZ-ofZ w64 (k -ℤ pos 1023) (held-fits (s .args .m) (e s) (l .x) k (limit s) (l .inv) .0)) (raised-less k (c .before .before .loop-test .taken))
+    rw (toZ-ofZ w64 (k -ℤ pos 1023) (scaling-fits (s .args .m) (e s) (l .x) k (limit s) (l .inv) .0)) (raised-less k (c .before .before .loop-test .taken))
 
 loop-again : tie.Need-loop-again Inv-loop μ-loop Inv-loop2 μ-loop2
 loop-again c =
     let l = c .before .before .before .loop in
     let s = c .before .before .before .before in
     let k = toZ w64 (l .k) in
-    rw (toZ-ofZ w64 (k -ℤ pos 1023) (held-fits (s .args .m) (e s) (l .x) k (limit s) (l .inv) .0))
+    rw (toZ-ofZ w64 (k -ℤ pos 1023) (scaling-fits (s .args .m) (e s) (l .x) k (limit s) (l .inv) .0))
     (raised-more (s .args .m) (float s) (s .pre .0) (e s) (l .x) k (l .inv) (c .before .before .loop-test .taken) (sym (c .before .is-infinite .ensures) ∙ c .if1 .left))
 
 -- ---- the second loop
@@ -94,7 +94,7 @@ add-k : tie.Need-add-k Inv-loop μ-loop Inv-loop2 μ-loop2
 add-k c =
     let l = c .before .loop2 in
     let s = c .before .before .before .before in
-    held-fits (s .args .m) (e s) (l .x) (toZ w64 (l .k)) (limit s) (l .inv .0) .1
+    scaling-fits (s .args .m) (e s) (l .x) (toZ w64 (l .k)) (limit s) (l .inv .0) .1
 
 returns-2 : tie.Need-returns-2 Inv-loop μ-loop Inv-loop2 μ-loop2
 returns-2 c =
@@ -108,7 +108,7 @@ loop2-less c =
     let l = c .before .before .loop2 in
     let s = c .before .before .before .before .before in
     let k = toZ w64 (l .k) in
-    rw (toZ-ofZ w64 (k +ℤ pos 1022) (held-fits (s .args .m) (e s) (l .x) k (limit s) (l .inv .0) .1)) (lowered-less k (under-taken k (c .before .loop2-test .taken)))
+    rw (toZ-ofZ w64 (k +ℤ pos 1022) (scaling-fits (s .args .m) (e s) (l .x) k (limit s) (l .inv .0) .1)) (lowered-less k (under-taken k (c .before .loop2-test .taken)))
 
 loop2-again : tie.Need-loop2-again Inv-loop μ-loop Inv-loop2 μ-loop2
 loop2-again c =
@@ -116,7 +116,7 @@ loop2-again c =
     let s = c .before .before .before .before .before in
     let k = toZ w64 (l .k) in
     let h = under-taken k (c .before .loop2-test .taken) in
-    rw (toZ-ofZ w64 (k +ℤ pos 1022) (held-fits (s .args .m) (e s) (l .x) k (limit s) (l .inv .0) .1))
+    rw (toZ-ofZ w64 (k +ℤ pos 1022) (scaling-fits (s .args .m) (e s) (l .x) k (limit s) (l .inv .0) .1))
     (lowered-more (s .args .m) (float s) (s .pre .0) (e s) (l .x) k (l .inv .0) h (c .if2 .left), lowered-below k h)
 
 -- ---- the last product

@@ -8,7 +8,7 @@ use borrow.Author.Needs.{needs}
 use borrow.Author.Tests.{not-true, not-false}
 use Rattle.floats.specs.Magnitude.{factorAt}
 use Rattle.accumulator.specs.Joining.{withinLimit, inLimits}
-use Rattle.accumulator.proofs.Answers.{stands-unit, stands-limit}
+use Rattle.accumulator.proofs.Answers.{in-limits-unit, in-limits-exponent}
 use Rattle.finishing.specs.Once.{roundedOnce}
 use Rattle.finishing.specs.Finishing.{value, refusal}
 use Rattle.finishing.proofs.Answers.{handed-out, refused, bad-nan, good-value}
@@ -29,18 +29,18 @@ returns c =
     let k = c .before .before in
     ap refusal (c .code-of .ensures) ∙ handed-out (k .before .args .answer) (k .match .keys2)
 
-stands-up-requires : tie.Need-stands-up-requires
-stands-up-requires c κs = search needs
+in-limits-requires : tie.Need-in-limits-requires
+in-limits-requires c κs = search needs
 
 returns-2 : tie.Need-returns-2
 returns-2 c =
     let a = c .before .before .before in
     let g = a .answer .given in
-    refused (a .before .before .args .answer) (g .0 .0) (g .1) (sym (c .before .stands-up .ensures) ∙ not-true (c .before .stands-up .result) (c .if1 .taken))
+    refused (a .before .before .args .answer) (g .0 .0) (g .1) (sym (c .before .in-limits .ensures) ∙ not-true (c .before .in-limits .result) (c .if1 .taken))
 
 -- past the first test the accumulator stands
 stood : (c : tie.Else1) → inLimits (c .before .before .before .answer .given .0 .0) ≡ true
-stood c = sym (c .before .stands-up .ensures) ∙ not-false (c .before .stands-up .result) (c .if1 .left)
+stood c = sym (c .before .in-limits .ensures) ∙ not-false (c .before .in-limits .result) (c .if1 .left)
 
 returns-3 : tie.Need-returns-3
 returns-3 c =
@@ -53,7 +53,7 @@ f64-ldexp-requires c κs =
     let l = c .before .before in
     let a = l .before .before .before .answer .given .0 .0 in
     let held = toZ-ofZ w64 (a .e) (record { sfits = c .struct-told .given .1 .0 .1 }) in
-    (stands-unit a (stood l), ap (λ (z : ℤ). withinLimit z) held ∙ stands-limit a (stood l))
+    (in-limits-unit a (stood l), ap (λ (z : ℤ). withinLimit z) held ∙ in-limits-exponent a (stood l))
 
 returns-4 : tie.Need-returns-4
 returns-4 c =
@@ -68,4 +68,4 @@ returns-4 c =
 pub finish-spec : {M : Type 1} → statement M
 finish-spec =
     tie.close
-    (tie.spec enum-known-answer enum-told code-of-requires returns stands-up-requires returns-2 returns-3 f64-ldexp-requires returns-4)
+    (tie.spec enum-known-answer enum-told code-of-requires returns in-limits-requires returns-2 returns-3 f64-ldexp-requires returns-4)

@@ -12,19 +12,19 @@ add-result : tie.Need-add-result
 add-result c = rw (toZ-ofZ w64 (c .args .e) (c .fits .e)) (field-fits (c .args .e) (c .pre .0) (c .pre .1))
 
 -- the sum, as the machine has it
-sum-held : (c : tie.Start) → toZ w64 (ofZ w64 (c .args .e +ℤ pos 1023)) ≡ c .args .e +ℤ pos 1023
-sum-held c = toZ-ofZ w64 (c .args .e +ℤ pos 1023) (field-fits (c .args .e) (c .pre .0) (c .pre .1))
+sum-exact : (c : tie.Start) → toZ w64 (ofZ w64 (c .args .e +ℤ pos 1023)) ≡ c .args .e +ℤ pos 1023
+sum-exact c = toZ-ofZ w64 (c .args .e +ℤ pos 1023) (field-fits (c .args .e) (c .pre .0) (c .pre .1))
 
 cast-result : tie.Need-cast-result
 cast-result c =
-    rw (toZ-ofZ w64 (c .args .e) (c .fits .e), sum-held c)
+    rw (toZ-ofZ w64 (c .args .e) (c .fits .e), sum-exact c)
     (field-nonneg (c .args .e) (c .pre .0) (c .pre .1), field-narrow (c .args .e) (c .pre .0) (c .pre .1))
 
 float-from-bits-result : tie.Need-float-from-bits-result
-float-from-bits-result c = rw (toZ-ofZ w64 (c .args .e) (c .fits .e), sum-held c) (power-not-nan (c .args .e) (c .pre .0) (c .pre .1))
+float-from-bits-result c = rw (toZ-ofZ w64 (c .args .e) (c .fits .e), sum-exact c) (power-not-nan (c .args .e) (c .pre .0) (c .pre .1))
 
 returns : tie.Need-returns
-returns c = rw (toZ-ofZ w64 (c .args .e) (c .fits .e), sum-held c) (power-is (c .args .e) (c .pre .0) (c .pre .1))
+returns c = rw (toZ-ofZ w64 (c .args .e) (c .fits .e), sum-exact c) (power-is (c .args .e) (c .pre .0) (c .pre .1))
 
 pub power-of-two-spec : {M : Type 1} → statement M
 power-of-two-spec = tie.close (tie.spec add-result cast-result float-from-bits-result returns)

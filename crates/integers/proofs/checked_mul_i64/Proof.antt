@@ -6,7 +6,7 @@ use native.Mathlib.Omega.{arith}
 use lib.IntN.{ℤ, pos, natAbs}
 use mir.Facts.{toZ-ofZ}
 use borrow.Author.Needs.{needs}
-use Rattle.integers.proofs.Machine.{narrowU-ok, narrowU-not-ok, signed-neg, signed-pos, signed-least, signed-over, unsigned-over, far-over, neg-fits, toZ-small}
+use Rattle.integers.proofs.Machine.{narrowU64-ok, narrowU64-not-ok, signed-neg, signed-pos, signed-least, signed-over, unsigned-over, far-over, neg-fits, toZ-small}
 use Rattle.integers.proofs.checked_mul_i64.Statement.{statement}
 use Rattle.integers.proofs.checked_mul_i64.Tie as tie
 
@@ -15,7 +15,7 @@ product : (c : tie.Then1) → c .before .checked-mul-u64 .result .value ≡ natA
 product c =
     let f = c .before .before .before .fits .a in
     let m = simp (toZ-ofZ f) at (c .before .before .magnitude .ensures) in
-    narrowU-ok _ _ (c .before .checked-mul-u64 .ensures) (c .if1 .taken) .0 ∙ ap (λ (k : ℕ). k * c .before .before .before .args .n) m
+    narrowU64-ok _ _ (c .before .checked-mul-u64 .ensures) (c .if1 .taken) .0 ∙ ap (λ (k : ℕ). k * c .before .before .before .args .n) m
 
 magnitude-requires : tie.Need-magnitude-requires
 magnitude-requires c κs = search needs
@@ -75,7 +75,7 @@ returns-6 c =
     let s = c .before .before .before in
     let f = s .fits .a in
     let m = simp (toZ-ofZ f) at (c .before .before .magnitude .ensures) in
-    let k = narrowU-not-ok _ _ (c .before .checked-mul-u64 .ensures) (c .if1 .left) in
+    let k = narrowU64-not-ok _ _ (c .before .checked-mul-u64 .ensures) (c .if1 .left) in
     sym (far-over (s .args .a) (s .args .n) _ (ap (λ (j : ℕ). j * s .args .n) m) k)
 
 pub checked-mul-i64-spec : {M : Type 1} → statement M

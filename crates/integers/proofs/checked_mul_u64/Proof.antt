@@ -6,28 +6,28 @@ use native.Mathlib.Omega.{arith}
 use native.Mathlib.Nat.{mul-zero}
 use borrow.Author.Needs.{needs}
 use Rattle.integers.specs.InnerChecked.{narrowU64}
-use Rattle.integers.proofs.Machine.{narrowU-yes, narrowU-no, product-over, product-fits}
+use Rattle.integers.proofs.Machine.{narrowU64-yes, narrowU64-no, product-over, product-fits}
 use Rattle.integers.proofs.checked_mul_u64.Statement.{statement}
 use Rattle.integers.proofs.checked_mul_u64.Tie as tie
 use Rattle.integers.proofs.checked_mul_u64.Reads as reads
 use Rattle.integers.proofs.checked_mul_u64.Lts as lts
 
 returns : tie.Need-returns
-returns c = simp (c .if1 .taken, mul-zero, narrowU-yes 0 (omega arith))
+returns c = simp (c .if1 .taken, mul-zero, narrowU64-yes 0 (omega arith))
 
 div-if2 : tie.Need-div-if2
 div-if2 c = search needs
 
 returns-2 : tie.Need-returns-2
 returns-2 c =
-    sym (narrowU-no _ (product-over (c .before .before .args .a) (c .before .before .args .b) (omega arith) (c .if2 .taken)))
+    sym (narrowU64-no _ (product-over (c .before .before .args .a) (c .before .before .args .b) (omega arith) (c .if2 .taken)))
 
 mul-t4 : tie.Need-mul-t4
 mul-t4 c = omega (arith, product-fits (c .before .before .args .a) (c .before .before .args .b) (omega arith) (c .if2 .left))
 
 returns-3 : tie.Need-returns-3
 returns-3 c =
-    sym (narrowU-yes _ (product-fits (c .before .before .args .a) (c .before .before .args .b) (omega arith) (c .if2 .left)))
+    sym (narrowU64-yes _ (product-fits (c .before .before .args .a) (c .before .before .args .b) (omega arith) (c .if2 .left)))
 
 pub checked-mul-u64-spec : {M : Type 1} → statement M
 checked-mul-u64-spec = tie.close (tie.spec returns div-if2 returns-2 mul-t4 returns-3)

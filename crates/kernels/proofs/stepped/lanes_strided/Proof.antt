@@ -17,9 +17,9 @@ stepped-lanes-requires c κs =
     simp (toZ-ofZ w64 (s .args .start) (s .fits .start), toZ-ofZ w64 (s .args .stride) (s .fits .stride)) (s .pre)
 
 -- the lanes are those of the piece
-held : (c : tie.After-stepped-lanes)
+represent : (c : tie.After-stepped-lanes)
     → c .stepped-lanes .result .lanes ≡ steppedLanes (strided (c .before .before .args .values .now) (c .before .before .args .start) (c .before .before .args .stride) (c .before .before .args .len))
-held c =
+represent c =
     let s = c .before .before in
     simp (toZ-ofZ w64 (s .args .start) (s .fits .start), toZ-ofZ w64 (s .args .stride) (s .fits .stride)) at (c .stepped-lanes .ensures)
 
@@ -27,13 +27,13 @@ joined-lanes-requires : tie.Need-joined-lanes-requires
 joined-lanes-requires c κs =
     let s = c .before .before in
     let xs = strided (s .args .values .now) (s .args .start) (s .args .stride) (s .args .len) in (
-      subst (SmallAccs (2 ^ 52)) (sym (held c)) (strided-small (s .args .values .now) (s .args .start) (s .args .stride) (s .args .len) (s .pre .1)),
-      subst UnitAccs (sym (held c)) (joined-all xs .sound),
+      subst (SmallAccs (2 ^ 52)) (sym (represent c)) (strided-small (s .args .values .now) (s .args .start) (s .args .stride) (s .args .len) (s .pre .1)),
+      subst UnitAccs (sym (represent c)) (joined-all xs .sound),
     )
 
 returns : tie.Need-returns
 unfolding stepped
-returns c = c .joined-lanes .ensures ∙ ap lanesJoined (held (c .before))
+returns c = c .joined-lanes .ensures ∙ ap lanesJoined (represent (c .before))
 
 pub lanes-strided-spec : {M : Type 1} → statement M
 lanes-strided-spec = tie.close (tie.spec stepped-lanes-requires joined-lanes-requires returns)

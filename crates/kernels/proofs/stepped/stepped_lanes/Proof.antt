@@ -10,12 +10,12 @@ use mir.ValLaws.{toZ-ofZ}
 use borrow.Author.Needs.{needs}
 use Rattle.kernels.proofs.Sizes.{accs-le}
 use Rattle.kernels.proofs.Bounded.{joined-small}
-use Rattle.kernels.proofs.Striding.{Passed, passed-none, passed-more, passed-last, passed-all, first-natural, first-below, next-fits}
+use Rattle.kernels.proofs.Striding.{PlacesPassed, passed-none, passed-more, passed-last, passed-all, first-natural, first-below, next-fits}
 use Rattle.kernels.proofs.stepped.stepped_lanes.Statement.{statement}
 use Rattle.kernels.proofs.stepped.stepped_lanes.Tie as tie
 
 abbrev Inv-loop : tie.InvT-loop
-Inv-loop values start stride len t₀ at₀ i₀ t at i = Passed values (toZ w64 start) (toZ w64 stride) len (t .lanes) (toZ w64 at) i
+Inv-loop values start stride len t₀ at₀ i₀ t at i = PlacesPassed values (toZ w64 start) (toZ w64 stride) len (t .lanes) (toZ w64 at) i
 
 abbrev μ-loop : tie.MeasureT-loop
 μ-loop values start stride len t₀ at₀ i₀ t at i = len - i
@@ -75,7 +75,7 @@ loop-again c =
     let s = t .before .before .before in
     let start = toZ w64 (ofZ w64 (s .args .start)) in
     let stride = toZ w64 (ofZ w64 (s .args .stride)) in
-    subst (λ (z : ℤ). Passed (s .args .values .now) start stride (s .args .len) (c .before .join-lane .result .lanes) z (t .loop .i + 1)) (sym (toZ-ofZ w64 (toZ w64 (t .loop .at) +ℤ stride) (add-at c)))
+    subst (λ (z : ℤ). PlacesPassed (s .args .values .now) start stride (s .args .len) (c .before .join-lane .result .lanes) z (t .loop .i + 1)) (sym (toZ-ofZ w64 (toZ w64 (t .loop .at) +ℤ stride) (add-at c)))
     (passed-more (s .args .values .now) start stride (s .args .len) (t .loop .t .lanes) (toZ w64 (t .loop .at)) (t .loop .i) (t .loop .inv) (c .before .join-lane .result .lanes) (c .before .before .before .loop-test .taken) (c .before .join-lane .ensures) (c .if1 .taken))
 
 loop-less-2 : tie.Need-loop-less-2 Inv-loop μ-loop

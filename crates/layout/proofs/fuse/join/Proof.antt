@@ -11,7 +11,7 @@ use borrow.Author.Needs.{needs}
 use borrow.Author.Tests.{not-true, not-false}
 use Rattle.integers.specs.InnerChecked.{keepI, narrowI64}
 use Rattle.integers.specs.Integers.{fitsI64, eqZ}
-use Rattle.integers.proofs.Machine.{narrow-ok, narrow-not-ok, narrowU-ok, narrowU-not-ok, same-bits, ne-eqZ, eqZ-refl}
+use Rattle.integers.proofs.Machine.{narrowI64-ok, narrowI64-not-ok, narrowU64-ok, narrowU64-not-ok, same-bits, ne-eqZ, eqZ-refl}
 use Rattle.layout.specs.declared.axis.ReduceOuterAxis.{ReduceOuterAxis}
 use Rattle.layout.specs.declared.fuse.Joined.{Joined}
 use Rattle.layout.specs.declared.fuse.Joined.the-variants.{One}
@@ -35,11 +35,11 @@ returns : tie.Need-returns
 returns c =
     let m = c .before .before in
     let s = m .before .before in
-    sym (join-over (s .args .a) (s .args .b) (narrow-not-ok _ (reach (s .args .a)) (reached m) (not-true _ (c .if1 .taken))))
+    sym (join-over (s .args .a) (s .args .b) (narrowI64-not-ok _ (reach (s .args .a)) (reached m) (not-true _ (c .if1 .taken))))
 
 -- the reach fits, and is the checked product's value
 fitting : (c : tie.Else1) → (c .before .before .checked-mul-i64 .result .value ≡ reach (c .before .before .before .before .args .a)) × (fitsI64 (reach (c .before .before .before .before .args .a)) ≡ true)
-fitting c = narrow-ok _ (reach (c .before .before .before .before .args .a)) (reached (c .before .before)) (not-false _ (c .if1 .left))
+fitting c = narrowI64-ok _ (reach (c .before .before .before .before .args .a)) (reached (c .before .before)) (not-false _ (c .if1 .left))
 
 returns-2 : tie.Need-returns-2
 returns-2 c =
@@ -66,7 +66,7 @@ returns-3 c =
     let m = c .before .before in
     let e = m .before .before .before .before .before .before in
     let s = e .before .before .before .before in
-    sym (join-large (s .args .a) (s .args .b) (fitting e .1) (meet (m .before)) (narrowU-not-ok _ _ (m .checked-mul-u64 .ensures) (not-true _ (c .if3 .taken))))
+    sym (join-large (s .args .a) (s .args .b) (fitting e .1) (meet (m .before)) (narrowU64-not-ok _ _ (m .checked-mul-u64 .ensures) (not-true _ (c .if3 .taken))))
 
 -- the reset of the joined axis
 reset : (c : tie.After-checked-reduce-reset)
@@ -75,7 +75,7 @@ reset c =
     let m = c .before .before .before .before in
     let s = m .before .before .before .before .before .before .before .before .before .before in
     let f : SFits w64 (s .args .a .«source_step») = record { sfits = c .before .struct-told4 .given .1 .0 .1 } in
-    let n = narrowU-ok _ _ (m .checked-mul-u64 .ensures) (not-false _ (c .before .before .if3 .left)) .0 in
+    let n = narrowU64-ok _ _ (m .checked-mul-u64 .ensures) (not-false _ (c .before .before .if3 .left)) .0 in
     simp (toZ-ofZ f) at (c .checked-reduce-reset .ensures) ∙ ap (λ (k : ℕ). keepI (resetFits k (s .args .a .«source_step»)) (negℤ (span k (s .args .a .«source_step»)))) n
 
 checked-reduce-reset-requires : tie.Need-checked-reduce-reset-requires
@@ -103,7 +103,7 @@ returns-5 c =
     let f : SFits w64 (s .args .a .«source_step») = record { sfits = c .before .struct-told5 .given .1 .0 .1 } in
     let g : SFits w64 (r .checked-reduce-reset .result .value) = record { sfits = c .struct-told6 .given .1 .0 .1 } in
     let k = reset-ok _ _ _ (reset r) (not-false _ (c .before .before .if4 .left)) in
-    let n = narrowU-ok _ _ (m .checked-mul-u64 .ensures) (not-false _ (r .before .before .if3 .left)) .0 in
+    let n = narrowU64-ok _ _ (m .checked-mul-u64 .ensures) (not-false _ (r .before .before .if3 .left)) .0 in
     simp (toZ-ofZ f, toZ-ofZ g) (made _ _ _ _ n (k .1) ∙ sym (join-one (s .args .a) (s .args .b) (fitting e .1) (meet (m .before)) (k .0)))
 
 pub join-spec : {M : Type 1} → statement M

@@ -7,7 +7,7 @@ use native.Mathlib.Omega.{arith}
 use lib.ListN.{length, drop, getD}
 use borrow.Author.Needs.{needs}
 use borrow.Author.Tests.{not-true, not-false}
-use Rattle.integers.proofs.Machine.{narrowU-ok, narrowU-not-ok, narrowU-no}
+use Rattle.integers.proofs.Machine.{narrowU64-ok, narrowU64-not-ok, narrowU64-no}
 use Rattle.layout.specs.Compile.{totalFrom, totalOf}
 use Rattle.layout.specs.InnerAnswers.{checkedOr}
 use Rattle.layout.proofs.Compiling.{total-more, total-over, total-all}
@@ -47,8 +47,8 @@ returns c =
     let m = c .before .before in
     let l = m .before .before .before in
     let s = l .before .before in
-    let k = narrowU-not-ok _ (l .loop .total * getD (s .args .sizes .now) (l .loop .i) 0) (m .checked-mul-u64 .ensures) (not-true _ (c .if1 .taken)) in
-    m .checked-mul-u64 .ensures ∙ narrowU-no _ k ∙ ap checkedOr (sym (sym (l .loop .inv .1) ∙ total-over (s .args .sizes .now) (l .loop .total) (l .loop .i) (m .before .before .loop-test .taken) k))
+    let k = narrowU64-not-ok _ (l .loop .total * getD (s .args .sizes .now) (l .loop .i) 0) (m .checked-mul-u64 .ensures) (not-true _ (c .if1 .taken)) in
+    m .checked-mul-u64 .ensures ∙ narrowU64-no _ k ∙ ap checkedOr (sym (sym (l .loop .inv .1) ∙ total-over (s .args .sizes .now) (l .loop .total) (l .loop .i) (m .before .before .loop-test .taken) k))
 
 -- src/traversal.rt:39:9
 add-i : tie.Need-add-i Inv-loop μ-loop
@@ -64,7 +64,7 @@ loop-again c =
     let m = c .before .before in
     let l = m .before .before .before in
     let s = l .before .before in
-    let k = narrowU-ok _ (l .loop .total * getD (s .args .sizes .now) (l .loop .i) 0) (m .checked-mul-u64 .ensures) (not-false _ (c .if1 .left)) in (
+    let k = narrowU64-ok _ (l .loop .total * getD (s .args .sizes .now) (l .loop .i) 0) (m .checked-mul-u64 .ensures) (not-false _ (c .if1 .left)) in (
       omega arith,
       ap (λ (t : ℕ). totalFrom t (drop (l .loop .i + 1) (s .args .sizes .now))) (k .0)
           ∙ sym (total-more (s .args .sizes .now) (l .loop .total) (l .loop .i) (m .before .before .loop-test .taken) (k .1))

@@ -11,7 +11,7 @@ use mir.Facts.{toZ-ofZ}
 use Rattle.layout.specs.declared.traversal.FullTraversal.{FullTraversal}
 use Rattle.layout.specs.declared.traversal.Compiled.{Compiled}
 use Rattle.layout.specs.Order.{axesOf}
-use Rattle.layout.specs.Compile.{compileOf, accepted}
+use Rattle.layout.specs.Compile.{compileOf, layoutBeside}
 use Rattle.offsets.specs.InnerCursors.{Bounded, Traversal}
 use Rattle.offsets.specs.Pieces.{runOf, outerOf}
 use Rattle.offsets.specs.Lists.{rangeCode, offsetsFrom}
@@ -38,12 +38,12 @@ accepted-range c = ranged _ _ _ _ _ _ (sym (code-of (c .before .before)) ∙ c .
 
 -- the layout of an accepted range
 layout-of : (c : tie.Else1) → c .before .before .checked-range .result .traversal ≡ (compileOf (c .before .before .before .before .args .sizes .now) (c .before .before .before .before .args .strides .now)) .traversal
-unfolding rangeOf accepted
+unfolding rangeOf layoutBeside
 layout-of c =
     let m = c .before .before in
     let s = m .before .before in
     ap (λ (r : Compiled). r .traversal) (answered m)
-    ∙ ap (λ (n : ℕ). accepted n (some ((compileOf (s .args .sizes .now) (s .args .strides .now)) .traversal))) (sym (code-of m) ∙ c .if1 .left)
+    ∙ ap (λ (n : ℕ). layoutBeside n (some ((compileOf (s .args .sizes .now) (s .args .strides .now)) .traversal))) (sym (code-of m) ∙ c .if1 .left)
 
 -- src/list.rt:101:9
 checked-range-requires : tie.Need-checked-range-requires

@@ -9,7 +9,7 @@ use mir.Val.{toZ, SFits}
 use mir.Facts.{toZ-ofZ}
 use mir.Syntax.{w64}
 use Rattle.offsets.specs.Pieces.{runOf, outerOf}
-use Rattle.offsets.proofs.Writing.{Listing, listing-none, length-listed, listed, Taken, listing-taken}
+use Rattle.offsets.proofs.Writing.{Listing, listing-none, length-listed, listed, ListTaken, listing-taken}
 use Rattle.offsets.proofs.list.write_offsets.Statement.{statement}
 use Rattle.offsets.proofs.list.write_offsets.Tie as tie
 use Rattle.offsets.proofs.list.write_offsets.Reads as reads
@@ -42,7 +42,7 @@ listing c = let s = c .before .before .before in simp (toZ-ofZ (s .fits .base)) 
 next-piece-requires : tie.Need-next-piece-requires Inv-loop μ-loop
 next-piece-requires c κs =
     let s = c .before .before .before .before .before in
-    (s .pre .0, c .if1 .taken, record { base = s .args .base; bounded = s .pre .1; stands = listing (c .before .before) .stands (c .if1 .taken) })
+    (s .pre .0, c .if1 .taken, record { base = s .args .base; bounded = s .pre .1; cursor-is = listing (c .before .before) .cursor-is (c .if1 .taken) })
 
 -- src/list.rt:68:14
 sub-write-run : tie.Need-sub-write-run Inv-loop μ-loop
@@ -51,7 +51,7 @@ sub-write-run c = listing (c .before .before .before .before .before) .from
 stride-fits : (c : tie.After-struct-told Inv-loop μ-loop) → SFits w64 (c .before .args .l .«run_stride»)
 stride-fits c = record { sfits = c .struct-told .given .1 .1 .0 .1 }
 
-taken : (c : tie.After-next-piece Inv-loop μ-loop) → Taken (c .before .before .before .before .before .before .args .l) (c .before .before .before .before .before .before .args .base) (c .before .before .before .before .before .before .args .start) (c .before .before .before .before .before .before .args .end) (c .before .before .before .before .before .before .args .out .now) (c .before .before .before .loop .out) (c .before .before .before .loop .c) (c .next-piece .result)
+taken : (c : tie.After-next-piece Inv-loop μ-loop) → ListTaken (c .before .before .before .before .before .before .args .l) (c .before .before .before .before .before .before .args .base) (c .before .before .before .before .before .before .args .start) (c .before .before .before .before .before .before .args .end) (c .before .before .before .before .before .before .args .out .now) (c .before .before .before .loop .out) (c .before .before .before .loop .c) (c .next-piece .result)
 taken c =
     let k = c .before .before .before in
     let s = k .before .before .before in

@@ -17,7 +17,7 @@ use Rattle.offsets.specs.InnerCursors.{advanced}
 use Rattle.offsets.specs.Pieces.{outerOf}
 use Rattle.offsets.specs.InnerPieces.{pieceOf}
 use Rattle.offsets.proofs.Stepping.{small-fits, share-fits}
-use Rattle.offsets.proofs.Walking.{on-column, on-column-small, on-run, on-first, on-stands}
+use Rattle.offsets.proofs.Walking.{on-column, on-column-small, on-run, on-first, on-element}
 use Rattle.offsets.proofs.pieces.next_piece.Statement.{statement}
 use Rattle.offsets.proofs.pieces.next_piece.Tie as tie
 use Rattle.offsets.proofs.pieces.next_piece.Reads as reads
@@ -79,7 +79,7 @@ advance-requires : tie.Need-advance-requires
 unfolding outerOf
 advance-requires c κs =
     let s = c .before .before .before .before .before .before .before .before .before in
-    (s .pre .0 .places, s .pre .0 .few, on-stands (s .args .l) (s .pre .0) (s .args .c) (s .pre .2))
+    (s .pre .0 .places, s .pre .0 .few, on-element (s .args .l) (s .pre .0) (s .args .c) (s .pre .2))
 
 -- src/pieces.rt:64:9
 returns : tie.Need-returns

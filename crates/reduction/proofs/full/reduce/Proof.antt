@@ -7,14 +7,14 @@ use lib.ListN.{length}
 use mir.Facts.{toZ-ofZ}
 use Rattle.layout.specs.declared.traversal.FullTraversal.{FullTraversal}
 use Rattle.layout.specs.declared.traversal.Compiled.{Compiled}
-use Rattle.layout.specs.Compile.{compileOf, accepted}
+use Rattle.layout.specs.Compile.{compileOf, layoutBeside}
 use Rattle.accumulator.specs.declared.StableProductFloatAcc.{StableProductFloatAcc}
 use Rattle.accumulator.specs.declared.Reduced.the-variants.{Acc}
 use Rattle.accumulator.specs.Joining.{answerOf, refusal}
 use Rattle.kernels.specs.Pieces.{joinedPieces}
 use Rattle.offsets.specs.Lists.{rangeCode}
 use Rattle.offsets.specs.InnerLists.{rangeOf}
-use Rattle.offsets.proofs.Ranges.{Ranged, ranged, ranged-accepted, ranged-bounded, ranged-within, ranged-few}
+use Rattle.offsets.proofs.Ranges.{Ranged, ranged, ranged-accepted, ranged-bounded, ranged-inside, ranged-few}
 use Rattle.reduction.specs.Ranges.{piecesOf}
 use Rattle.reduction.proofs.Calls.{reduce-refused, reduce-accepted}
 use borrow.Author.Needs.{needs}
@@ -38,12 +38,12 @@ accepted-range c = sym (code-of (c .before .before)) ∙ c .if1 .left
 
 -- the layout of an accepted range
 layout-of : (c : tie.Else1) → c .before .before .checked-range .result .traversal ≡ (compileOf (c .before .before .before .before .before .args .sizes .now) (c .before .before .before .before .before .args .strides .now)) .traversal
-unfolding rangeOf accepted
+unfolding rangeOf layoutBeside
 layout-of c =
     let m = c .before .before in
     let s = m .before .before .before in
     ap (λ (r : Compiled). r .traversal) (answered m)
-    ∙ ap (λ (n : ℕ). accepted n (some ((compileOf (s .args .sizes .now) (s .args .strides .now)) .traversal))) (accepted-range c)
+    ∙ ap (λ (n : ℕ). layoutBeside n (some ((compileOf (s .args .sizes .now) (s .args .strides .now)) .traversal))) (accepted-range c)
 
 -- src/full.rt:69:9
 checked-range-requires : tie.Need-checked-range-requires
@@ -64,7 +64,7 @@ reduce-full-range-requires c κs =
     let r = ranged _ _ _ _ _ _ (accepted-range c) in
     simp (toZ-ofZ (s .fits .base))
     (rw (layout-of c)
-    (ranged-accepted _ _ _ _ _ _ r .traversal, ranged-bounded _ _ _ _ _ _ r, r .forward, r .inside, ranged-few _ _ _ _ _ _ r, ranged-within _ _ _ _ _ _ r))
+    (ranged-accepted _ _ _ _ _ _ r .traversal, ranged-bounded _ _ _ _ _ _ r, r .forward, r .inside, ranged-few _ _ _ _ _ _ r, ranged-inside _ _ _ _ _ _ r))
 
 -- src/full.rt:58:1
 returns-2 : tie.Need-returns-2

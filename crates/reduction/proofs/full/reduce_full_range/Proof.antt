@@ -19,7 +19,7 @@ use Rattle.integers.specs.Integers.{eqZ}
 use Rattle.kernels.specs.InnerStrided.{strided}
 use Rattle.kernels.specs.Pieces.{worked}
 use Rattle.reduction.specs.InnerStrips.{strip}
-use Rattle.reduction.proofs.Ranges.{Taken, taken, Reducing, near, reducing-first, reducing-more, reducing-all}
+use Rattle.reduction.proofs.Ranges.{PieceTaken, taken, Reducing, near, reducing-first, reducing-more, reducing-all}
 use Rattle.reduction.proofs.Strips.{run-some, firstAxis, runs-inside, reducing-strip}
 use Rattle.reduction.proofs.full.reduce_full_range.Statement.{statement}
 use Rattle.reduction.proofs.full.reduce_full_range.Tie as tie
@@ -55,8 +55,8 @@ start-is : (c : tie.After-begin Inv-loop μ-loop) → c .begin .result .at ≡ f
 unfolding rangeAt
 start-is c = ap (λ (x : RangeCursor). x .at) (began c)
 
-stands : (c : tie.After-begin Inv-loop μ-loop) → let s = from-told (c .before) in c .begin .result ≡ rangeAt (s .args .l) (s .args .base) (c .begin .result .at)
-stands c = let s = from-told (c .before) in began c ∙ ap (rangeAt (s .args .l) (s .args .base)) (sym (start-is c))
+cursor-is : (c : tie.After-begin Inv-loop μ-loop) → let s = from-told (c .before) in c .begin .result ≡ rangeAt (s .args .l) (s .args .base) (c .begin .result .at)
+cursor-is c = let s = from-told (c .before) in began c ∙ ap (rangeAt (s .args .l) (s .args .base)) (sym (start-is c))
 
 before-end : (c : tie.After-begin Inv-loop μ-loop) → c .begin .result .at < from-told (c .before) .args .end
 before-end c = let s = from-told (c .before) in omega (arith, start-is c, s .pre .2)
@@ -64,12 +64,12 @@ before-end c = let s = from-told (c .before) in omega (arith, start-is c, s .pre
 next-piece-requires : tie.Need-next-piece-requires Inv-loop μ-loop
 next-piece-requires c κs =
     let s = from-told (c .before) in
-    (s .pre .0, before-end c, record { base = s .args .base; bounded = s .pre .1; stands = stands c })
+    (s .pre .0, before-end c, record { base = s .args .base; bounded = s .pre .1; cursor-is = cursor-is c })
 
-first-taken : (c : tie.After-next-piece Inv-loop μ-loop) → let s = from-told (c .before .before) in Taken (s .args .l) (s .args .base) (s .args .values .now) (s .args .end) (c .before .begin .result) (c .next-piece .result)
+first-taken : (c : tie.After-next-piece Inv-loop μ-loop) → let s = from-told (c .before .before) in PieceTaken (s .args .l) (s .args .base) (s .args .values .now) (s .args .end) (c .before .begin .result) (c .next-piece .result)
 first-taken c =
     let s = from-told (c .before .before) in
-    taken (s .args .l) (s .pre .0) (s .args .base) (s .pre .1) (s .args .values .now) (s .pre .5) (s .args .end) (s .pre .3) (c .before .begin .result) (stands (c .before)) (before-end (c .before)) (c .next-piece .result) (c .next-piece .ensures)
+    taken (s .args .l) (s .pre .0) (s .args .base) (s .pre .1) (s .args .values .now) (s .pre .5) (s .args .end) (s .pre .3) (c .before .begin .result) (cursor-is (c .before)) (before-end (c .before)) (c .next-piece .result) (c .next-piece .ensures)
 
 first-fits : (c : tie.After-struct-told2 Inv-loop μ-loop) → SFits w64 (c .before .next-piece .result .first)
 first-fits c = record { sfits = c .struct-told2 .given .0 .1 }
@@ -100,7 +100,7 @@ on-range : (c : tie.Then1 Inv-loop μ-loop) → OnRange (from-loop (c .before .b
 on-range c =
     let k = c .before .before in
     let s = from-loop k in
-    record { base = s .args .base; bounded = s .pre .1; stands = reducing k .stands (c .if1 .taken) }
+    record { base = s .args .base; bounded = s .pre .1; cursor-is = reducing k .cursor-is (c .if1 .taken) }
 
 whole-runs-requires : tie.Need-whole-runs-requires Inv-loop μ-loop
 whole-runs-requires c κs = (from-loop (c .before .before) .pre .0, c .if1 .taken)
@@ -111,12 +111,12 @@ next-piece-requires-2 c κs =
     let t = c .before .before in
     (from-loop (t .before .before) .pre .0, t .if1 .taken, on-range t)
 
-next-taken : (c : tie.After-next-piece2 Inv-loop μ-loop) → let k = c .before .before .before .before .before in let s = from-loop k in Taken (s .args .l) (s .args .base) (s .args .values .now) (s .args .end) (k .loop .c) (c .next-piece2 .result)
+next-taken : (c : tie.After-next-piece2 Inv-loop μ-loop) → let k = c .before .before .before .before .before in let s = from-loop k in PieceTaken (s .args .l) (s .args .base) (s .args .values .now) (s .args .end) (k .loop .c) (c .next-piece2 .result)
 next-taken c =
     let t = c .before .before .before in
     let k = t .before .before in
     let s = from-loop k in
-    taken (s .args .l) (s .pre .0) (s .args .base) (s .pre .1) (s .args .values .now) (s .pre .5) (s .args .end) (s .pre .3) (k .loop .c) (reducing k .stands (t .if1 .taken)) (t .if1 .taken) (c .next-piece2 .result) (c .next-piece2 .ensures)
+    taken (s .args .l) (s .pre .0) (s .args .base) (s .pre .1) (s .args .values .now) (s .pre .5) (s .args .end) (s .pre .3) (k .loop .c) (reducing k .cursor-is (t .if1 .taken)) (t .if1 .taken) (c .next-piece2 .result) (c .next-piece2 .ensures)
 
 next-fits : (c : tie.After-struct-told3 Inv-loop μ-loop) → SFits w64 (c .before .next-piece2 .result .first)
 next-fits c = record { sfits = c .struct-told3 .given .0 .1 }
@@ -169,8 +169,8 @@ ahead : (c : tie.Else2 Inv-loop μ-loop) → let k = strip-loop c in let l = fro
     (0 < l .«axis_count») × (k .loop .c .at % l .«run_len» ≡ 0) × (k .loop .c .at / l .«run_len» % firstAxis l .extent + n ≤ firstAxis l .extent) × (k .loop .c .at + n * l .«run_len» ≤ from-loop k .args .end)
 ahead c = c .before .whole-runs .ensures (omega (arith, c .if2 .left))
 
-strip-stands : (c : tie.Else2 Inv-loop μ-loop) → let k = strip-loop c in let s = from-loop k in k .loop .c ≡ rangeAt (s .args .l) (s .args .base) (k .loop .c .at)
-strip-stands c = reducing (strip-loop c) .stands (c .before .before .if1 .taken)
+strip-cursor-is : (c : tie.Else2 Inv-loop μ-loop) → let k = strip-loop c in let s = from-loop k in k .loop .c ≡ rangeAt (s .args .l) (s .args .base) (k .loop .c .at)
+strip-cursor-is c = reducing (strip-loop c) .cursor-is (c .before .before .if1 .taken)
 
 at-fits : (c : tie.Else2 Inv-loop μ-loop) → SFits w64 (strip-loop c .loop .c .runs .«source_offset»)
 at-fits c =
@@ -200,7 +200,7 @@ reduce-strip-requires c κs =
       omega (arith, m, a .3, s .pre .3, s .pre .4),
       omega (arith, a .3, s .pre .3, s .pre .4),
       omega (arith, r .small, r .upto, s .pre .3, s .pre .4),
-      runs-inside (s .args .l) (s .pre .0) (s .args .base) (s .pre .1) (s .args .values .now) (s .pre .5) (s .args .end) (s .pre .3) (k .loop .c) (strip-stands e) n (a .0) (a .1) (a .2) (a .3),
+      runs-inside (s .args .l) (s .pre .0) (s .args .base) (s .pre .1) (s .args .values .now) (s .pre .5) (s .args .end) (s .pre .3) (k .loop .c) (strip-cursor-is e) n (a .0) (a .1) (a .2) (a .3),
       r .sound,
     )
 
@@ -252,7 +252,7 @@ loop-again-2 c =
     let s = from-loop k in
     let a = ahead e in
     simp (toZ-ofZ (s .fits .base))
-    (reducing-strip (s .args .l) (s .pre .0) (s .args .base) (s .pre .1) (s .args .values .now) (s .pre .5) (s .args .end) (s .pre .3) (k .loop .c) (strip-stands e) (e .before .whole-runs .result) (a .0) (a .1) (a .2) (a .3) (values-fit k) (s .args .start) (k .loop .acc) (reducing k) (r .reduce-strip .result) (strip-is r) (c .begin2 .result) (behind c))
+    (reducing-strip (s .args .l) (s .pre .0) (s .args .base) (s .pre .1) (s .args .values .now) (s .pre .5) (s .args .end) (s .pre .3) (k .loop .c) (strip-cursor-is e) (e .before .whole-runs .result) (a .0) (a .1) (a .2) (a .3) (values-fit k) (s .args .start) (k .loop .acc) (reducing k) (r .reduce-strip .result) (strip-is r) (c .begin2 .result) (behind c))
 
 returns : tie.Need-returns Inv-loop μ-loop
 returns c =

@@ -11,7 +11,7 @@ use Rattle.kernels.specs.Lanes.{inOrder}
 use Rattle.kernels.specs.Blocks.{eOf}
 use Rattle.kernels.proofs.Feeding.{order-more, order-all}
 use Rattle.vectors.specs.InnerWaiting.{exponentsOf}
-use Rattle.vectors.proofs.Vectors.{plus, some-exponents-size, next-sum-fits, next-sum-held}
+use Rattle.vectors.proofs.Vectors.{plus, some-exponents-size, next-sum-fits, next-sum-exact}
 use Rattle.vectors.proofs.feeding.exponents.Statement.{statement}
 use Rattle.vectors.proofs.feeding.exponents.Tie as tie
 
@@ -55,7 +55,7 @@ loop-again c =
     let t = c .before .before in
     let s = t .before .args .t1 in
     let z = inOrder (plus s) (t .loop .k) (pos 0) in
-    (omega arith, order-more (plus s) (pos 0) z _ (t .loop .k) refl (next-sum-held z (eOf s (t .loop .k)) (toZ w64 (t .loop .e)) (t .loop .inv .1) (so-far c) (next c)))
+    (omega arith, order-more (plus s) (pos 0) z _ (t .loop .k) refl (next-sum-exact z (eOf s (t .loop .k)) (toZ w64 (t .loop .e)) (t .loop .inv .1) (so-far c) (next c)))
 
 returns : tie.Need-returns Inv-loop μ-loop
 unfolding exponentsOf

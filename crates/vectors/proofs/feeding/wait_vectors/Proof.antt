@@ -37,11 +37,11 @@ inside c =
     let s = c .before .before .before in
     subst (λ (z : ℤ). PlacesInside (length (s .args .values .now)) (s .args .start) z (8 * s .args .vectors)) (one c) (s .pre .3)
 
-held : (c : tie.Then2) → natAbs (c .before .before .before .args .start) ≡ natAbs (toZ w64 (ofZ w64 (c .before .before .before .args .start)))
-held c = let s = c .before .before .before in sym (ap natAbs (toZ-ofZ w64 (s .args .start) (s .fits .start)))
+represent : (c : tie.Then2) → natAbs (c .before .before .before .args .start) ≡ natAbs (toZ w64 (ofZ w64 (c .before .before .before .args .start)))
+represent c = let s = c .before .before .before in sym (ap natAbs (toZ-ofZ w64 (s .args .start) (s .fits .start)))
 
 ends : (c : tie.Then2) → natAbs (toZ w64 (ofZ w64 (c .before .before .before .args .start))) + 8 * c .before .before .before .args .vectors ≤ length (c .before .before .before .args .values .now)
-ends c = let s = c .before .before .before in at-last _ _ (s .args .start) (8 * s .args .vectors) (inside c) (some c) (held c)
+ends c = let s = c .before .before .before in at-last _ _ (s .args .start) (8 * s .args .vectors) (inside c) (some c) (represent c)
 
 cast-wait-beside : tie.Need-cast-wait-beside
 cast-wait-beside c =
@@ -60,7 +60,7 @@ returns-2 c =
     c .wait-beside .ensures
     ∙ ap (feed waitStep 0 (s .args .w))
     (strided-window (s .args .values .now) at n (ends t)
-    ∙ ap (λ (z : ℤ). strided (s .args .values .now) z (pos 1) n) (sym (at-first _ at (s .args .start) n (inside t) (some t) (held t)))
+    ∙ ap (λ (z : ℤ). strided (s .args .values .now) z (pos 1) n) (sym (at-first _ at (s .args .start) n (inside t) (some t) (represent t)))
     ∙ ap (λ (z : ℤ). strided (s .args .values .now) (s .args .start) z n) (sym (one t)))
 
 wait-apart-requires : tie.Need-wait-apart-requires

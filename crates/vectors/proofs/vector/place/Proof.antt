@@ -20,16 +20,16 @@ cast-result : tie.Need-cast-result
 cast-result c = number-fits (c .args .i) (c .pre .0)
 
 -- the product and the sum, of the numbers as the code holds them
-held : (c : tie.Start) → toZ w64 (ofZ w64 (c .args .stride)) *ℤ toZ w64 (c .args .i) ≡ c .args .stride *ℤ pos (c .args .i)
-held c = ap (λ (z : ℤ). z *ℤ toZ w64 (c .args .i)) (toZ-ofZ w64 (c .args .stride) (c .fits .stride)) ∙ ap (λ (z : ℤ). c .args .stride *ℤ z) (toZ-ofZ w64 (pos (c .args .i)) (cast-result c))
+represent : (c : tie.Start) → toZ w64 (ofZ w64 (c .args .stride)) *ℤ toZ w64 (c .args .i) ≡ c .args .stride *ℤ pos (c .args .i)
+represent c = ap (λ (z : ℤ). z *ℤ toZ w64 (c .args .i)) (toZ-ofZ w64 (c .args .stride) (c .fits .stride)) ∙ ap (λ (z : ℤ). c .args .stride *ℤ z) (toZ-ofZ w64 (pos (c .args .i)) (cast-result c))
 
 mul-result : tie.Need-mul-result
-mul-result c = subst (SFits w64) (sym (held c)) (c .pre .1)
+mul-result c = subst (SFits w64) (sym (represent c)) (c .pre .1)
 
 sum : (c : tie.Start) → toZ w64 (ofZ w64 (c .args .start)) +ℤ toZ w64 (ofZ w64 (toZ w64 (ofZ w64 (c .args .stride)) *ℤ toZ w64 (c .args .i))) ≡ c .args .start +ℤ c .args .stride *ℤ pos (c .args .i)
 sum c =
     ap (λ (z : ℤ). z +ℤ toZ w64 (ofZ w64 (toZ w64 (ofZ w64 (c .args .stride)) *ℤ toZ w64 (c .args .i)))) (toZ-ofZ w64 (c .args .start) (c .fits .start))
-    ∙ ap (λ (z : ℤ). c .args .start +ℤ z) (toZ-ofZ w64 _ (mul-result c) ∙ held c)
+    ∙ ap (λ (z : ℤ). c .args .start +ℤ z) (toZ-ofZ w64 _ (mul-result c) ∙ represent c)
 
 add-result : tie.Need-add-result
 add-result c = subst (SFits w64) (sym (sum c)) (c .pre .2)

@@ -25,11 +25,11 @@ inside c =
     let s = c .before .before .before in
     subst (λ (z : ℤ). PlacesInside (length (s .args .values .now)) (s .args .at) z 8) (one (c .before)) (inside-less (length (s .args .values .now)) (s .args .at) (s .args .stride) (s .args .left) 8 (s .pre) (c .if2 .taken))
 
-held : (c : tie.Then2) → natAbs (c .before .before .before .args .at) ≡ natAbs (toZ w64 (ofZ w64 (c .before .before .before .args .at)))
-held c = let s = c .before .before .before in sym (ap natAbs (toZ-ofZ w64 (s .args .at) (s .fits .at)))
+represent : (c : tie.Then2) → natAbs (c .before .before .before .args .at) ≡ natAbs (toZ w64 (ofZ w64 (c .before .before .before .args .at)))
+represent c = let s = c .before .before .before in sym (ap natAbs (toZ-ofZ w64 (s .args .at) (s .fits .at)))
 
 ends : (c : tie.Then2) → natAbs (toZ w64 (ofZ w64 (c .before .before .before .args .at))) + 8 ≤ length (c .before .before .before .args .values .now)
-ends c = let s = c .before .before .before in at-last _ _ (s .args .at) 8 (inside c) (lit≤ tt) (held c)
+ends c = let s = c .before .before .before in at-last _ _ (s .args .at) 8 (inside c) (lit≤ tt) (represent c)
 
 cast-vector-at : tie.Need-cast-vector-at
 cast-vector-at c =
@@ -47,7 +47,7 @@ returns c =
     let h = t .if2 .taken in
     c .vector-at .ensures
     ∙ strided-window (s .args .values .now) at 8 (ends t)
-    ∙ ap (λ (z : ℤ). strided (s .args .values .now) z (pos 1) 8) (sym (at-first _ at (s .args .at) 8 (inside t) (lit≤ tt) (held t)))
+    ∙ ap (λ (z : ℤ). strided (s .args .values .now) z (pos 1) 8) (sym (at-first _ at (s .args .at) 8 (inside t) (lit≤ tt) (represent t)))
     ∙ ap (λ (z : ℤ). strided (s .args .values .now) (s .args .at) z 8) (sym (one (t .before)))
     ∙ sym (vector-whole (s .args .values .now) (s .args .at) (s .args .stride))
     ∙ ap (λ (n : ℕ). vectorOf (strided (s .args .values .now) (s .args .at) (s .args .stride) n)) (let e : 8 ≡ min 8 (s .args .left) = omega arith in e)

@@ -17,7 +17,7 @@ use Rattle.layout.specs.declared.traversal.Compiled.{Compiled}
 use Rattle.layout.specs.Axes.{PLACES}
 use Rattle.layout.specs.InnerTables.{tableAxes}
 use Rattle.layout.specs.Compile.{totalOf, layoutOf, emptyLayout, traversalOf, compileOf}
-use Rattle.layout.proofs.Compiling.{total-yes, total-no, no-elements, no-resets, ordered-held, no-fusing, fused-held, is-layout, code-1, code-2, code-3, code-4, code-0}
+use Rattle.layout.proofs.Compiling.{total-yes, total-no, no-elements, no-resets, ordered-in-table, no-fusing, fused-in-table, is-layout, code-1, code-2, code-3, code-4, code-0}
 use Rattle.layout.proofs.Line.{single}
 use borrow.Author.Needs.{needs}
 use Rattle.layout.proofs.traversal.FullTraversal.compile.Statement.{statement}
@@ -132,7 +132,7 @@ compress-reduce-outer-axes-requires c κs =
     let t = o .before .before in
     let m = t .before .before in
     let s = m .before .before .before .before .before in
-    ordered-held (s .args .sizes .now) (s .args .strides .now) (m .checked-total .result .value) (counted t) (o .before .if5 .left) (o .ordered-axes .result) (o .ordered-axes .ensures) (not-false _ (c .if6 .left)) (m .before .if3 .left)
+    ordered-in-table (s .args .sizes .now) (s .args .strides .now) (m .checked-total .result .value) (counted t) (o .before .if5 .left) (o .ordered-axes .result) (o .ordered-axes .ensures) (not-false _ (c .if6 .left)) (m .before .if3 .left)
 
 refused-requires-6 : tie.Need-refused-requires-6
 refused-requires-6 c κs = search needs
@@ -173,7 +173,7 @@ with-run-requires c κs =
     let t = o .before .before in
     let m = t .before .before in
     let s = m .before .before .before .before .before in
-    fused-held (s .args .sizes .now) (s .args .strides .now) (m .checked-total .result .value) (counted t) (o .before .if5 .left) (o .ordered-axes .result) (o .ordered-axes .ensures) (not-false _ (f .before .if6 .left))
+    fused-in-table (s .args .sizes .now) (s .args .strides .now) (m .checked-total .result .value) (counted t) (o .before .if5 .left) (o .ordered-axes .result) (o .ordered-axes .ensures) (not-false _ (f .before .if6 .left))
     (f .compress-reduce-outer-axes .result) (f .compress-reduce-outer-axes .ensures) (m .before .if3 .left) (not-false _ (k .if7 .left))
 
 returns-9 : tie.Need-returns-9

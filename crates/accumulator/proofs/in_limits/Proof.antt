@@ -6,8 +6,8 @@ use mir.Syntax.{w64}
 use mir.ValLaws.{toZ-ofZ}
 use borrow.Author.Needs.{needs}
 use Rattle.accumulator.specs.Joining.{inLimits, withinLimit}
-use Rattle.accumulator.proofs.stands_up.Statement.{statement}
-use Rattle.accumulator.proofs.stands_up.Tie as tie
+use Rattle.accumulator.proofs.in_limits.Statement.{statement}
+use Rattle.accumulator.proofs.in_limits.Tie as tie
 
 in-unit-requires : tie.Need-in-unit-requires
 in-unit-requires c κs = search needs
@@ -19,9 +19,9 @@ returns : tie.Need-returns
 unfolding inLimits
 returns c =
     let a = c .before .before .before .before .args .a in
-    let held = toZ-ofZ w64 (a .e) (record { sfits = c .before .struct-told .given .1 .0 .1 }) in
+    let exact = toZ-ofZ w64 (a .e) (record { sfits = c .before .struct-told .given .1 .0 .1 }) in
     let unit = c .before .before .before .in-unit in
-    c .within-limit .ensures ∙ ap (λ (z : ℤ). withinLimit z) held ∙ ap (λ (t : Bool). t && withinLimit (a .e)) (sym (c .before .before .if1 .taken) ∙ unit .ensures)
+    c .within-limit .ensures ∙ ap (λ (z : ℤ). withinLimit z) exact ∙ ap (λ (t : Bool). t && withinLimit (a .e)) (sym (c .before .before .if1 .taken) ∙ unit .ensures)
 
 returns-2 : tie.Need-returns-2
 unfolding inLimits
@@ -29,5 +29,5 @@ returns-2 c =
     let a = c .before .before .args .a in
     c .if1 .left ∙ ap (λ (t : Bool). t && withinLimit (a .e)) (sym (c .if1 .left) ∙ c .before .in-unit .ensures)
 
-pub stands-up-spec : {M : Type 1} → statement M
-stands-up-spec = tie.close (tie.spec in-unit-requires within-limit-requires returns returns-2)
+pub in-limits-spec : {M : Type 1} → statement M
+in-limits-spec = tie.close (tie.spec in-unit-requires within-limit-requires returns returns-2)
