@@ -4,6 +4,7 @@ use mathlib.Core.Bool.{Bool, true, false, not, cond, _&&_, _||_}
 use lib.IntN.{ℤ, pos, negsuc, natAbs, _+ℤ_}
 use lib.Dec.{leb}
 use lib.Ieee.{Float, fin}
+use Rattle.refusals.specs.Refusals.{ACCUMULATOR_OUT_OF_RANGE, EXPONENT_OUT_OF_RANGE}
 use Rattle.floats.specs.Product.{productOf}
 use Rattle.floats.specs.Factor.{Factor}
 use Rattle.floats.specs.Magnitude.{inUnit, twoOrMore, factorAt}
@@ -56,9 +57,9 @@ unfoldable pub answered : StableProductFloatAcc → StableProductFloatAcc → An
 unfolding combined
 answered a b =
     let r = combined a b in
-    cond (not (a .bad || b .bad) && not (withinLimit (r .e))) (refusal 10) (accumulator (r .m) (r .e) (r .bad))
+    cond (not (a .bad || b .bad) && not (withinLimit (r .e))) (refusal EXPONENT_OUT_OF_RANGE) (accumulator (r .m) (r .e) (r .bad))
 
 -- 9 if either does not stand
 unfoldable pub joined : StableProductFloatAcc → StableProductFloatAcc → Answer
 unfolding inLimits answered
-joined a b = cond (not (inLimits a && inLimits b)) (refusal 9) (answered a b)
+joined a b = cond (not (inLimits a && inLimits b)) (refusal ACCUMULATOR_OUT_OF_RANGE) (answered a b)

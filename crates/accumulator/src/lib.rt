@@ -9,11 +9,6 @@ ghost use Rattle.accumulator.specs.Joining.{identityAcc, combined, withi
 // The largest exponent, either way, of an accumulator that is given or answered: 2^52.
 const LIMIT: i64 = 4503599627370496;
 
-// Refusals of document 01: a given accumulator is out of range; a joined one would be.
-const GIVEN_OUT_OF_RANGE: u32 = 9;
-
-const JOINED_OUT_OF_RANGE: u32 = 10;
-
 // A signed m with |m| in [1, 2), the exact exponent, and whether a bad factor entered.
 pub struct StableProductFloatAcc {
     pub m: f64,
@@ -133,15 +128,15 @@ pub fn join(a: StableProductFloatAcc, b: StableProductFloatAcc) -> Reduced
     ensures { λ r. ⌜ answerOf r ≡ joined a b ⌝ }
 {
     if !in_limits(a) {
-        return Reduced::Refused(GIVEN_OUT_OF_RANGE);
+        return Reduced::Refused(refusals::ACCUMULATOR_OUT_OF_RANGE);
     }
     if !in_limits(b) {
-        return Reduced::Refused(GIVEN_OUT_OF_RANGE);
+        return Reduced::Refused(refusals::ACCUMULATOR_OUT_OF_RANGE);
     }
     let r = stable_float_combine(a, b);
     if within_limit(r.e) {
         Reduced::Acc(r)
     } else {
-        Reduced::Refused(JOINED_OUT_OF_RANGE)
+        Reduced::Refused(refusals::EXPONENT_OUT_OF_RANGE)
     }
 }

@@ -3,6 +3,7 @@ use Prim.Native.Nat.{ℕ}
 use mathlib.Core.Bool.{not, cond}
 use lib.Ieee.{Float, nan}
 use Rattle.finishing.specs.declared.Finished.the-variants as finished
+use Rattle.refusals.specs.Refusals.{ACCUMULATOR_OUT_OF_RANGE}
 use Rattle.accumulator.specs.Joining.{factorOfAcc, inLimits}
 use Rattle.accumulator.specs.declared.StableProductFloatAcc.{StableProductFloatAcc}
 use Rattle.accumulator.specs.declared.Reduced.{Reduced}
@@ -28,4 +29,4 @@ valueOfAcc a = cond (a .bad) nan (roundedOnce (factorOfAcc a))
 unfoldable pub finishedOf : Reduced → FinalAnswer
 unfolding inLimits valueOfAcc
 finishedOf (Refused n) = refusal n
-finishedOf (Acc a) = cond (not (inLimits a)) (refusal 9) (value (valueOfAcc a))
+finishedOf (Acc a) = cond (not (inLimits a)) (refusal ACCUMULATOR_OUT_OF_RANGE) (value (valueOfAcc a))

@@ -16,9 +16,6 @@ const TWO_POW_1023: u64 = 2046u64 << 52;
 
 const INFINITE: u64 = 2047u64 << 52;
 
-// Refusal of document 01: a given accumulator is out of range.
-const GIVEN_OUT_OF_RANGE: u32 = 9;
-
 // A number, or the number of a refusal.
 pub enum Finished {
     Number(f64),
@@ -84,7 +81,7 @@ pub fn finish(answer: Reduced) -> Finished
         return Finished::Refused(n);
     };
     if !accumulator::in_limits(a) {
-        return Finished::Refused(GIVEN_OUT_OF_RANGE);
+        return Finished::Refused(refusals::ACCUMULATOR_OUT_OF_RANGE);
     }
     if a.bad {
         return Finished::Number(0.0 / 0.0);

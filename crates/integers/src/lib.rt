@@ -1,6 +1,6 @@
 // Machine integers with checked steps: the magnitude of an i64, and products that say whether they fit.
 ghost use mathlib.Core.Path.{_≡_};
-ghost use Prim.Native.Nat.{_*_};
+ghost use Prim.Native.Nat.{_*_, min};
 ghost use lib.IntN.{pos, negℤ, natAbs, _*ℤ_};
 ghost use Rattle.integers.specs.InnerChecked.{narrowI64, narrowU64};
 
@@ -16,6 +16,18 @@ pub struct CheckedU64 {
 pub struct CheckedI64 {
     pub ok: bool,
     pub value: i64,
+}
+
+pub fn min_u64(a: u64, b: u64) -> u64
+    ensures { λ r. ⌜ r ≡ min a b ⌝ }
+{
+    if a < b { a } else { b }
+}
+
+pub fn min_usize(a: usize, b: usize) -> usize
+    ensures { λ r. ⌜ r ≡ min a b ⌝ }
+{
+    if a < b { a } else { b }
 }
 
 // The magnitude, which takes all 64 bits at the least i64.

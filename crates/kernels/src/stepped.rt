@@ -80,8 +80,13 @@ fn joined_lanes(t: AccLanes) -> StableProductFloatAcc
     a
 }
 
-// A piece of `len` values that begin at `start`, `stride` apart.
-pub fn lanes_strided(values: &[f64], start: i64, stride: i64, len: usize) -> StableProductFloatAcc
+// `lanes_strided` value by value: a piece of `len` values that begin at `start`, `stride` apart.
+pub fn lanes_each_value(
+    values: &[f64],
+    start: i64,
+    stride: i64,
+    len: usize,
+) -> StableProductFloatAcc
     requires { ⌜ PlacesInside (length (now values)) start stride len × (len ≤ 2 ^ 40) ⌝ }
     ensures { λ r. ⌜ r ≡ stepped (strided (now (values .entry)) start stride len) ⌝ }
 {

@@ -24,7 +24,8 @@ use Rattle.layout.specs.Order.{keptAxes, axesOf, resetsFit}
 use Rattle.layout.specs.InnerAnswers.{orderedIf, orderedOr, checkedOr}
 use Rattle.layout.specs.Fuse.{fuse}
 use Rattle.layout.proofs.Ordering.{length-axes}
-use Rattle.layout.specs.Compile.{totalFrom, totalOf, layoutOf, emptyLayout, fusedOf, traversalAt, traversalOf, firstOf, compileRefusals, layoutBeside, compileOf, overflows, aboveMost}
+use Rattle.refusals.specs.Refusals.{firstOf}
+use Rattle.layout.specs.Compile.{totalFrom, totalOf, layoutOf, emptyLayout, fusedOf, traversalAt, traversalOf, compileRefusals, layoutBeside, compileOf, overflows, aboveMost}
 use Rattle.layout.proofs.Tables.{table-axes-of, table-of, table-count}
 use Rattle.layout.proofs.Fusing.{count-of, from-i, length-fuse}
 

@@ -6,6 +6,7 @@ use mathlib.Core.Option.{Option, none, some}
 use lib.ListN.{length}
 use lib.Dec.{ltb, eqb}
 use lib.IntN.{ℤ, pos}
+use Rattle.refusals.specs.Refusals.{Refusal, firstOf, STRIDE_LENGTH_MISMATCH, TOO_MANY_AXES, OFFSET_OVERFLOW, TOO_MANY_ELEMENTS}
 use Rattle.layout.specs.declared.axis.ReduceOuterAxis.{ReduceOuterAxis}
 use Rattle.layout.specs.declared.traversal.FullTraversal.{FullTraversal}
 use Rattle.layout.specs.declared.traversal.Compiled.{Compiled}
@@ -43,15 +44,6 @@ traversalAt sizes strides (some t) =
 unfoldable pub traversalOf : List ℕ → List ℤ → Option FullTraversal
 traversalOf sizes strides = traversalAt sizes strides (totalOf sizes)
 
--- a refusal: its number, and whether its condition holds
-abbrev pub Refusal : Type 0
-Refusal = ℕ × Bool
-
--- the first that applies, or 0
-unfoldable pub firstOf : List Refusal → ℕ
-firstOf [] = 0
-firstOf (r ∷ rs) = cond (r .1) (r .0) (firstOf rs)
-
 unfoldable pub overflows : Option FullTraversal → Bool
 overflows none = true
 overflows (some l) = false
@@ -63,10 +55,10 @@ aboveMost (some t) = ltb (2 ^ 40) t
 -- refusals 1 to 4, in rank
 unfoldable pub compileRefusals : List ℕ → List ℤ → List Refusal
 compileRefusals sizes strides =
-    (1, not (eqb (length sizes) (length strides)))
-    ∷ (2, ltb PLACES (length sizes))
-    ∷ (3, overflows (traversalOf sizes strides))
-    ∷ (4, aboveMost (totalOf sizes))
+    (STRIDE_LENGTH_MISMATCH, not (eqb (length sizes) (length strides)))
+    ∷ (TOO_MANY_AXES, ltb PLACES (length sizes))
+    ∷ (OFFSET_OVERFLOW, overflows (traversalOf sizes strides))
+    ∷ (TOO_MANY_ELEMENTS, aboveMost (totalOf sizes))
     ∷ []
 
 -- the layout beside a code

@@ -114,6 +114,17 @@ pub fn refused(code: u32) -> Compiled
     }
 }
 
+// An accepted layout of total 0.
+fn no_elements() -> Compiled
+    ensures { λ r. ⌜ r ≡ record { code = 0; traversal = emptyLayout } ⌝ }
+{
+    let code = 0;
+    Compiled {
+        code,
+        traversal: empty(),
+    }
+}
+
 // The layout that is one run.
 fn one_run(len: u64, stride: i64) -> Compiled
     ensures { λ r. ⌜ r ≡ record { code = 0; traversal = layoutOf len (axisOf len stride ∷ []) } ⌝ }
@@ -136,17 +147,17 @@ fn compile_line(size: u64, stride: i64) -> Compiled
     ensures { λ r. ⌜ r ≡ compileOf (size ∷ []) (stride ∷ []) ⌝ }
 {
     if size == 0 {
-        return refused(0);
+        return no_elements();
     }
     if size == 1 {
         return one_run(1, 1);
     }
     let reset = crate::axis::checked_reduce_reset(size, stride);
     if !reset.ok {
-        return refused(3);
+        return refused(refusals::OFFSET_OVERFLOW);
     }
     if MOST < size {
-        return refused(4);
+        return refused(refusals::TOO_MANY_ELEMENTS);
     }
     one_run(size, stride)
 }
@@ -156,32 +167,32 @@ impl FullTraversal {
         ensures { λ r. ⌜ r ≡ compileOf (now (sizes .entry)) (now (strides .entry)) ⌝ }
     {
         if sizes.len() != strides.len() {
-            return refused(1);
+            return refused(refusals::STRIDE_LENGTH_MISMATCH);
         }
         if sizes.len() == 1 {
             return compile_line(sizes[0], strides[0]);
         }
         if PLACES < sizes.len() {
-            return refused(2);
+            return refused(refusals::TOO_MANY_AXES);
         }
         let total = checked_total(sizes);
         if !total.ok {
-            return refused(3);
+            return refused(refusals::OFFSET_OVERFLOW);
         }
         let t = total.value;
         if t == 0 {
-            return refused(0);
+            return no_elements();
         }
         let ordered = crate::order::ordered_axes(sizes, strides);
         if !ordered.ok {
-            return refused(3);
+            return refused(refusals::OFFSET_OVERFLOW);
         }
         let fused = crate::fuse::compress_reduce_outer_axes(ordered.table);
         if !fused.ok {
-            return refused(3);
+            return refused(refusals::OFFSET_OVERFLOW);
         }
         if MOST < t {
-            return refused(4);
+            return refused(refusals::TOO_MANY_ELEMENTS);
         }
         Compiled {
             code: 0,

@@ -23,7 +23,8 @@ use Rattle.layout.specs.Order.{keptAxes, precedes, insertAxis, orderFrom, axesO
 use native.Mathlib.Decide.{decLt}
 use lib.Seq.{take-append-seam}
 use Rattle.layout.specs.declared.traversal.FullTraversal.{FullTraversal}
-use Rattle.layout.specs.Compile.{totalFrom, totalOf, fusedOf, layoutOf, emptyLayout, traversalAt, traversalOf, Refusal, firstOf, overflows}
+use Rattle.refusals.specs.Refusals.{Refusal, firstOf}
+use Rattle.layout.specs.Compile.{totalFrom, totalOf, fusedOf, layoutOf, emptyLayout, traversalAt, traversalOf, overflows}
 use Rattle.layout.proofs.Tables.{length-placesOf}
 use Rattle.layout.proofs.Ordering.{length-order, length-kept}
 use Rattle.layout.proofs.Compiling.{layout-total}

@@ -16,7 +16,8 @@ use Rattle.layout.specs.declared.traversal.FullTraversal.{FullTraversal}
 use Rattle.layout.specs.declared.traversal.Compiled.{Compiled}
 use Rattle.layout.specs.Axes.{PLACES}
 use Rattle.layout.specs.Order.{axesOf}
-use Rattle.layout.specs.Compile.{Refusal, firstOf, compileRefusals, compileOf, layoutBeside, emptyLayout, totalOf, traversalOf, overflows, aboveMost}
+use Rattle.refusals.specs.Refusals.{Refusal, firstOf}
+use Rattle.layout.specs.Compile.{compileRefusals, compileOf, layoutBeside, emptyLayout, totalOf, traversalOf, overflows, aboveMost}
 use Rattle.offsets.specs.Elements.{offset, insideValues, everyBelow, allInside}
 use Rattle.offsets.specs.Pieces.{runOf, outerOf}
 use Rattle.offsets.specs.InnerCursors.{Traversal, Bounded}

@@ -7,7 +7,8 @@ use lib.Dec.{ltb, leb, eqb}
 use lib.IntN.{ℤ}
 use Rattle.layout.specs.declared.axis.ReduceOuterAxis.{ReduceOuterAxis}
 use Rattle.layout.specs.Order.{axesOf}
-use Rattle.layout.specs.Compile.{Refusal, firstOf, compileRefusals, compileOf}
+use Rattle.refusals.specs.Refusals.{Refusal, firstOf, EMPTY_RANGE, RANGE_PAST_END, ELEMENT_OUTSIDE, BUFFER_TOO_SHORT}
+use Rattle.layout.specs.Compile.{compileRefusals, compileOf}
 use Rattle.offsets.specs.Elements.{offset, allInside}
 
 -- the total of a layout, 0 where compiling refuses it
@@ -17,9 +18,9 @@ totalIn sizes strides = (compileOf sizes strides) .traversal .total
 -- refusals 5 to 7, in rank
 unfoldable pub rangeRefusals : List ℕ → List ℤ → ℤ → ℕ → ℕ → ℕ → List Refusal
 rangeRefusals sizes strides base start end length =
-    (5, leb end start)
-    ∷ (6, ltb (totalIn sizes strides) end)
-    ∷ (7, not (allInside (axesOf sizes strides) (totalIn sizes strides) base length))
+    (EMPTY_RANGE, leb end start)
+    ∷ (RANGE_PAST_END, ltb (totalIn sizes strides) end)
+    ∷ (ELEMENT_OUTSIDE, not (allInside (axesOf sizes strides) (totalIn sizes strides) base length))
     ∷ []
 
 -- the code of a range: 1 to 7, or 0
@@ -30,7 +31,7 @@ rangeCode sizes strides base start end length =
 -- the code of a list call: 8 for a buffer of `room` places that is too short
 unfoldable pub listCode : List ℕ → List ℤ → ℤ → ℕ → ℕ → ℕ → ℕ → ℕ
 listCode sizes strides base start end length room =
-    firstOf (compileRefusals sizes strides ++ rangeRefusals sizes strides base start end length ++ (8, ltb room (end - start)) ∷ [])
+    firstOf (compileRefusals sizes strides ++ rangeRefusals sizes strides base start end length ++ (BUFFER_TOO_SHORT, ltb room (end - start)) ∷ [])
 
 -- the offsets of n elements from k on
 unfoldable pub offsetsFrom : List ReduceOuterAxis → ℤ → ℕ → ℕ → List ℤ

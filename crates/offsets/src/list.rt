@@ -29,16 +29,16 @@ pub fn checked_range(
         return c;
     }
     if end <= start {
-        return layout::traversal::refused(5);
+        return layout::traversal::refused(refusals::EMPTY_RANGE);
     }
     let l = c.traversal;
     if l.total < end {
-        return layout::traversal::refused(6);
+        return layout::traversal::refused(refusals::RANGE_PAST_END);
     }
     if crate::bounds::inside(l, base, length) {
         return c;
     }
-    layout::traversal::refused(7)
+    layout::traversal::refused(refusals::ELEMENT_OUTSIDE)
 }
 
 // Writes count offsets from `first` on, a stride apart, into out from `at` on. The stride is not added after the last: that sum may not fit.
@@ -92,7 +92,7 @@ pub fn offset_list(
         return range.code;
     }
     if (out.len() as u64) < end - start {
-        return 8;
+        return refusals::BUFFER_TOO_SHORT;
     }
     let l = range.traversal;
     write_offsets(l, base, start, end, &mut *out);

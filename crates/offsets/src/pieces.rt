@@ -1,7 +1,7 @@
 // A range, cut into pieces before each element number that is a multiple of the run length.
 ghost use mathlib.Core.Path.{_≡_};
 ghost use mathlib.Core.List.{_∷_};
-ghost use Prim.Native.Nat.{_<_, min};
+ghost use Prim.Native.Nat.{_<_};
 ghost use Rattle.offsets.specs.InnerCursors.{Bounded, Traversal};
 ghost use Rattle.offsets.specs.Pieces.{runOf, outerOf};
 ghost use Rattle.offsets.specs.InnerPieces.{rangeAt, pieceOf, OnRange};
@@ -20,12 +20,6 @@ pub struct RangePiece {
     pub first: i64,
     pub len: u64,
     pub next: RangeCursor,
-}
-
-fn least(a: u64, b: u64) -> u64
-    ensures { λ r. ⌜ r ≡ min a b ⌝ }
-{
-    if a <= b { a } else { b }
 }
 
 pub fn begin(l: FullTraversal, base: i64, start: u64) -> RangeCursor
@@ -50,7 +44,7 @@ pub fn next_piece(l: FullTraversal, end: u64, c: RangeCursor) -> RangePiece
     let at = c.at;
     let col = c.col;
     let runs = c.runs;
-    let len = least(l.run_len - col, end - at);
+    let len = integers::min_u64(l.run_len - col, end - at);
     let first = runs.source_offset + l.run_stride * (col as i64);
     let k = at + len;
     if k < end {

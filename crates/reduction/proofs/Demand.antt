@@ -129,36 +129,36 @@ module _ (l : FullTraversal) (t : Traversal l) (base : ℤ) (b : Bounded (runOf 
 
   -- ---- demand 3, of the range start to end - 1
   module _ (start : ℕ) (h : start < end) (few : end ≤ 2 ^ 40) where
-    full : Each FullPiece (piecesOf l base values end start)
+    full : Each FullPiece (piecesOf l base values start end)
     full = full-pieces (end - start) start
 
-    count : rateCount (piecesOf l base values end start) ≡ end - start
+    count : rateCount (piecesOf l base values start end) ≡ end - start
     count = counted (end - start) start (omega arith) (omega arith)
 
     -- the pieces' rates, one after another, are the range's
-    pub range-rates : ratesOf (piecesOf l base values end start) ≡ ratesFrom l base values start (end - start)
+    pub range-rates : ratesOf (piecesOf l base values start end) ≡ ratesFrom l base values start (end - start)
     range-rates = visited (end - start) start (omega arith) (omega arith)
 
-    bad-visited : some badPiece (piecesOf l base values end start) ≡ some isBad (ratesFrom l base values start (end - start))
-    bad-visited = bad-rates (piecesOf l base values end start) ∙ ap (some isBad) range-rates
+    bad-visited : some badPiece (piecesOf l base values start end) ≡ some isBad (ratesFrom l base values start (end - start))
+    bad-visited = bad-rates (piecesOf l base values start end) ∙ ap (some isBad) range-rates
 
     -- the mark is set exactly if a visited rate is zero, subnormal, infinite or NaN
-    pub range-mark : joinedPieces (piecesOf l base values end start) .bad ≡ some isBad (ratesFrom l base values start (end - start))
+    pub range-mark : joinedPieces (piecesOf l base values start end) .bad ≡ some isBad (ratesFrom l base values start (end - start))
     range-mark = joined-mark (each-map FullPiece ValuePiece (λ p f. f .values) full) ∙ bad-visited
 
     -- 1 <= |m| < 2 and |e| <= 2^52, bad or not: the answer can be joined and finished
-    pub range-in-limits : inLimits (joinedPieces (piecesOf l base values end start)) ≡ true
+    pub range-in-limits : inLimits (joinedPieces (piecesOf l base values start end)) ≡ true
     unfolding inLimits
     range-in-limits =
         let r = joined-within full in
-        ap (λ (x : Bool). x && withinLimit (joinedPieces (piecesOf l base values end start) .e)) (r .0 .in-unit)
-        ∙ le-leb (natAbs (joinedPieces (piecesOf l base values end start) .e)) (2 ^ 52) (le-trans (r .1) (omega (arith, count)))
+        ap (λ (x : Bool). x && withinLimit (joinedPieces (piecesOf l base values start end) .e)) (r .0 .in-unit)
+        ∙ le-leb (natAbs (joinedPieces (piecesOf l base values start end) .e)) (2 ^ 52) (le-trans (r .1) (omega (arith, count)))
 
     -- not bad: m and e are the plain product's over the range's pieces
-    pub range-agrees : some isBad (ratesFrom l base values start (end - start)) ≡ false → joinedPieces (piecesOf l base values end start) ≡ accOf (plainProduct 11 52 (patternsOf (piecesOf l base values end start)))
+    pub range-agrees : some isBad (ratesFrom l base values start (end - start)) ≡ false → joinedPieces (piecesOf l base values start end) ≡ accOf (plainProduct 11 52 (patternsOf (piecesOf l base values start end)))
     range-agrees e =
-        agreement (piecesOf l base values end start)
-        (record { some-piece = nonempty (piecesOf l base values end start) (omega (arith, count)); pieces = good-pieces full (bad-visited ∙ e); few = omega (arith, count) })
+        agreement (piecesOf l base values start end)
+        (record { some-piece = nonempty (piecesOf l base values start end) (omega (arith, count)); pieces = good-pieces full (bad-visited ∙ e); few = omega (arith, count) })
       where
         nonempty : (ps : List Piece) → 0 < rateCount ps → 0 < length ps
         nonempty [] z = absurd (none-counted z)

@@ -50,11 +50,11 @@ module _ (l : FullTraversal) (base : ℤ) (values : List Float) (end : ℕ) wher
           ap (λ (ps : List Piece). pieceAt l base values end k ∷ ps) (f (k + pieceLength (l .«run_len») end k) (omega arith) (omega arith))
 
   pub pieces-more : (some : (k : ℕ) → k < end → 1 ≤ pieceLength (l .«run_len») end k) (k : ℕ) → k < end
-      → piecesOf l base values end k ≡ pieceAt l base values end k ∷ piecesOf l base values end (k + pieceLength (l .«run_len») end k)
+      → piecesOf l base values k end ≡ pieceAt l base values end k ∷ piecesOf l base values (k + pieceLength (l .«run_len») end k) end
   unfolding piecesFrom
   pieces-more some k h = go (end - k) refl
     where
-      go : (n : ℕ) → end - k ≡ n → piecesOf l base values end k ≡ pieceAt l base values end k ∷ piecesOf l base values end (k + pieceLength (l .«run_len») end k)
+      go : (n : ℕ) → end - k ≡ n → piecesOf l base values k end ≡ pieceAt l base values end k ∷ piecesOf l base values (k + pieceLength (l .«run_len») end k) end
       go zero e = absurd (omega arith)
       go (suc n) e =
           let p = some k h in

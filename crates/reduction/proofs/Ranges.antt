@@ -40,7 +40,7 @@ pub record PieceTaken (l : FullTraversal) (base : ℤ) (values : List Float) (en
   pub next-cursor-is : p .next .at < end → p .next ≡ rangeAt l base (p .next .at)
   pub inside : PlacesInside (length values) (p .first) (l .«run_stride») (p .len)
   pub worked-is : worked (eqZ (l .«run_stride») (pos 1)) (strided values (p .first) (l .«run_stride») (p .len)) ≡ workedPiece (pieceAt l base values end (c .at))
-  pub pieces : piecesOf l base values end (c .at) ≡ pieceAt l base values end (c .at) ∷ piecesOf l base values end (p .next .at)
+  pub pieces : piecesOf l base values (c .at) end ≡ pieceAt l base values end (c .at) ∷ piecesOf l base values (p .next .at) end
 
 module _ (l : FullTraversal) (t : Traversal l) (base : ℤ) (b : Bounded (runOf l ∷ outerOf l) base) (values : List Float)
     (w : allInside (runOf l ∷ outerOf l) (l .total) base (length values) ≡ true) (end : ℕ) (few : end ≤ l .total)
@@ -70,7 +70,7 @@ module _ (l : FullTraversal) (t : Traversal l) (base : ℤ) (b : Bounded (runOf 
         worked-is = ap (worked (eqZ (l .«run_stride») (pos 1))) rates-are;
         pieces =
             pieces-more l base values end (λ k g. len-pos l t base b k end g) (c .at) h
-            ∙ ap (λ (n : ℕ). pieceAt l base values end (c .at) ∷ piecesOf l base values end n) (ap (λ (n : ℕ). c .at + n) (sym (here .len-is)) ∙ sym (here .next-at));
+            ∙ ap (λ (n : ℕ). pieceAt l base values end (c .at) ∷ piecesOf l base values n end) (ap (λ (n : ℕ). c .at + n) (sym (here .len-is)) ∙ sym (here .next-at));
       }
 
 -- ---- the loop: the cursor stands at c .at while that is below the end, and what is left joins to the range's product
@@ -79,7 +79,7 @@ pub record Reducing (l : FullTraversal) (base : ℤ) (values : List Float) (star
   pub cursor-is : c .at < end → c ≡ rangeAt l base (c .at)
   pub small : natAbs (acc .e) ≤ 1048576 * c .at
   pub sound : Sound acc
-  pub rest : foldl combined acc (map workedPiece (piecesOf l base values end (c .at))) ≡ joinedPieces (piecesOf l base values end start)
+  pub rest : foldl combined acc (map workedPiece (piecesOf l base values (c .at) end)) ≡ joinedPieces (piecesOf l base values start end)
 
 module _ (l : FullTraversal) (base : ℤ) (values : List Float) (start end : ℕ) (c : RangeCursor) (p : RangePiece) (t : PieceTaken l base values end c p) (b : StableProductFloatAcc)
     (e : b ≡ worked (eqZ (l .«run_stride») (pos 1)) (strided values (p .first) (l .«run_stride») (p .len))) where
@@ -105,8 +105,8 @@ module _ (l : FullTraversal) (base : ℤ) (values : List Float) (start end : ℕ
         small = le-trans near (omega (arith, t .next-at));
         sound = piece-sound v;
         rest =
-            ap (λ (a : StableProductFloatAcc). foldl combined a (map workedPiece (piecesOf l base values end (p .next .at)))) is-piece
-            ∙ ap joinedPieces (sym (t .pieces)) ∙ ap (λ (n : ℕ). joinedPieces (piecesOf l base values end n)) k;
+            ap (λ (a : StableProductFloatAcc). foldl combined a (map workedPiece (piecesOf l base values (p .next .at) end))) is-piece
+            ∙ ap joinedPieces (sym (t .pieces)) ∙ ap (λ (n : ℕ). joinedPieces (piecesOf l base values n end)) k;
       }
 
   -- a later one is joined from the right
@@ -118,9 +118,9 @@ module _ (l : FullTraversal) (base : ℤ) (values : List Float) (start end : ℕ
         small = subst (λ (a : StableProductFloatAcc). natAbs (a .e) ≤ 1048576 * p .next .at) (sym g) (le-trans (combined-size acc b) (omega (arith, t .next-at, near, s .small, t .some-len)));
         sound = subst Sound (sym g) (combined-sound acc b (s .sound) (piece-sound v));
         rest =
-            ap (λ (a : StableProductFloatAcc). foldl combined a (map workedPiece (piecesOf l base values end (p .next .at)))) (g ∙ ap (combined acc) is-piece)
+            ap (λ (a : StableProductFloatAcc). foldl combined a (map workedPiece (piecesOf l base values (p .next .at) end))) (g ∙ ap (combined acc) is-piece)
             ∙ ap (λ (ps : List Piece). foldl combined acc (map workedPiece ps)) (sym (t .pieces)) ∙ s .rest;
       }
 
-pub reducing-all : (l : FullTraversal) (base : ℤ) (values : List Float) (start end : ℕ) (acc : StableProductFloatAcc) (c : RangeCursor) → Reducing l base values start end acc c → end ≤ c .at → acc ≡ joinedPieces (piecesOf l base values end start)
+pub reducing-all : (l : FullTraversal) (base : ℤ) (values : List Float) (start end : ℕ) (acc : StableProductFloatAcc) (c : RangeCursor) → Reducing l base values start end acc c → end ≤ c .at → acc ≡ joinedPieces (piecesOf l base values start end)
 reducing-all l base values start end acc c s h = ap (λ (ps : List Piece). foldl combined acc (map workedPiece ps)) (sym (pieces-none l base values end (end - c .at) (c .at) h)) ∙ s .rest

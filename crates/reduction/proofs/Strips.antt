@@ -90,7 +90,7 @@ run-some l t = axes-at (runOf l) (outerOf l) (runOf l ∷ outerOf l) refl (t .ax
 pub record Run (l : FullTraversal) (base : ℤ) (values : List Float) (end q : ℕ) : Type 0 where
   pub inside : PlacesInside (length values) (offset (outerOf l) base q) (l .«run_stride») (l .«run_len»)
   pub worked-is : worked (eqZ (l .«run_stride») (pos 1)) (strided values (offset (outerOf l) base q) (l .«run_stride») (l .«run_len»)) ≡ workedPiece (pieceAt l base values end (q * l .«run_len»))
-  pub pieces : piecesOf l base values end (q * l .«run_len») ≡ pieceAt l base values end (q * l .«run_len») ∷ piecesOf l base values end ((q + 1) * l .«run_len»)
+  pub pieces : piecesOf l base values (q * l .«run_len») end ≡ pieceAt l base values end (q * l .«run_len») ∷ piecesOf l base values ((q + 1) * l .«run_len») end
 
 -- |m| stays in [1, 2)
 pub strip-sound : (values : List Float) → ((i : ℕ) → T (fits binary64 (getD values i nan))) → (step stride : ℤ) (len n : ℕ) (z : ℤ) (acc : StableProductFloatAcc) → Sound acc → Sound (strip values step stride len n z acc)
@@ -150,17 +150,17 @@ module _ (l : FullTraversal) (t : Traversal l) (base : ℤ) (b : Bounded (runOf 
         rw (lies j k) (run (q + j) (omega (arith, mul-le-mul-right (l .«run_len») m)) .inside)
 
     pub strip-joins : (n q : ℕ) (z : ℤ) (acc : StableProductFloatAcc) → (q + n) * l .«run_len» ≤ end → ((j : ℕ) → j < n → z +ℤ step *ℤ pos j ≡ offset (outerOf l) base (q + j))
-        → foldl combined (strip values step (l .«run_stride») (l .«run_len») n z acc) (map workedPiece (piecesOf l base values end ((q + n) * l .«run_len»))) ≡ foldl combined acc (map workedPiece (piecesOf l base values end (q * l .«run_len»)))
+        → foldl combined (strip values step (l .«run_stride») (l .«run_len») n z acc) (map workedPiece (piecesOf l base values ((q + n) * l .«run_len») end)) ≡ foldl combined acc (map workedPiece (piecesOf l base values (q * l .«run_len») end))
     unfolding strip
-    strip-joins zero q z acc h lies = ap (λ (m : ℕ). foldl combined acc (map workedPiece (piecesOf l base values end (m * l .«run_len»)))) (add-zero q)
+    strip-joins zero q z acc h lies = ap (λ (m : ℕ). foldl combined acc (map workedPiece (piecesOf l base values (m * l .«run_len») end))) (add-zero q)
     strip-joins (suc n) q z acc h lies =
         let r = run q (omega arith) in
         let c = combined acc (worked (eqZ (l .«run_stride») (pos 1)) (strided values z (l .«run_stride») (l .«run_len»))) in
         let e : q + suc n ≡ q + 1 + n = omega arith in
-        ap (λ (m : ℕ). foldl combined (strip values step (l .«run_stride») (l .«run_len») n (z +ℤ step) c) (map workedPiece (piecesOf l base values end (m * l .«run_len»)))) e
+        ap (λ (m : ℕ). foldl combined (strip values step (l .«run_stride») (l .«run_len») n (z +ℤ step) c) (map workedPiece (piecesOf l base values (m * l .«run_len») end))) e
         ∙ strip-joins n (q + 1) (z +ℤ step) c (omega arith) (λ j k. place-later z step j ∙ lies (suc j) (omega arith) ∙ ap (offset (outerOf l) base) (one j))
-        ∙ ap (λ (y : ℤ). foldl combined (combined acc (worked (eqZ (l .«run_stride») (pos 1)) (strided values y (l .«run_stride») (l .«run_len»)))) (map workedPiece (piecesOf l base values end ((q + 1) * l .«run_len»)))) (sym (place-zero z step) ∙ lies 0 (omega arith) ∙ ap (offset (outerOf l) base) (add-zero q))
-        ∙ ap (λ (a : StableProductFloatAcc). foldl combined (combined acc a) (map workedPiece (piecesOf l base values end ((q + 1) * l .«run_len»)))) (r .worked-is)
+        ∙ ap (λ (y : ℤ). foldl combined (combined acc (worked (eqZ (l .«run_stride») (pos 1)) (strided values y (l .«run_stride») (l .«run_len»)))) (map workedPiece (piecesOf l base values ((q + 1) * l .«run_len») end))) (sym (place-zero z step) ∙ lies 0 (omega arith) ∙ ap (offset (outerOf l) base) (add-zero q))
+        ∙ ap (λ (a : StableProductFloatAcc). foldl combined (combined acc a) (map workedPiece (piecesOf l base values ((q + 1) * l .«run_len») end))) (r .worked-is)
         ∙ ap (λ (ps : List Piece). foldl combined acc (map workedPiece ps)) (sym (r .pieces))
       where
         one : (j : ℕ) → q + suc j ≡ q + 1 + j
@@ -225,9 +225,9 @@ module _ (l : FullTraversal) (t : Traversal l) (base : ℤ) (b : Bounded (runOf 
         small = subst (λ (a : StableProductFloatAcc). natAbs (a .e) ≤ 1048576 * d .at) (sym g) (le-trans (strip-small values _ _ _ (run-some l t) n _ acc) (omega (arith, next-at d e, s .small)));
         sound = subst Sound (sym g) (strip-sound values v (firstAxis l .«source_step») (l .«run_stride») (l .«run_len») n (c .runs .«source_offset») acc (s .sound));
         rest =
-            ap (λ (a : StableProductFloatAcc). foldl combined a (map workedPiece (piecesOf l base values end (d .at)))) g
-            ∙ ap (λ (k : ℕ). foldl combined (strip values (firstAxis l .«source_step») (l .«run_stride») (l .«run_len») n (c .runs .«source_offset») acc) (map workedPiece (piecesOf l base values end k))) (next-at d e ∙ sym ends)
+            ap (λ (a : StableProductFloatAcc). foldl combined a (map workedPiece (piecesOf l base values (d .at) end))) g
+            ∙ ap (λ (k : ℕ). foldl combined (strip values (firstAxis l .«source_step») (l .«run_stride») (l .«run_len») n (c .runs .«source_offset») acc) (map workedPiece (piecesOf l base values k end))) (next-at d e ∙ sym ends)
             ∙ strip-joins l t base b values w end few (firstAxis l .«source_step») n (c .at / l .«run_len») (c .runs .«source_offset») acc (omega (arith, ends)) lie
-            ∙ ap (λ (k : ℕ). foldl combined acc (map workedPiece (piecesOf l base values end k))) (sym whole)
+            ∙ ap (λ (k : ℕ). foldl combined acc (map workedPiece (piecesOf l base values k end))) (sym whole)
             ∙ s .rest;
       }

@@ -36,7 +36,7 @@ piecesFrom l base values end (suc n) k =
 
 -- the pieces of a range: it has no more of them than elements
 abbrev pub piecesOf : FullTraversal → ℤ → List Float → ℕ → ℕ → List Piece
-piecesOf l base values end start = piecesFrom l base values end (end - start) start
+piecesOf l base values start end = piecesFrom l base values end (end - start) start
 
 -- the pieces' rates, one after another
 unfoldable pub ratesOf : List Piece → List Float
@@ -49,7 +49,7 @@ visitedRates sizes strides base start end values = map (valueAt values) (offsets
 
 -- an accepted range's product: the pieces left to right, the first as it is
 abbrev pub rangeProduct : List ℕ → List ℤ → ℤ → ℕ → ℕ → List Float → StableProductFloatAcc
-rangeProduct sizes strides base start end values = joinedPieces (piecesOf ((compileOf sizes strides) .traversal) base values end start)
+rangeProduct sizes strides base start end values = joinedPieces (piecesOf ((compileOf sizes strides) .traversal) base values start end)
 
 -- the full reduction: the number of the refusal, 1 to 7, or the range's product
 unfoldable pub reduceOf : List ℕ → List ℤ → ℤ → ℕ → ℕ → List Float → Answer

@@ -94,7 +94,7 @@ pub fn reduce_full_range(
     values: &[f64],
 ) -> StableProductFloatAcc
     requires { ⌜ Traversal l × Bounded (runOf l ∷ outerOf l) base × (start < end) × (end ≤ l .total) × (l .total ≤ 2 ^ 40) × (allInside (runOf l ∷ outerOf l) (l .total) base (length (now values)) ≡ true) ⌝ }
-    ensures { λ r. ⌜ r ≡ joinedPieces (piecesOf l base (now (values .entry)) end start) ⌝ }
+    ensures { λ r. ⌜ r ≡ joinedPieces (piecesOf l base (now (values .entry)) start end) ⌝ }
 {
     let stride = l.run_stride;
     let p = offsets::pieces::next_piece(l, end, offsets::pieces::begin(l, base, start));

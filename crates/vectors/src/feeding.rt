@@ -2,7 +2,7 @@
 ghost use mathlib.Core.Path.{_≡_};
 ghost use mathlib.Core.Logic.{_⊎_};
 ghost use mathlib.Core.Bool.{_||_, true};
-ghost use Prim.Native.Nat.{_+_, _*_, _^_, _≤_, min};
+ghost use Prim.Native.Nat.{_+_, _*_, _^_, _≤_};
 ghost use lib.ListN.{length};
 ghost use Rattle.kernels.specs.Lanes.{every, feed};
 ghost use Rattle.kernels.specs.InnerLanes.{window, SmallLanes, LanesAfter};
@@ -152,12 +152,6 @@ fn guarded(s: Lanes, values: &[f64], start: i64, stride: i64, len: usize) -> Lan
     t
 }
 
-pub fn least(a: usize, b: usize) -> usize
-    ensures { λ r. ⌜ r ≡ min a b ⌝ }
-{
-    if a < b { a } else { b }
-}
-
 // The next vectors of a piece: a try, unless one failed a short while ago.
 fn next_step(s: Lanes, values: &[f64], at: i64, stride: i64, left: usize, hold: usize) -> Step
     requires { ⌜ SmallLanes (2 ^ 56) s × (length (s .m) ≡ 8) × (left ≤ 2 ^ 40) × PlacesInside (length (now values)) at stride left ⌝ }
@@ -166,11 +160,11 @@ fn next_step(s: Lanes, values: &[f64], at: i64, stride: i64, left: usize, hold: 
 {
     if hold == 0 {
         if LANES <= left {
-            let n = least(MOST_VECTORS, left / LANES);
+            let n = integers::min_usize(MOST_VECTORS, left / LANES);
             return tried(s, values, at, stride, n);
         }
     }
-    let done = least(GUARDED, left);
+    let done = integers::min_usize(GUARDED, left);
     let lanes = guarded(s, values, at, stride, done);
     Step { lanes, done }
 }

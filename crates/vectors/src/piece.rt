@@ -88,7 +88,7 @@ pub fn lanes_strided(values: &[f64], start: i64, stride: i64, len: usize) -> Sta
 {
     let a = worked_piece(values, start, stride, len);
     if a.bad {
-        return kernels::stepped::lanes_strided(values, start, stride, len);
+        return kernels::stepped::lanes_each_value(values, start, stride, len);
     }
     a
 }

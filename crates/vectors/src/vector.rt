@@ -81,7 +81,7 @@ pub fn some_vector(values: &[f64], at: i64, stride: i64, left: usize) -> Vector
             return vector_at(values, at as usize);
         }
     }
-    vector_of(values, at, stride, crate::feeding::least(LANES, left))
+    vector_of(values, at, stride, integers::min_usize(LANES, left))
 }
 
 fn lesser(x: f64, y: f64) -> f64

@@ -14,13 +14,13 @@ use Rattle.layout.proofs.Line.{line-empty, line-one, line-3, line-4, li
 use Rattle.layout.proofs.traversal.compile_line.Statement.{statement}
 use Rattle.layout.proofs.traversal.compile_line.Tie as tie
 
-refused-requires : tie.Need-refused-requires
-refused-requires c κs = search needs
+no-elements-requires : tie.Need-no-elements-requires
+no-elements-requires c κs = search needs
 
 returns : tie.Need-returns
 returns c =
     let s = c .before .before in
-    c .refused .ensures ∙ sym (line-empty (s .args .size) (s .args .stride) (s .fits .size .fits) (c .before .if1 .taken))
+    c .no-elements .ensures ∙ sym (line-empty (s .args .size) (s .args .stride) (s .fits .size .fits) (c .before .if1 .taken))
 
 one-run-requires : tie.Need-one-run-requires
 one-run-requires c κs = search needs
@@ -40,26 +40,26 @@ reset c =
     let s = c .before .before .before in
     c .checked-reduce-reset .ensures ∙ ap (λ (z : ℤ). keepI (resetFits (s .args .size) z) (negℤ (span (s .args .size) z))) (toZ-ofZ (s .fits .stride))
 
-refused-requires-2 : tie.Need-refused-requires-2
-refused-requires-2 c κs = search needs
+refused-requires : tie.Need-refused-requires
+refused-requires c κs = search needs
 
 returns-3 : tie.Need-returns-3
 returns-3 c =
     let r = c .before .before .before in
     let e = r .before in
     let s = e .before .before in
-    c .refused2 .ensures
+    c .refused .ensures
     ∙ sym (line-3 (s .args .size) (s .args .stride) (s .fits .size .fits) (e .before .if1 .left) (e .if2 .left) (reset-not-ok _ _ _ (reset r) (not-true _ (c .before .if3 .taken))))
 
-refused-requires-3 : tie.Need-refused-requires-3
-refused-requires-3 c κs = search needs
+refused-requires-2 : tie.Need-refused-requires-2
+refused-requires-2 c κs = search needs
 
 returns-4 : tie.Need-returns-4
 returns-4 c =
     let r = c .before .before .before .before in
     let e = r .before in
     let s = e .before .before in
-    c .refused3 .ensures
+    c .refused2 .ensures
     ∙ sym (line-4 (s .args .size) (s .args .stride) (s .fits .size .fits) (e .before .if1 .left) (e .if2 .left) (reset-ok _ _ _ (reset r) (not-false _ (c .before .before .if3 .left)) .0) (c .before .if4 .taken))
 
 one-run-requires-2 : tie.Need-one-run-requires-2
@@ -77,14 +77,14 @@ pub compile-line-spec : {M : Type 1} → statement M
 compile-line-spec =
     tie.close
     (tie.spec
-    refused-requires
+    no-elements-requires
     returns
     one-run-requires
     returns-2
     checked-reduce-reset-requires
-    refused-requires-2
+    refused-requires
     returns-3
-    refused-requires-3
+    refused-requires-2
     returns-4
     one-run-requires-2
     returns-5)

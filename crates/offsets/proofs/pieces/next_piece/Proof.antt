@@ -23,19 +23,19 @@ use Rattle.offsets.proofs.pieces.next_piece.Tie as tie
 use Rattle.offsets.proofs.pieces.next_piece.Reads as reads
 use Rattle.offsets.proofs.pieces.next_piece.Lts as lts
 use Rattle.offsets.proofs.cursor.ReduceOuterCursor.advance.Reads as advance-reads
-use Rattle.offsets.proofs.pieces.least.Reads as least-reads
+use Rattle.integers.proofs.min_u64.Reads as min-u64-reads
 
 -- src/pieces.rt:53:21
-sub-least : tie.Need-sub-least
-sub-least c = let s = c .before .before in omega (arith, on-column (s .args .l) (s .pre .0) (s .args .c) (s .pre .2))
+sub-min-u64 : tie.Need-sub-min-u64
+sub-min-u64 c = let s = c .before .before in omega (arith, on-column (s .args .l) (s .pre .0) (s .args .c) (s .pre .2))
 
 -- src/pieces.rt:53:38
-sub-least-2 : tie.Need-sub-least-2
-sub-least-2 c = search needs
+sub-min-u64-2 : tie.Need-sub-min-u64-2
+sub-min-u64-2 c = search needs
 
 -- src/pieces.rt:53:9
-least-requires : tie.Need-least-requires
-least-requires c κs = search needs
+min-u64-requires : tie.Need-min-u64-requires
+min-u64-requires c κs = search needs
 
 -- src/pieces.rt:54:54
 cast-first : tie.Need-cast-first
@@ -87,8 +87,8 @@ unfolding pieceOf outerOf
 returns c =
     let t = c .before .before .before in
     let s = t .before .before .before .before .before .before .before in
-    let n = t .before .before .before .before .least .result in
-    let e = t .before .before .before .before .least .ensures in
+    let n = t .before .before .before .before .min-u64 .result in
+    let e = t .before .before .before .before .min-u64 .ensures in
     ap (λ (z : ℤ). record { first = z; len = n; next = record { at = s .args .c .at + n; col = 0; runs = c .advance .result } }) (first-told t)
     ∙ ap (λ (r : ReduceOuterCursor). record { first = s .args .c .runs .«source_offset» +ℤ s .args .l .«run_stride» *ℤ pos (s .args .c .col); len = n; next = record { at = s .args .c .at + n; col = 0; runs = r } }) (c .advance .ensures)
     ∙ ap (λ (x : Bool). record { first = s .args .c .runs .«source_offset» +ℤ s .args .l .«run_stride» *ℤ pos (s .args .c .col); len = n; next = record { at = s .args .c .at + n; col = 0; runs = cond x (advanced (outerOf (s .args .l)) (s .args .c .runs)) (s .args .c .runs) } }) (sym (lt-ltb (s .args .c .at + n) (s .args .end) (c .before .before .if1 .taken)))
@@ -100,8 +100,8 @@ unfolding pieceOf outerOf
 returns-2 c =
     let t = c .before in
     let s = t .before .before .before .before .before .before .before in
-    let n = t .before .before .before .before .least .result in
-    let e = t .before .before .before .before .least .ensures in
+    let n = t .before .before .before .before .min-u64 .result in
+    let e = t .before .before .before .before .min-u64 .ensures in
     ap (λ (z : ℤ). record { first = z; len = n; next = record { at = s .args .c .at + n; col = 0; runs = s .args .c .runs } }) (first-told t)
     ∙ ap (λ (x : Bool). record { first = s .args .c .runs .«source_offset» +ℤ s .args .l .«run_stride» *ℤ pos (s .args .c .col); len = n; next = record { at = s .args .c .at + n; col = 0; runs = cond x (advanced (outerOf (s .args .l)) (s .args .c .runs)) (s .args .c .runs) } }) (sym (le-ltb (s .args .c .at + n) (s .args .end) (c .if1 .left)))
     ∙ ap (λ (m : ℕ). record { first = s .args .c .runs .«source_offset» +ℤ s .args .l .«run_stride» *ℤ pos (s .args .c .col); len = m; next = record { at = s .args .c .at + m; col = 0; runs = cond (ltb (s .args .c .at + m) (s .args .end)) (advanced (outerOf (s .args .l)) (s .args .c .runs)) (s .args .c .runs) } }) e
@@ -110,9 +110,9 @@ pub next-piece-spec : {M : Type 1} → statement M
 next-piece-spec =
     tie.close
     (tie.spec
-    sub-least
-    sub-least-2
-    least-requires
+    sub-min-u64
+    sub-min-u64-2
+    min-u64-requires
     cast-first
     mul-first
     add-first

@@ -73,7 +73,7 @@ returns-2 c =
     let s = b .before .before .before .before .before in
     ap (λ (a : StableProductFloatAcc). answerOf (Acc a))
     (simp (toZ-ofZ (s .fits .base)) at (c .reduce-full-range .ensures)
-    ∙ ap (λ (l : FullTraversal). joinedPieces (piecesOf l (s .args .base) (s .args .values .now) (s .args .end) (s .args .start))) (layout-of b))
+    ∙ ap (λ (l : FullTraversal). joinedPieces (piecesOf l (s .args .base) (s .args .values .now) (s .args .start) (s .args .end))) (layout-of b))
     ∙ sym (reduce-accepted (s .args .sizes .now) (s .args .strides .now) (s .args .base) (s .args .start) (s .args .end) (s .args .values .now) (accepted-range b))
 
 pub reduce-spec : {M : Type 1} → statement M

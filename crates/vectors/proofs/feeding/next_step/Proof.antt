@@ -39,16 +39,16 @@ guarded-progress left hold done e = record { upto = omega arith; vectors = go (l
     go true q = inr (all (ltb-true left 256 q))
     go false q = inl (block (ltb-false left 256 q))
 
-least-requires : tie.Need-least-requires
-least-requires c κs = search needs
+min-usize-requires : tie.Need-min-usize-requires
+min-usize-requires c κs = search needs
 
 tried-requires : tie.Need-tried-requires
 tried-requires c κs =
     let s = c .before .before .before .before in
-    let e = c .least .ensures in
+    let e = c .min-usize .ensures in
     let h = c .before .if2 .taken in
     simp (toZ-ofZ w64 (s .args .at) (s .fits .at), toZ-ofZ w64 (s .args .stride) (s .fits .stride))
-    (s .pre .0, s .pre .1, vectors-few _ _ e, inside-less (length (s .args .values .now)) (s .args .at) (s .args .stride) (s .args .left) (8 * c .least .result) (s .pre .3) (vectors-inside _ _ e))
+    (s .pre .0, s .pre .1, vectors-few _ _ e, inside-less (length (s .args .values .now)) (s .args .at) (s .args .stride) (s .args .left) (8 * c .min-usize .result) (s .pre .3) (vectors-inside _ _ e))
   where
     vectors-few : (n l : ℕ) → n ≡ min 64 (l / 8) → n ≤ 64
     vectors-few n l e = omega arith
@@ -61,18 +61,18 @@ returns c =
     let q = c .before in
     let s = q .before .before .before .before in (
       simp (toZ-ofZ w64 (s .args .at) (s .fits .at), toZ-ofZ w64 (s .args .stride) (s .fits .stride)) at (c .tried .ensures .0),
-      tried-progress (s .args .left) (s .args .hold) (q .least .result) (c .tried .result .done) (q .least .ensures) (q .before .before .if1 .taken) (q .before .if2 .taken) (c .tried .ensures .1),
+      tried-progress (s .args .left) (s .args .hold) (q .min-usize .result) (c .tried .result .done) (q .min-usize .ensures) (q .before .before .if1 .taken) (q .before .if2 .taken) (c .tried .ensures .1),
     )
 
-least-requires-2 : tie.Need-least-requires-2
-least-requires-2 c κs = search needs
+min-usize-requires-2 : tie.Need-min-usize-requires-2
+min-usize-requires-2 c κs = search needs
 
 guarded-requires : tie.Need-guarded-requires
 guarded-requires c κs =
     let s = c .before .before .before in
-    let e = c .least2 .ensures in
+    let e = c .min-usize2 .ensures in
     simp (toZ-ofZ w64 (s .args .at) (s .fits .at), toZ-ofZ w64 (s .args .stride) (s .fits .stride))
-    (s .pre .0, s .pre .1, few _ _ e, inside-less (length (s .args .values .now)) (s .args .at) (s .args .stride) (s .args .left) (c .least2 .result) (s .pre .3) (within _ _ e))
+    (s .pre .0, s .pre .1, few _ _ e, inside-less (length (s .args .values .now)) (s .args .at) (s .args .stride) (s .args .left) (c .min-usize2 .result) (s .pre .3) (within _ _ e))
   where
     few : (n l : ℕ) → n ≡ min 256 l → n ≤ 256
     few n l e = omega arith
@@ -84,15 +84,15 @@ returns-2 : tie.Need-returns-2
 returns-2 c =
     let q = c .before in
     let s = q .before .before .before in
-    (simp (toZ-ofZ w64 (s .args .at) (s .fits .at), toZ-ofZ w64 (s .args .stride) (s .fits .stride)) at (c .guarded .ensures), guarded-progress (s .args .left) (s .args .hold) (q .least2 .result) (q .least2 .ensures))
+    (simp (toZ-ofZ w64 (s .args .at) (s .fits .at), toZ-ofZ w64 (s .args .stride) (s .fits .stride)) at (c .guarded .ensures), guarded-progress (s .args .left) (s .args .hold) (q .min-usize2 .result) (q .min-usize2 .ensures))
 
 pub next-step-spec : {M : Type 1} → statement M
 next-step-spec =
     tie.close
     (tie.spec
-    least-requires
+    min-usize-requires
     tried-requires
     returns
-    least-requires-2
+    min-usize-requires-2
     guarded-requires
     returns-2)

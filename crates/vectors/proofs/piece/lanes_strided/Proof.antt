@@ -20,15 +20,15 @@ worked c =
     let s = c .before .before in
     simp (toZ-ofZ w64 (s .args .start) (s .fits .start), toZ-ofZ w64 (s .args .stride) (s .fits .stride)) at (c .worked-piece .ensures)
 
-lanes-strided-requires : tie.Need-lanes-strided-requires
-lanes-strided-requires c κs =
+lanes-each-value-requires : tie.Need-lanes-each-value-requires
+lanes-each-value-requires c κs =
     let s = c .before .before .before in
     simp (toZ-ofZ w64 (s .args .start) (s .fits .start), toZ-ofZ w64 (s .args .stride) (s .fits .stride)) (s .pre .0, s .pre .1)
 
 returns : tie.Need-returns
 returns c =
     let s = c .before .before .before .before in
-    simp (toZ-ofZ w64 (s .args .start) (s .fits .start), toZ-ofZ w64 (s .args .stride) (s .fits .stride)) at (c .lanes-strided .ensures)
+    simp (toZ-ofZ w64 (s .args .start) (s .fits .start), toZ-ofZ w64 (s .args .stride) (s .fits .stride)) at (c .lanes-each-value .ensures)
 
 returns-2 : tie.Need-returns-2
 returns-2 c =
@@ -42,4 +42,4 @@ returns-2 c =
 pub lanes-strided-spec : {M : Type 1} → statement M
 lanes-strided-spec =
     tie.close
-    (tie.spec worked-piece-requires lanes-strided-requires returns returns-2)
+    (tie.spec worked-piece-requires lanes-each-value-requires returns returns-2)

@@ -52,24 +52,24 @@ returns c =
     ∙ sym (vector-whole (s .args .values .now) (s .args .at) (s .args .stride))
     ∙ ap (λ (n : ℕ). vectorOf (strided (s .args .values .now) (s .args .at) (s .args .stride) n)) (let e : 8 ≡ min 8 (s .args .left) = omega arith in e)
 
-least-requires : tie.Need-least-requires
-least-requires c κs = search needs
+min-usize-requires : tie.Need-min-usize-requires
+min-usize-requires c κs = search needs
 
 vector-of-requires : tie.Need-vector-of-requires
 vector-of-requires c κs =
     let s = c .before .before .before in
-    let e : c .least .result ≡ min 8 (s .args .left) = c .least .ensures in
+    let e : c .min-usize .result ≡ min 8 (s .args .left) = c .min-usize .ensures in
     simp (toZ-ofZ w64 (s .args .at) (s .fits .at), toZ-ofZ w64 (s .args .stride) (s .fits .stride))
-    (omega (arith, e), inside-less (length (s .args .values .now)) (s .args .at) (s .args .stride) (s .args .left) (c .least .result) (s .pre) (omega (arith, e)))
+    (omega (arith, e), inside-less (length (s .args .values .now)) (s .args .at) (s .args .stride) (s .args .left) (c .min-usize .result) (s .pre) (omega (arith, e)))
 
 returns-2 : tie.Need-returns-2
 returns-2 c =
     let l = c .before in
     let s = l .before .before .before in
     simp (toZ-ofZ w64 (s .args .at) (s .fits .at), toZ-ofZ w64 (s .args .stride) (s .fits .stride)) at (c .vector-of .ensures)
-    ∙ ap (λ (n : ℕ). vectorOf (strided (s .args .values .now) (s .args .at) (s .args .stride) n)) (l .least .ensures)
+    ∙ ap (λ (n : ℕ). vectorOf (strided (s .args .values .now) (s .args .at) (s .args .stride) n)) (l .min-usize .ensures)
 
 pub some-vector-spec : {M : Type 1} → statement M
 some-vector-spec =
     tie.close
-    (tie.spec cast-vector-at vector-at-requires returns least-requires vector-of-requires returns-2)
+    (tie.spec cast-vector-at vector-at-requires returns min-usize-requires vector-of-requires returns-2)

@@ -96,8 +96,8 @@ returns-4 c =
     ∙ sym (code-3 (s .args .sizes .now) (s .args .strides .now) (e .if1 .left) (m .before .if3 .left)
     (total-no (s .args .sizes .now) (s .args .strides .now) _ (m .checked-total .ensures) (not-true _ (c .before .if4 .taken))))
 
-refused-requires-4 : tie.Need-refused-requires-4
-refused-requires-4 c κs = search needs
+no-elements-requires : tie.Need-no-elements-requires
+no-elements-requires c κs = search needs
 
 returns-5 : tie.Need-returns-5
 returns-5 c =
@@ -105,15 +105,15 @@ returns-5 c =
     let m = t .before .before in
     let e = m .before .before .before in
     let s = e .before .before in
-    c .refused4 .ensures
+    c .no-elements .ensures
     ∙ sym (code-0 (s .args .sizes .now) (s .args .strides .now) (e .if1 .left) (m .before .if3 .left) emptyLayout (m .checked-total .result .value)
     (no-elements (s .args .sizes .now) (s .args .strides .now) (m .checked-total .result .value) (counted t) (c .before .if5 .taken)) (counted t) (omega (arith, c .before .if5 .taken)))
 
 ordered-axes-requires : tie.Need-ordered-axes-requires
 ordered-axes-requires c κs = search needs
 
-refused-requires-5 : tie.Need-refused-requires-5
-refused-requires-5 c κs = search needs
+refused-requires-4 : tie.Need-refused-requires-4
+refused-requires-4 c κs = search needs
 
 returns-6 : tie.Need-returns-6
 returns-6 c =
@@ -122,7 +122,7 @@ returns-6 c =
     let m = t .before .before in
     let e = m .before .before .before in
     let s = e .before .before in
-    c .refused5 .ensures
+    c .refused4 .ensures
     ∙ sym (code-3 (s .args .sizes .now) (s .args .strides .now) (e .if1 .left) (m .before .if3 .left)
     (no-resets (s .args .sizes .now) (s .args .strides .now) (m .checked-total .result .value) (counted t) (o .before .if5 .left) (o .ordered-axes .result) (o .ordered-axes .ensures) (not-true _ (c .before .if6 .taken))))
 
@@ -134,8 +134,8 @@ compress-reduce-outer-axes-requires c κs =
     let s = m .before .before .before .before .before in
     ordered-in-table (s .args .sizes .now) (s .args .strides .now) (m .checked-total .result .value) (counted t) (o .before .if5 .left) (o .ordered-axes .result) (o .ordered-axes .ensures) (not-false _ (c .if6 .left)) (m .before .if3 .left)
 
-refused-requires-6 : tie.Need-refused-requires-6
-refused-requires-6 c κs = search needs
+refused-requires-5 : tie.Need-refused-requires-5
+refused-requires-5 c κs = search needs
 
 returns-7 : tie.Need-returns-7
 returns-7 c =
@@ -145,13 +145,13 @@ returns-7 c =
     let m = t .before .before in
     let e = m .before .before .before in
     let s = e .before .before in
-    c .refused6 .ensures
+    c .refused5 .ensures
     ∙ sym (code-3 (s .args .sizes .now) (s .args .strides .now) (e .if1 .left) (m .before .if3 .left)
     (no-fusing (s .args .sizes .now) (s .args .strides .now) (m .checked-total .result .value) (counted t) (o .before .if5 .left) (o .ordered-axes .result) (o .ordered-axes .ensures) (not-false _ (f .before .if6 .left))
     (f .compress-reduce-outer-axes .result) (f .compress-reduce-outer-axes .ensures) (not-true _ (c .before .if7 .taken))))
 
-refused-requires-7 : tie.Need-refused-requires-7
-refused-requires-7 c κs = search needs
+refused-requires-6 : tie.Need-refused-requires-6
+refused-requires-6 c κs = search needs
 
 returns-8 : tie.Need-returns-8
 returns-8 c =
@@ -162,7 +162,7 @@ returns-8 c =
     let m = t .before .before in
     let e = m .before .before .before in
     let s = e .before .before in
-    c .refused7 .ensures
+    c .refused6 .ensures
     ∙ sym (code-4 (s .args .sizes .now) (s .args .strides .now) (e .if1 .left) (m .before .if3 .left) _ (m .checked-total .result .value) (compiled k) (counted t) (c .before .if8 .taken))
 
 with-run-requires : tie.Need-with-run-requires
@@ -203,15 +203,15 @@ compile-spec =
     checked-total-requires
     refused-requires-3
     returns-4
-    refused-requires-4
+    no-elements-requires
     returns-5
     ordered-axes-requires
-    refused-requires-5
+    refused-requires-4
     returns-6
     compress-reduce-outer-axes-requires
-    refused-requires-6
+    refused-requires-5
     returns-7
-    refused-requires-7
+    refused-requires-6
     returns-8
     with-run-requires
     returns-9)

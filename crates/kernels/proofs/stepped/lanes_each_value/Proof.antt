@@ -1,4 +1,4 @@
--- `kernels::stepped::lanes_strided` meets its contract. Assumes nothing.
+-- `kernels::stepped::lanes_each_value` meets its contract. Assumes nothing.
 use Prim.Native.Nat.{_^_}
 use mathlib.Core.Path.{_≡_, sym, ap, _∙_, subst}
 use mir.Syntax.{w64}
@@ -8,8 +8,8 @@ use Rattle.kernels.specs.Stepped.{steppedLanes, lanesJoined, stepped}
 use Rattle.kernels.specs.InnerStepped.{SmallAccs, UnitAccs}
 use Rattle.kernels.proofs.Bounded.{joined-all}
 use Rattle.kernels.proofs.Striding.{strided-small}
-use Rattle.kernels.proofs.stepped.lanes_strided.Statement.{statement}
-use Rattle.kernels.proofs.stepped.lanes_strided.Tie as tie
+use Rattle.kernels.proofs.stepped.lanes_each_value.Statement.{statement}
+use Rattle.kernels.proofs.stepped.lanes_each_value.Tie as tie
 
 stepped-lanes-requires : tie.Need-stepped-lanes-requires
 stepped-lanes-requires c κs =
@@ -35,5 +35,5 @@ returns : tie.Need-returns
 unfolding stepped
 returns c = c .joined-lanes .ensures ∙ ap lanesJoined (represent (c .before))
 
-pub lanes-strided-spec : {M : Type 1} → statement M
-lanes-strided-spec = tie.close (tie.spec stepped-lanes-requires joined-lanes-requires returns)
+pub lanes-each-value-spec : {M : Type 1} → statement M
+lanes-each-value-spec = tie.close (tie.spec stepped-lanes-requires joined-lanes-requires returns)

@@ -1,0 +1,2 @@
+-- The refusals, and the rank among them. Definitions only.
+pub mod Refusals

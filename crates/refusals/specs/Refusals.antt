@@ -1,0 +1,43 @@
+-- Rules R0 to R10: a name for each refusal's number, as in src/lib, and which of several is given.
+use Prim.Native.Nat.{ℕ}
+use mathlib.Core.Bool.{Bool, cond}
+use mathlib.Core.List.{List, [], _∷_}
+
+abbrev pub STRIDE_LENGTH_MISMATCH : ℕ
+STRIDE_LENGTH_MISMATCH = 1
+
+abbrev pub TOO_MANY_AXES : ℕ
+TOO_MANY_AXES = 2
+
+abbrev pub OFFSET_OVERFLOW : ℕ
+OFFSET_OVERFLOW = 3
+
+abbrev pub TOO_MANY_ELEMENTS : ℕ
+TOO_MANY_ELEMENTS = 4
+
+abbrev pub EMPTY_RANGE : ℕ
+EMPTY_RANGE = 5
+
+abbrev pub RANGE_PAST_END : ℕ
+RANGE_PAST_END = 6
+
+abbrev pub ELEMENT_OUTSIDE : ℕ
+ELEMENT_OUTSIDE = 7
+
+abbrev pub BUFFER_TOO_SHORT : ℕ
+BUFFER_TOO_SHORT = 8
+
+abbrev pub ACCUMULATOR_OUT_OF_RANGE : ℕ
+ACCUMULATOR_OUT_OF_RANGE = 9
+
+abbrev pub EXPONENT_OUT_OF_RANGE : ℕ
+EXPONENT_OUT_OF_RANGE = 10
+
+-- a refusal: its number, and whether its condition holds
+abbrev pub Refusal : Type 0
+Refusal = ℕ × Bool
+
+-- R0: of a list in rank, the number of the first whose condition holds, or 0
+unfoldable pub firstOf : List Refusal → ℕ
+firstOf [] = 0
+firstOf (r ∷ rs) = cond (r .1) (r .0) (firstOf rs)

@@ -1,0 +1,32 @@
+// The refusals of every call, one number and one name each (docs/RULES.md, R1 to R10). The line above a constant is its condition in plain words:
+// `./run` prints it, and specs/Refusals has the same numbers for the definitions.
+
+// sizes and strides differ in number
+pub const STRIDE_LENGTH_MISMATCH: u32 = 1;
+
+// the layout has more than 8 axes
+pub const TOO_MANY_AXES: u32 = 2;
+
+// a check of the layout does not fit 64 bits
+pub const OFFSET_OVERFLOW: u32 = 3;
+
+// the layout has more than 2^40 elements
+pub const TOO_MANY_ELEMENTS: u32 = 4;
+
+// the range is empty: its start is not below its end
+pub const EMPTY_RANGE: u32 = 5;
+
+// the range ends past the last element
+pub const RANGE_PAST_END: u32 = 6;
+
+// some element of the layout, visited or not, lies outside the values
+pub const ELEMENT_OUTSIDE: u32 = 7;
+
+// the buffer is shorter than the range
+pub const BUFFER_TOO_SHORT: u32 = 8;
+
+// a given accumulator has not 1 <= |m| < 2 and |e| <= 2^52
+pub const ACCUMULATOR_OUT_OF_RANGE: u32 = 9;
+
+// the joined exponent would pass 2^52
+pub const EXPONENT_OUT_OF_RANGE: u32 = 10;
