@@ -13,11 +13,9 @@ use Rattle.integers.proofs.magnitude.Tie as tie
 use Rattle.integers.proofs.magnitude.Reads as reads
 use Rattle.integers.proofs.magnitude.Lts as lts
 
--- src/lib.rt:26:22
 add-y : tie.Need-add-y
 add-y c = let f = c .before .fits .x in rw (toZ-ofZ f) (up-fits _ f (rw (toZ-ofZ f) at (c .if1 .taken)))
 
--- src/lib.rt:26:17
 sub-y : tie.Need-sub-y
 sub-y c =
     let f = c .before .fits .x in
@@ -25,7 +23,6 @@ sub-y c =
     let x = c .before .args .x in
     simp (toZ-ofZ f, toZ-ofZ (up-fits x f l)) (turned-fits x f l)
 
--- src/lib.rt:27:10
 cast-result : tie.Need-cast-result
 cast-result c =
     let f = c .before .fits .x in
@@ -34,7 +31,6 @@ cast-result c =
     let h = pos-fits (natAbs x - 1) (omega (arith, natAbs-fits x f)) in
     simp (toZ-ofZ f, toZ-ofZ (up-fits x f l), turned x l, toZ-ofZ h) (tt, omega (arith, natAbs-fits x f))
 
--- src/lib.rt:27:9
 add-result : tie.Need-add-result
 add-result c =
     let f = c .before .fits .x in
@@ -43,7 +39,6 @@ add-result c =
     let h = pos-fits (natAbs x - 1) (omega (arith, natAbs-fits x f)) in
     simp (toZ-ofZ f, toZ-ofZ (up-fits x f l), turned x l, toZ-ofZ h) (omega (arith, natAbs-fits x f))
 
--- src/lib.rt:29:9
 cast-result-2 : tie.Need-cast-result-2
 cast-result-2 c =
     let f = c .before .fits .x in
@@ -51,7 +46,6 @@ cast-result-2 c =
     let e = nonneg-pos x (rw (toZ-ofZ f) at (c .if1 .left)) in
     simp (toZ-ofZ f) (rw e (omega (arith, natAbs-fits x f)))
 
--- src/lib.rt:22:1
 returns : tie.Need-returns
 returns c =
     let f = c .before .fits .x in
@@ -60,7 +54,6 @@ returns c =
     let h = pos-fits (natAbs x - 1) (omega (arith, natAbs-fits x f)) in
     simp (toZ-ofZ f, toZ-ofZ (up-fits x f l), turned x l, toZ-ofZ h) (natAbs-pos x l)
 
--- src/lib.rt:22:1
 returns-2 : tie.Need-returns-2
 returns-2 c = let f = c .before .fits .x in simp (toZ-ofZ f)
 

@@ -7,15 +7,12 @@ use Rattle.probe.proofs.probe_list.Reads as reads
 use Rattle.probe.proofs.probe_list.Lts as lts
 use Rattle.offsets.proofs.list.offset_list.Reads as offset-list-reads
 
--- src/lib.rt:53:5
 offset-list-requires : tie.Need-offset-list-requires
 offset-list-requires c κs = search needs
 
--- src/lib.rt:40:1
 same-length : tie.Need-same-length
 same-length c = search needs
 
--- src/lib.rt:40:1
 returns : tie.Need-returns
 returns c = let s = c .before .before .before .before in simp (toZ-ofZ (s .fits .base)) at (c .before .offset-list .ensures)
 

@@ -18,19 +18,15 @@ use Rattle.reduction.proofs.full.reduce.Reads as reduce-reads
 answered : (c : tie.After-reduce) → answerOf (c .reduce .result) ≡ reduceOf (c .before .before .before .args .sizes .now) (c .before .before .before .args .strides .now) (c .before .before .before .args .base) (c .before .before .before .args .start) (c .before .before .before .args .end) (c .before .before .before .args .values .now)
 answered c = simp (toZ-ofZ (c .before .before .before .fits .base)) at (c .reduce .ensures)
 
--- src/lib.rt:26:9
 reduce-requires : tie.Need-reduce-requires
 reduce-requires c κs = search needs
 
--- src/lib.rt:28:22
 enum-known-answer : tie.Need-enum-known-answer
 enum-known-answer c = search needs
 
--- src/lib.rt:35:26
 enum-known-answer-2 : tie.Need-enum-known-answer-2
 enum-known-answer-2 c = search needs
 
--- src/lib.rt:9:1
 returns : tie.Need-returns
 unfolding codeGiven mGiven eGiven badGiven
 returns c =
@@ -40,7 +36,6 @@ returns c =
     let fits : SFits w64 (a .answer .given .0 .0 .e) = record { sfits = c .struct-told .given .1 .0 .1 } in
     (ap codeGiven t, (ap (mGiven (s .args .m .now)) t, (toZ-ofZ fits ∙ ap (eGiven (s .args .e .now)) t, ap (badGiven (s .args .bad .now)) t)))
 
--- src/lib.rt:9:1
 returns-2 : tie.Need-returns-2
 unfolding codeGiven mGiven eGiven badGiven
 returns-2 c =

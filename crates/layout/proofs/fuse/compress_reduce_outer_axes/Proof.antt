@@ -31,38 +31,30 @@ Inv-loop axes count none f₀ i₀ f i = Fused axes f i
 abbrev μ-loop : tie.MeasureT-loop
 μ-loop axes count none f₀ i₀ f i = count - i
 
--- src/fuse.rt:83:9
 no-axes-requires : tie.Need-no-axes-requires Inv-loop μ-loop
 no-axes-requires c κs = search needs
 
--- src/fuse.rt:85:9
 returns : tie.Need-returns Inv-loop μ-loop
 unfolding orderedOr fuse
 returns c =
     let s = c .before .before in
     ap (λ (t : AxisTable). record { ok = true; table = t }) (c .before .no-axes .ensures) ∙ ap orderedOr (sym (ap fuse (nothing (s .args .t1) (c .if1 .taken))))
 
--- src/fuse.rt:90:17
 element-copy-out-first : tie.Need-element-copy-out-first Inv-loop μ-loop
 element-copy-out-first c = omega arith
 
--- src/fuse.rt:97:5
 loop-holds : tie.Need-loop-holds Inv-loop μ-loop
 loop-holds c = fused-first (c .before .before .before .args .t1) _ (c .before .before .before .pre) (c .before .if1 .left) refl (c .before .before .no-axes .ensures) refl
 
--- src/fuse.rt:98:17
 mul-b : tie.Need-mul-b Inv-loop μ-loop
 mul-b c = omega arith
 
--- src/fuse.rt:98:17
 element-copy-out-b : tie.Need-element-copy-out-b Inv-loop μ-loop
 element-copy-out-b c = omega arith
 
--- src/fuse.rt:99:9
 fuse-next-requires : tie.Need-fuse-next-requires Inv-loop μ-loop
 fuse-next-requires c κs = (c .before .before .loop .inv .table, omega arith)
 
--- src/fuse.rt:101:13
 returns-2 : tie.Need-returns-2 Inv-loop μ-loop
 unfolding orderedOr
 returns-2 c =
@@ -72,15 +64,12 @@ returns-2 c =
     ap (λ (t : AxisTable). record { ok = false; table = t }) (l .before .before .before .no-axes .ensures)
     ∙ ap orderedOr (sym (fused-stop (s .args .t1) (l .loop .f) (t .fuse-next .result) (l .loop .i) (s .pre) (t .before .before .loop-test .taken) (l .loop .inv) (t .fuse-next .ensures) (not-true _ (c .if2 .taken))))
 
--- src/fuse.rt:106:9
 add-i : tie.Need-add-i Inv-loop μ-loop
 add-i c = omega arith
 
--- src/fuse.rt:97:5
 loop-less : tie.Need-loop-less Inv-loop μ-loop
 loop-less c = omega arith
 
--- src/fuse.rt:97:5
 loop-again : tie.Need-loop-again Inv-loop μ-loop
 loop-again c =
     let t = c .before .before in
@@ -88,11 +77,9 @@ loop-again c =
     let s = l .before .before .before .before in
     fused-more (s .args .t1) (l .loop .f) (t .fuse-next .result) (l .loop .i) (s .pre) (t .before .before .loop-test .taken) (l .loop .inv) (t .fuse-next .ensures) (not-false _ (c .if2 .left))
 
--- src/fuse.rt:110:16
 push-requires : tie.Need-push-requires Inv-loop μ-loop
 push-requires c κs = (c .before .loop .inv .table, omega arith)
 
--- src/fuse.rt:78:1
 returns-3 : tie.Need-returns-3 Inv-loop μ-loop
 unfolding orderedOr
 returns-3 c =

@@ -20,35 +20,27 @@ use Rattle.layout.proofs.axis.no_axis.Reads as no-axis-reads
 use Rattle.layout.proofs.axis.push.Reads as push-reads
 use Rattle.layout.proofs.fuse.join.Reads as join-reads
 
--- src/fuse.rt:58:9
 join-requires : tie.Need-join-requires
 join-requires c κs = search needs
 
--- src/fuse.rt:60:21
 enum-known-j : tie.Need-enum-known-j
 enum-known-j c = search needs
 
--- src/fuse.rt:67:19
 enum-told : tie.Need-enum-told
 enum-told c = search needs
 
--- src/fuse.rt:67:19
 push-requires : tie.Need-push-requires
 push-requires c κs = search needs
 
--- src/fuse.rt:72:19
 enum-told-2 : tie.Need-enum-told-2
 enum-told-2 c = search needs
 
--- src/fuse.rt:72:19
 no-axes-requires : tie.Need-no-axes-requires
 no-axes-requires c κs = search needs
 
--- src/fuse.rt:73:19
 no-axis-requires : tie.Need-no-axis-requires
 no-axis-requires c κs = search needs
 
--- src/fuse.rt:52:1
 returns : tie.Need-returns
 unfolding nextOf nextFrom
 returns c =
@@ -56,7 +48,6 @@ returns c =
     ap (λ (t : AxisTable). record { ok = true; done = t; last = c .before .j .given .0 .0 }) (s .pre .0 .0)
     ∙ ap (nextFrom (tableAxes (s .args .f .done)) (s .args .f .last) (s .args .b)) (sym (c .before .j .given .1) ∙ c .before .before .before .join .ensures)
 
--- src/fuse.rt:52:1
 returns-2 : tie.Need-returns-2
 unfolding nextOf nextFrom
 returns-2 c =
@@ -64,7 +55,6 @@ returns-2 c =
     ap (λ (t : AxisTable). record { ok = true; done = t; last = s .args .b }) (c .push .ensures)
     ∙ ap (nextFrom (tableAxes (s .args .f .done)) (s .args .f .last) (s .args .b)) (sym (c .before .enum-told .given .1) ∙ c .before .before .before .join .ensures)
 
--- src/fuse.rt:52:1
 returns-3 : tie.Need-returns-3
 unfolding nextOf nextFrom
 returns-3 c =

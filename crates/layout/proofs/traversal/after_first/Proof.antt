@@ -18,42 +18,33 @@ Inv-loop table out₀ count i₀ out i = Copied table out i
 abbrev μ-loop : tie.MeasureT-loop
 μ-loop table out₀ count i₀ out i = count - i
 
--- src/traversal.rt:67:9
 no-axes-requires : tie.Need-no-axes-requires Inv-loop μ-loop
 no-axes-requires c κs = search needs
 
--- src/traversal.rt:70:5
 loop-holds : tie.Need-loop-holds Inv-loop μ-loop
 loop-holds c = copied-none (c .before .args .t1) (c .no-axes .result) (c .no-axes .ensures)
 
--- src/traversal.rt:71:17
 mul-a : tie.Need-mul-a Inv-loop μ-loop
 mul-a c = omega arith
 
--- src/traversal.rt:71:17
 element-copy-out-a : tie.Need-element-copy-out-a Inv-loop μ-loop
 element-copy-out-a c = omega arith
 
--- src/traversal.rt:72:9
 push-requires : tie.Need-push-requires Inv-loop μ-loop
 push-requires c κs = (c .before .before .loop .inv .table, omega arith)
 
--- src/traversal.rt:73:9
 add-i : tie.Need-add-i Inv-loop μ-loop
 add-i c = omega arith
 
--- src/traversal.rt:70:5
 loop-less : tie.Need-loop-less Inv-loop μ-loop
 loop-less c = omega arith
 
--- src/traversal.rt:70:5
 loop-again : tie.Need-loop-again Inv-loop μ-loop
 loop-again c =
     let l = c .before .before .before in
     let s = l .before .before in
     copied-more (s .args .t1) (l .loop .out) (c .push .result) (l .loop .i) (s .pre) (c .before .before .loop-test .taken) (l .loop .inv) (c .push .ensures)
 
--- src/traversal.rt:63:1
 returns : tie.Need-returns Inv-loop μ-loop
 returns c =
     copied-all (c .before .before .before .args .t1) (c .before .loop .out) (c .before .loop .i) (c .loop-test .left) (c .before .loop .inv)

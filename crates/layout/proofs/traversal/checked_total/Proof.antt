@@ -23,24 +23,19 @@ Inv-loop sizes total₀ i₀ total i = (i ≤ length sizes) × (totalFrom total 
 abbrev μ-loop : tie.MeasureT-loop
 μ-loop sizes total₀ i₀ total i = length sizes - i
 
--- src/traversal.rt:33:5
 loop-holds : tie.Need-loop-holds Inv-loop μ-loop
 unfolding totalOf
 loop-holds c = (omega arith, refl)
 
--- src/traversal.rt:34:50
 mul-checked-mul-u64 : tie.Need-mul-checked-mul-u64 Inv-loop μ-loop
 mul-checked-mul-u64 c = omega arith
 
--- src/traversal.rt:34:50
 shared-slice-read-checked-mul-u64 : tie.Need-shared-slice-read-checked-mul-u64 Inv-loop μ-loop
 shared-slice-read-checked-mul-u64 c = omega arith
 
--- src/traversal.rt:34:13
 checked-mul-u64-requires : tie.Need-checked-mul-u64-requires Inv-loop μ-loop
 checked-mul-u64-requires c κs = search needs
 
--- src/traversal.rt:36:13
 returns : tie.Need-returns Inv-loop μ-loop
 unfolding checkedOr
 returns c =
@@ -50,15 +45,12 @@ returns c =
     let k = narrowU64-not-ok _ (l .loop .total * getD (s .args .sizes .now) (l .loop .i) 0) (m .checked-mul-u64 .ensures) (not-true _ (c .if1 .taken)) in
     m .checked-mul-u64 .ensures ∙ narrowU64-no _ k ∙ ap checkedOr (sym (sym (l .loop .inv .1) ∙ total-over (s .args .sizes .now) (l .loop .total) (l .loop .i) (m .before .before .loop-test .taken) k))
 
--- src/traversal.rt:39:9
 add-i : tie.Need-add-i Inv-loop μ-loop
 add-i c = omega arith
 
--- src/traversal.rt:33:5
 loop-less : tie.Need-loop-less Inv-loop μ-loop
 loop-less c = omega arith
 
--- src/traversal.rt:33:5
 loop-again : tie.Need-loop-again Inv-loop μ-loop
 loop-again c =
     let m = c .before .before in
@@ -71,7 +63,6 @@ loop-again c =
           ∙ l .loop .inv .1,
     )
 
--- src/traversal.rt:28:1
 returns-2 : tie.Need-returns-2 Inv-loop μ-loop
 unfolding checkedOr
 returns-2 c =

@@ -14,21 +14,17 @@ use Rattle.layout.proofs.traversal.with_run.Reads as reads
 use Rattle.layout.proofs.traversal.with_run.Lts as lts
 use Rattle.layout.proofs.traversal.after_first.Reads as after-first-reads
 
--- src/traversal.rt:83:9
 after-first-requires : tie.Need-after-first-requires
 after-first-requires c κs = search needs
 
--- src/traversal.rt:86:9
 returns : tie.Need-returns
 returns c =
     let s = c .before .before .before in
     run-none (s .args .total) (s .args .t2) (c .before .before .after-first .result) (c .if1 .taken) (c .before .before .after-first .ensures)
 
--- src/traversal.rt:94:15
 element-copy-out-run : tie.Need-element-copy-out-run
 element-copy-out-run c = search needs
 
--- src/traversal.rt:79:1
 returns-2 : tie.Need-returns-2
 returns-2 c =
     let s = c .before .before .before .before .before in

@@ -29,21 +29,18 @@ natAbs-small : (x : ℤ) → SFits w64 x → ltZ x (pos 0) ≡ false → natAbs 
 natAbs-small (pos n) f e = f .sfits
 natAbs-small (negsuc n) f e = let z : _≡_ {A = ℕ} 0 1 = cc in omega arith
 
--- src/bounds.rt:86:9
 returns : tie.Need-returns
 returns c =
     let s = c .before in
     base-below (runOf (s .args .l) ∷ outerOf (s .args .l)) (s .pre .axes) (s .args .length) (s .args .base) (simp (toZ-ofZ (s .fits .base)) at (c .if1 .taken))
     ∙ ap (λ (n : ℕ). allInside (runOf (s .args .l) ∷ outerOf (s .args .l)) n (s .args .base) (s .args .length)) (s .pre .total)
 
--- src/bounds.rt:88:13
 cast-b : tie.Need-cast-b
 cast-b c =
     let f = c .before .fits .base in
     let x = c .before .args .base in
     simp (toZ-ofZ f) (rw (whole c) (tt, omega (arith, natAbs-fits x f)))
 
--- src/bounds.rt:90:9
 returns-2 : tie.Need-returns-2
 returns-2 c =
     let s = c .before .before in
@@ -54,15 +51,12 @@ returns-2 c =
     ∙ ap (λ (n : ℕ). allInside (runOf l ∷ outerOf l) n (pos (natAbs x)) (s .args .length)) (s .pre .total)
     ∙ ap (λ (z : ℤ). allInside (runOf l ∷ outerOf l) (l .total) z (s .args .length)) (sym (whole (c .before)))
 
--- src/bounds.rt:93:34
 sub-inside-from : tie.Need-sub-inside-from
 sub-inside-from c = search needs
 
--- src/bounds.rt:93:9
 inside-from-requires : tie.Need-inside-from-requires
 inside-from-requires c κs = search needs
 
--- src/bounds.rt:93:9
 returns-3 : tie.Need-returns-3
 returns-3 c =
     let s = c .before .before .before .before in
@@ -73,7 +67,6 @@ returns-3 c =
     ∙ ap (λ (n : ℕ). allInside (runOf l ∷ outerOf l) n (pos (natAbs x)) (s .args .length)) (s .pre .total)
     ∙ ap (λ (z : ℤ). allInside (runOf l ∷ outerOf l) (l .total) z (s .args .length)) (sym (whole (c .before .before .before)))
 
--- src/bounds.rt:95:5
 inside-from-requires-2 : tie.Need-inside-from-requires-2
 inside-from-requires-2 c κs =
     let s = c .before .before .before in
@@ -81,7 +74,6 @@ inside-from-requires-2 c κs =
     let k = natAbs-small x (s .fits .base) (simp (toZ-ofZ (s .fits .base)) at (c .before .before .if1 .left)) in
     simp (toZ-ofZ (s .fits .base)) (s .pre, omega arith, omega arith)
 
--- src/bounds.rt:81:1
 returns-4 : tie.Need-returns-4
 returns-4 c =
     let s = c .before .before .before .before in

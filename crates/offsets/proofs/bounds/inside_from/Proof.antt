@@ -35,7 +35,6 @@ Inv-loop base last l s₀ count i₀ s i = (i ≤ count) × Spanning (runOf l �
 abbrev μ-loop : tie.MeasureT-loop
 μ-loop base last l s₀ count i₀ s i = count - i
 
--- src/bounds.rt:57:9
 checked-reduce-reset-requires : tie.Need-checked-reduce-reset-requires Inv-loop μ-loop
 checked-reduce-reset-requires c κs = search needs
 
@@ -55,18 +54,15 @@ after-run c =
     let f : SFits w64 (c .before .before .checked-reduce-reset .result .value) = record { sfits = c .before .struct-told2 .given .1 .0 .1 } in
     simp (toZ-ofZ f) at (c .widen .ensures)
 
--- src/bounds.rt:63:9
 widen-requires : tie.Need-widen-requires Inv-loop μ-loop
 widen-requires c κs = (c .before .before .before .pre .1, c .before .before .before .pre .2)
 
--- src/bounds.rt:65:9
 returns : tie.Need-returns Inv-loop μ-loop
 returns c =
     let w = c .before .before in
     let s = w .before .before .before .before in
     spanning-out _ _ (outerOf (s .args .t1)) (runOf (s .args .t1)) (s .args .base) (s .args .last) _ (w .widen .result) _ refl (run-reset (w .before .before)) (spanning-first _ (s .args .base) (s .args .last) (s .pre .1)) (after-run w) (not-true _ (c .if1 .taken))
 
--- src/bounds.rt:69:5
 loop-holds : tie.Need-loop-holds Inv-loop μ-loop
 loop-holds c =
     let w = c .before .before in
@@ -95,19 +91,15 @@ after-axis c =
     let f : SFits w64 (a .«source_reset») = record { sfits = c .before .struct-told3 .given .1 .1 .0 .1 } in
     simp (toZ-ofZ f) at (c .widen2 .ensures)
 
--- src/bounds.rt:70:17
 mul-a : tie.Need-mul-a Inv-loop μ-loop
 mul-a c = omega arith
 
--- src/bounds.rt:70:17
 element-copy-out-a : tie.Need-element-copy-out-a Inv-loop μ-loop
 element-copy-out-a c = omega arith
 
--- src/bounds.rt:71:9
 widen-requires-2 : tie.Need-widen-requires-2 Inv-loop μ-loop
 widen-requires-2 c κs = (c .before .before .before .loop .inv .1 .high, c .before .before .before .before .before .before .before .before .before .before .pre .2)
 
--- src/bounds.rt:73:13
 returns-2 : tie.Need-returns-2 Inv-loop μ-loop
 returns-2 c =
     let w = c .before .before in
@@ -115,15 +107,12 @@ returns-2 c =
     let s = t .before .before .before .before .before .before .before .before in
     spanning-out _ _ _ _ (s .args .base) (s .args .last) (t .before .loop .s) (w .widen2 .result) _ (here t) (axis-reset _ (axis-at t)) (t .before .loop .inv .1) (after-axis w) (not-true _ (c .if2 .taken))
 
--- src/bounds.rt:75:9
 add-i : tie.Need-add-i Inv-loop μ-loop
 add-i c = omega arith
 
--- src/bounds.rt:69:5
 loop-less : tie.Need-loop-less Inv-loop μ-loop
 loop-less c = omega arith
 
--- src/bounds.rt:69:5
 loop-again : tie.Need-loop-again Inv-loop μ-loop
 loop-again c =
     let w = c .before .before in
@@ -131,7 +120,6 @@ loop-again c =
     let s = t .before .before .before .before .before .before .before .before in
     (omega (arith, t .loop-test .taken), spanning-more _ _ _ _ (s .args .base) (s .args .last) (t .before .loop .s) (w .widen2 .result) _ (here t) (axis-reset _ (axis-at t)) (t .before .loop .inv .1) (after-axis w) (not-false _ (c .if2 .left)))
 
--- src/bounds.rt:53:1
 none : (s : tie.Start Inv-loop μ-loop) (i : ℕ) → s .args .t1 .«axis_count» ≤ i → drop i (outerOf (s .args .t1)) ≡ []
 unfolding outerOf
 none s i h = drop-of-length-le (take (s .args .t1 .«axis_count») (s .args .t1 .«run_axes»)) {i = i} (simp length-take (omega arith))

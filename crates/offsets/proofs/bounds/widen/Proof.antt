@@ -16,48 +16,39 @@ use Rattle.offsets.proofs.bounds.outside.Reads as outside-reads
 size : (c : tie.After-magnitude) → c .magnitude .result ≡ natAbs (c .before .args .reset)
 size c = simp (toZ-ofZ (c .before .fits .reset)) at (c .magnitude .ensures)
 
--- src/bounds.rt:32:9
 magnitude-requires : tie.Need-magnitude-requires
 magnitude-requires c κs = search needs
 
--- src/bounds.rt:35:13
 outside-requires : tie.Need-outside-requires
 outside-requires c κs = search needs
 
--- src/bounds.rt:35:13
 returns : tie.Need-returns
 returns c =
     let u = c .before .before .before .before in
     let s = u .before in
     c .outside .ensures ∙ sym (back-nowhere (s .args .s) (s .args .reset) (s .args .last) (u .magnitude .result) (size u) (simp (toZ-ofZ (s .fits .reset)) at (c .before .before .before .if1 .taken)) (c .before .if2 .taken))
 
--- src/bounds.rt:37:9
 returns-2 : tie.Need-returns-2
 returns-2 c =
     let u = c .before .before .before .before in
     let s = u .before in
     sym (back-widened (s .args .s) (s .args .reset) (s .args .last) (u .magnitude .result) (size u) (simp (toZ-ofZ (s .fits .reset)) at (c .before .before .before .if1 .taken)) (c .before .if2 .left))
 
--- src/bounds.rt:43:8
 sub-if3 : tie.Need-sub-if3
 sub-if3 c = search needs
 
--- src/bounds.rt:44:9
 outside-requires-2 : tie.Need-outside-requires-2
 outside-requires-2 c κs = search needs
 
--- src/bounds.rt:44:9
 returns-3 : tie.Need-returns-3
 returns-3 c =
     let u = c .before .before .before .before in
     let s = u .before in
     c .outside2 .ensures ∙ sym (forth-nowhere (s .args .s) (s .args .reset) (s .args .last) (u .magnitude .result) (size u) (simp (toZ-ofZ (s .fits .reset)) at (c .before .before .before .if1 .left)) (c .before .if3 .taken))
 
--- src/bounds.rt:49:15
 add-t8 : tie.Need-add-t8
 add-t8 c = search needs
 
--- src/bounds.rt:28:1
 returns-4 : tie.Need-returns-4
 returns-4 c =
     let u = c .before .before .before .before in

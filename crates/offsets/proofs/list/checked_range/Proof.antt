@@ -27,11 +27,9 @@ cleared c =
     let m = c .before .before in
     clear (m .before .before .args .sizes .now) (m .before .before .args .strides .now) (sym (ap (λ (r : Compiled). r .code) (m .compile .ensures)) ∙ c .if1 .left)
 
--- src/list.rt:28:9
 compile-requires : tie.Need-compile-requires
 compile-requires c κs = search needs
 
--- src/list.rt:30:9
 returns : tie.Need-returns
 returns c =
     let m = c .before .before in
@@ -39,22 +37,18 @@ returns c =
     m .compile .ensures
     ∙ range-compile (s .args .sizes .now) (s .args .strides .now) (s .args .base) (s .args .start) (s .args .end) (s .args .length) (λ e. c .if1 .taken (ap (λ (r : Compiled). r .code) (m .compile .ensures) ∙ e))
 
--- src/list.rt:33:9
 refused-requires : tie.Need-refused-requires
 refused-requires c κs = search needs
 
--- src/list.rt:33:9
 returns-2 : tie.Need-returns-2
 returns-2 c =
     let e = c .before .before in
     let s = e .before .before .before .before in
     c .refused .ensures ∙ sym (range-5 (s .args .sizes .now) (s .args .strides .now) (s .args .base) (s .args .start) (s .args .end) (s .args .length) (cleared e) (c .before .if2 .taken))
 
--- src/list.rt:37:9
 refused-requires-2 : tie.Need-refused-requires-2
 refused-requires-2 c κs = search needs
 
--- src/list.rt:37:9
 returns-3 : tie.Need-returns-3
 returns-3 c =
     let t = c .before .before .before .before in
@@ -65,7 +59,6 @@ returns-3 c =
     ∙ sym (range-6 (s .args .sizes .now) (s .args .strides .now) (s .args .base) (s .args .start) (s .args .end) (s .args .length) (cleared e) (t .if2 .left)
     (subst (λ (r : Compiled). r .traversal .total < s .args .end) (m .compile .ensures) (c .before .if3 .taken)))
 
--- src/list.rt:39:8
 inside-total : (c : tie.Else3) → c .before .before .before .before .before .before .before .before .args .end ≤ (compileOf (c .before .before .before .before .before .before .before .before .args .sizes .now) (c .before .before .before .before .before .before .before .before .args .strides .now)) .traversal .total
 inside-total c =
     let m = c .before .before .before .before .before .before in
@@ -85,7 +78,6 @@ same-code r e = ap (λ (n : ℕ). record { code = n; traversal = r .traversal })
 inside-requires : tie.Need-inside-requires
 inside-requires c κs = subst (λ (r : Compiled). Traversal (r .traversal)) (sym (c .before .before .before .before .before .before .compile .ensures)) (accepted-layout c)
 
--- src/list.rt:40:9
 -- what the test said, of the compiled layout
 told : (c : tie.After-inside) → c .inside .result ≡ allInside (runOf ((compileOf (c .before .before .before .before .before .before .before .before .before .args .sizes .now) (c .before .before .before .before .before .before .before .before .before .args .strides .now)) .traversal) ∷ outerOf ((compileOf (c .before .before .before .before .before .before .before .before .before .args .sizes .now) (c .before .before .before .before .before .before .before .before .before .args .strides .now)) .traversal)) ((compileOf (c .before .before .before .before .before .before .before .before .before .args .sizes .now) (c .before .before .before .before .before .before .before .before .before .args .strides .now)) .traversal .total) (c .before .before .before .before .before .before .before .before .before .args .base) (c .before .before .before .before .before .before .before .before .before .args .length)
 told c =
@@ -103,11 +95,9 @@ returns-4 c =
     let s = m .before .before in
     m .compile .ensures ∙ same-code (compileOf (s .args .sizes .now) (s .args .strides .now)) (sym (ap (λ (r : Compiled). r .code) (m .compile .ensures)) ∙ e .if1 .left) ∙ sym (range-0 (s .args .sizes .now) (s .args .strides .now) (s .args .base) (s .args .start) (s .args .end) (s .args .length) (cleared e) (t .if2 .left) (inside-total k) (sym (told (c .before)) ∙ c .if4 .taken))
 
--- src/list.rt:42:5
 refused-requires-3 : tie.Need-refused-requires-3
 refused-requires-3 c κs = search needs
 
--- src/list.rt:18:1
 returns-5 : tie.Need-returns-5
 returns-5 c =
     let k = c .before .before .before in

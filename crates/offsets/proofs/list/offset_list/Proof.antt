@@ -45,11 +45,9 @@ layout-of c =
     ap (λ (r : Compiled). r .traversal) (answered m)
     ∙ ap (λ (n : ℕ). layoutBeside n (some ((compileOf (s .args .sizes .now) (s .args .strides .now)) .traversal))) (sym (code-of m) ∙ c .if1 .left)
 
--- src/list.rt:101:9
 checked-range-requires : tie.Need-checked-range-requires
 checked-range-requires c κs = search needs
 
--- src/list.rt:103:9
 returns : tie.Need-returns
 returns c =
     let m = c .before .before in
@@ -58,11 +56,9 @@ returns c =
     let k = list-refused (s .args .sizes .now) (s .args .strides .now) (s .args .base) (s .args .start) (s .args .end) (s .args .length) (length (s .args .out .now)) n in
     (code-of m ∙ sym k, buffer-kept (s .args .sizes .now) (s .args .strides .now) (s .args .base) (s .args .start) (s .args .end) (s .args .length) (s .args .out .now) (λ e. n (sym k ∙ e)))
 
--- src/list.rt:105:29
 sub-if2 : tie.Need-sub-if2
 sub-if2 c = omega (arith, accepted-range c .forward)
 
--- src/list.rt:106:9
 no : _≡_ {A = ℕ} 8 0 → ⊥
 no e = omega arith
 
@@ -73,7 +69,6 @@ returns-2 c =
     let k = list-8 (s .args .sizes .now) (s .args .strides .now) (s .args .base) (s .args .start) (s .args .end) (s .args .length) (accepted-range e) (length (s .args .out .now)) (c .if2 .taken) in
     (sym k, buffer-kept (s .args .sizes .now) (s .args .strides .now) (s .args .base) (s .args .start) (s .args .end) (s .args .length) (s .args .out .now) (λ q. no (sym k ∙ q)))
 
--- src/list.rt:109:5
 write-offsets-requires : tie.Need-write-offsets-requires
 write-offsets-requires c κs =
     let t = c .before .before in
@@ -84,11 +79,9 @@ write-offsets-requires c κs =
     (rw (layout-of e)
     (ranged-accepted _ _ _ _ _ _ r .traversal, ranged-bounded _ _ _ _ _ _ r, r .forward, r .inside, t .if2 .left))
 
--- src/list.rt:89:1
 same-length : tie.Need-same-length
 same-length c = search needs
 
--- src/list.rt:89:1
 -- what was written, over rule 2's axes
 wrote : (c : tie.After-write-offsets) → c .write-offsets .last .1 .1 .1 .1 .0 ≡ offsetsFrom (axesOf (c .before .before .before .before .before .before .before .before .args .sizes .now) (c .before .before .before .before .before .before .before .before .args .strides .now)) (c .before .before .before .before .before .before .before .before .args .base) (c .before .before .before .before .before .before .before .before .args .start) (c .before .before .before .before .before .before .before .before .args .end - c .before .before .before .before .before .before .before .before .args .start) ++ drop (c .before .before .before .before .before .before .before .before .args .end - c .before .before .before .before .before .before .before .before .args .start) (c .before .before .before .before .before .before .before .before .args .out .now)
 wrote c =

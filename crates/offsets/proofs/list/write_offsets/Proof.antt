@@ -24,11 +24,9 @@ Inv-loop l base start end out₀ stride c₀ out c = Listing l (toZ w64 base) st
 abbrev μ-loop : tie.MeasureT-loop
 μ-loop l base start end out₀ stride c₀ out c = end - c .at
 
--- src/list.rt:63:9
 begin-requires : tie.Need-begin-requires Inv-loop μ-loop
 begin-requires c κs = let s = c .before in simp (toZ-ofZ (s .fits .base)) (s .pre .0, s .pre .1)
 
--- src/list.rt:64:5
 loop-holds : tie.Need-loop-holds Inv-loop μ-loop
 loop-holds c =
     let s = c .before .before in
@@ -38,13 +36,11 @@ loop-holds c =
 listing : (c : tie.At-loop Inv-loop μ-loop) → Listing (c .before .before .before .args .l) (c .before .before .before .args .base) (c .before .before .before .args .start) (c .before .before .before .args .end) (c .before .before .before .args .out .now) (c .loop .out) (c .loop .c)
 listing c = let s = c .before .before .before in simp (toZ-ofZ (s .fits .base)) at (c .loop .inv)
 
--- src/list.rt:65:13
 next-piece-requires : tie.Need-next-piece-requires Inv-loop μ-loop
 next-piece-requires c κs =
     let s = c .before .before .before .before .before in
     (s .pre .0, c .if1 .taken, record { base = s .args .base; bounded = s .pre .1; cursor-is = listing (c .before .before) .cursor-is (c .if1 .taken) })
 
--- src/list.rt:68:14
 sub-write-run : tie.Need-sub-write-run Inv-loop μ-loop
 sub-write-run c = listing (c .before .before .before .before .before) .from
 
@@ -57,21 +53,18 @@ taken c =
     let s = k .before .before .before in
     listing-taken (s .args .l) (s .pre .0) (s .args .base) (s .pre .1) (s .args .start) (s .args .end) (s .args .out .now) (k .loop .out) (k .loop .c) (s .pre .4) (listing k) (c .before .if1 .taken) (c .next-piece .result) (c .next-piece .ensures)
 
--- src/list.rt:66:9
 write-run-requires : tie.Need-write-run-requires Inv-loop μ-loop
 write-run-requires c κs =
     let n = c .before .before .before in
     let p = taken n in
     simp (toZ-ofZ (stride-fits (n .before .before .before .before .before)), toZ-ofZ (p .first-fits)) (p .some-len, p .enough, p .offsets-fit)
 
--- src/list.rt:64:5
 loop-less : tie.Need-loop-less Inv-loop μ-loop
 loop-less c =
     let n = c .before .before .before .before .before .before in
     let p = taken n in
     omega (arith, n .before .if1 .taken, p .next-at, p .some-len)
 
--- src/list.rt:64:5
 loop-again : tie.Need-loop-again Inv-loop μ-loop
 loop-again c =
     let n = c .before .before .before .before .before .before in
@@ -80,14 +73,12 @@ loop-again c =
     let wrote = simp (toZ-ofZ (stride-fits (n .before .before .before .before .before)), toZ-ofZ (p .first-fits)) at (c .before .before .write-run .ensures) in
     simp (toZ-ofZ (s .fits .base)) (p .more (c .before .before .write-run .last .0) wrote)
 
--- src/list.rt:58:1
 same-length : tie.Need-same-length Inv-loop μ-loop
 same-length c =
     let k = c .before .before in
     let s = k .before .before .before in
     ap length (listing k .lists) ∙ length-listed _ _ _ _ _ (omega (arith, listing k .upto, s .pre .4))
 
--- src/list.rt:58:1
 returns : tie.Need-returns Inv-loop μ-loop
 unfolding listed
 returns c =

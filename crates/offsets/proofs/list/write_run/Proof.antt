@@ -23,11 +23,9 @@ Inv-loop out₀ at count first stride offset₀ i₀ out offset i =
 abbrev μ-loop : tie.MeasureT-loop
 μ-loop out₀ at count first stride offset₀ i₀ out offset i = count - i
 
--- src/list.rt:50:5
 mul-first : tie.Need-mul-first Inv-loop μ-loop
 mul-first c = omega arith
 
--- src/list.rt:50:5
 slice-set-from-first : tie.Need-slice-set-from-first Inv-loop μ-loop
 slice-set-from-first c = omega arith
 
@@ -60,40 +58,32 @@ long s i h =
     let e = length-set (s .args .out .now) (s .args .at) (toZ w64 (ofZ w64 (s .args .first))) in
     length-filled (set (s .args .out .now) (s .args .at) (toZ w64 (ofZ w64 (s .args .first)))) (s .args .at) _ _ i (omega (arith, s .pre .1)) ∙ e
 
--- src/list.rt:53:5
 loop-holds : tie.Need-loop-holds Inv-loop μ-loop
 loop-holds c =
     let f = c .fits .first in
     let g = c .fits .stride in
     simp (toZ-ofZ f, toZ-ofZ g) (omega arith, c .pre .0, none (c .args .first) (c .args .stride), filled-first (c .args .out .now) (c .args .at) (c .args .first) (c .args .stride) (omega (arith, c .pre .1, c .pre .0)))
 
--- src/list.rt:54:18
 add-offset : tie.Need-add-offset Inv-loop μ-loop
 add-offset c = simp (toZ-ofZ (c .before .before .fits .stride)) (next-fits c)
 
--- src/list.rt:55:13
 add-offset-2 : tie.Need-add-offset-2 Inv-loop μ-loop
 add-offset-2 c = omega arith
 
--- src/list.rt:55:9
 mul-offset : tie.Need-mul-offset Inv-loop μ-loop
 mul-offset c = let s = c .before .before in omega (arith, s .pre .1, c .loop-test .taken, s .good .0 .1)
 
--- src/list.rt:55:9
 slice-set-from-offset : tie.Need-slice-set-from-offset Inv-loop μ-loop
 slice-set-from-offset c =
     let s = c .before .before in
     omega (arith, ap length (c .before .loop .inv .3), long s (c .before .loop .i) (c .before .loop .inv .1), s .pre .1, c .loop-test .taken)
 
--- src/list.rt:56:9
 add-i : tie.Need-add-i Inv-loop μ-loop
 add-i c = omega arith
 
--- src/list.rt:53:5
 loop-less : tie.Need-loop-less Inv-loop μ-loop
 loop-less c = omega arith
 
--- src/list.rt:53:5
 loop-again : tie.Need-loop-again Inv-loop μ-loop
 loop-again c =
     let s = c .before .before in
@@ -112,13 +102,11 @@ loop-again c =
           (omega (arith, length-set (s .args .out .now) (s .args .at) (s .args .first), s .pre .1, c .loop-test .taken))),
     )
 
--- src/list.rt:46:1
 same-length : tie.Need-same-length Inv-loop μ-loop
 same-length c =
     let s = c .before .before in
     ap length (c .before .loop .inv .3) ∙ long s (c .before .loop .i) (c .before .loop .inv .1)
 
--- src/list.rt:46:1
 returns : tie.Need-returns Inv-loop μ-loop
 unfolding filled
 returns c =

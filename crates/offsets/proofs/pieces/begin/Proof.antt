@@ -13,15 +13,12 @@ use Rattle.offsets.proofs.pieces.begin.Reads as reads
 use Rattle.offsets.proofs.pieces.begin.Lts as lts
 use Rattle.offsets.proofs.cursor.ReduceOuterCursor.decode.Reads as decode-reads
 
--- src/pieces.rt:40:14
 rem-t7 : tie.Need-rem-t7
 rem-t7 c = let s = c .before in some (s .args .l) (s .pre .0) (s .args .base) (s .pre .1) (s .args .start)
 
--- src/pieces.rt:41:41
 div-decode : tie.Need-div-decode
 div-decode c = rem-t7 c
 
--- src/pieces.rt:41:15
 decode-requires : tie.Need-decode-requires
 unfolding outerOf
 decode-requires c κs =
@@ -29,7 +26,6 @@ decode-requires c κs =
     simp (toZ-ofZ (s .fits .base))
     (s .pre .0 .places, s .pre .0 .few, outer-axes (s .args .l) (s .pre .0) (s .args .base) (s .pre .1) (s .args .start), outer-bounded (s .args .l) (s .pre .0) (s .args .base) (s .pre .1) (s .args .start))
 
--- src/pieces.rt:31:1
 returns : tie.Need-returns
 unfolding rangeAt outerOf
 returns c =

@@ -25,26 +25,21 @@ use Rattle.offsets.proofs.pieces.next_piece.Lts as lts
 use Rattle.offsets.proofs.cursor.ReduceOuterCursor.advance.Reads as advance-reads
 use Rattle.integers.proofs.min_u64.Reads as min-u64-reads
 
--- src/pieces.rt:53:21
 sub-min-u64 : tie.Need-sub-min-u64
 sub-min-u64 c = let s = c .before .before in omega (arith, on-column (s .args .l) (s .pre .0) (s .args .c) (s .pre .2))
 
--- src/pieces.rt:53:38
 sub-min-u64-2 : tie.Need-sub-min-u64-2
 sub-min-u64-2 c = search needs
 
--- src/pieces.rt:53:9
 min-u64-requires : tie.Need-min-u64-requires
 min-u64-requires c κs = search needs
 
--- src/pieces.rt:54:54
 cast-first : tie.Need-cast-first
 cast-first c = let s = c .before .before .before in pos-fits _ (on-column-small (s .args .l) (s .pre .0) (s .args .c) (s .pre .2))
 
 stride-fits : (c : tie.After-struct-told) → SFits w64 (c .before .before .before .before .before .args .l .«run_stride»)
 stride-fits c = record { sfits = c .struct-told .given .1 .1 .0 .1 }
 
--- src/pieces.rt:54:38
 mul-first : tie.Need-mul-first
 mul-first c =
     let s = c .before .before .before .before .before in
@@ -66,22 +61,18 @@ first-told : (c : tie.After-struct-told2) → toZ w64 (ofZ w64 (toZ w64 (ofZ w64
     ≡ c .before .before .before .before .before .before .before .args .c .runs .«source_offset» +ℤ c .before .before .before .before .before .before .before .args .l .«run_stride» *ℤ pos (c .before .before .before .before .before .before .before .args .c .col)
 first-told c = ap (λ (z : ℤ). toZ w64 (ofZ w64 z)) (first-is c) ∙ toZ-ofZ (first-fits c)
 
--- src/pieces.rt:54:17
 add-first : tie.Need-add-first
 add-first c = subst (SFits w64) (sym (first-is c)) (first-fits c)
 
--- src/pieces.rt:55:13
 add-k : tie.Need-add-k
 add-k c = search needs
 
--- src/pieces.rt:62:19
 advance-requires : tie.Need-advance-requires
 unfolding outerOf
 advance-requires c κs =
     let s = c .before .before .before .before .before .before .before .before .before in
     (s .pre .0 .places, s .pre .0 .few, on-element (s .args .l) (s .pre .0) (s .args .c) (s .pre .2))
 
--- src/pieces.rt:64:9
 returns : tie.Need-returns
 unfolding pieceOf outerOf
 returns c =
@@ -94,7 +85,6 @@ returns c =
     ∙ ap (λ (x : Bool). record { first = s .args .c .runs .«source_offset» +ℤ s .args .l .«run_stride» *ℤ pos (s .args .c .col); len = n; next = record { at = s .args .c .at + n; col = 0; runs = cond x (advanced (outerOf (s .args .l)) (s .args .c .runs)) (s .args .c .runs) } }) (sym (lt-ltb (s .args .c .at + n) (s .args .end) (c .before .before .if1 .taken)))
     ∙ ap (λ (m : ℕ). record { first = s .args .c .runs .«source_offset» +ℤ s .args .l .«run_stride» *ℤ pos (s .args .c .col); len = m; next = record { at = s .args .c .at + m; col = 0; runs = cond (ltb (s .args .c .at + m) (s .args .end)) (advanced (outerOf (s .args .l)) (s .args .c .runs)) (s .args .c .runs) } }) e
 
--- src/pieces.rt:46:1
 returns-2 : tie.Need-returns-2
 unfolding pieceOf outerOf
 returns-2 c =

@@ -45,11 +45,9 @@ layout-of c =
     ap (λ (r : Compiled). r .traversal) (answered m)
     ∙ ap (λ (n : ℕ). layoutBeside n (some ((compileOf (s .args .sizes .now) (s .args .strides .now)) .traversal))) (accepted-range c)
 
--- src/full.rt:69:9
 checked-range-requires : tie.Need-checked-range-requires
 checked-range-requires c κs = search needs
 
--- src/full.rt:71:9
 returns : tie.Need-returns
 returns c =
     let m = c .before .before in
@@ -57,7 +55,6 @@ returns c =
     ap refusal (code-of m)
     ∙ sym (reduce-refused (s .args .sizes .now) (s .args .strides .now) (s .args .base) (s .args .start) (s .args .end) (s .args .values .now) (λ e. c .if1 .taken (code-of m ∙ e)))
 
--- src/full.rt:73:9
 reduce-full-range-requires : tie.Need-reduce-full-range-requires
 reduce-full-range-requires c κs =
     let s = c .before .before .before .before .before in
@@ -66,7 +63,6 @@ reduce-full-range-requires c κs =
     (rw (layout-of c)
     (ranged-accepted _ _ _ _ _ _ r .traversal, ranged-bounded _ _ _ _ _ _ r, r .forward, r .inside, ranged-few _ _ _ _ _ _ r, ranged-inside _ _ _ _ _ _ r))
 
--- src/full.rt:58:1
 returns-2 : tie.Need-returns-2
 returns-2 c =
     let b = c .before in

@@ -37,37 +37,29 @@ ends c =
     let s = c .before .before in
     at-last _ _ (s .args .first) (s .args .len) (inside c) (s .pre .0) (sym (ap natAbs (toZ-ofZ (s .fits .first))))
 
--- src/full.rt:24:18
 cast-at : tie.Need-cast-at
 cast-at c =
     let s = c .before .before in
     (rw (toZ-ofZ (s .fits .first)) (first-natural _ _ _ _ (inside c) (s .pre .0)), omega (arith, ends c, c .before .before .good .0 .1))
 
--- src/full.rt:25:32
 add-part : tie.Need-add-part
 add-part c = omega (arith, ends c, c .before .before .good .0 .1)
 
--- src/full.rt:25:20
 mul-part : tie.Need-mul-part
 mul-part c = omega (arith, ends c, c .before .before .good .0 .1)
 
--- src/full.rt:25:20
 sub-part : tie.Need-sub-part
 sub-part c = search needs
 
--- src/full.rt:25:20
 part-part-start : tie.Need-part-part-start
 part-part-start c = search needs
 
--- src/full.rt:25:20
 part-part-end : tie.Need-part-part-end
 part-part-end c = ends c
 
--- src/full.rt:26:9
 stable-float-contiguous-requires : tie.Need-stable-float-contiguous-requires
 stable-float-contiguous-requires c κs = search needs
 
--- src/full.rt:26:9
 returns : tie.Need-returns
 unfolding eqZ
 returns c =
@@ -83,11 +75,9 @@ returns c =
     count : (a n : ℕ) → a + n - a ≡ n
     count a n = omega arith
 
--- src/full.rt:28:5
 lanes-strided-requires : tie.Need-lanes-strided-requires
 lanes-strided-requires c κs = search needs
 
--- src/full.rt:19:1
 returns-2 : tie.Need-returns-2
 returns-2 c =
     let s = c .before .before .before in

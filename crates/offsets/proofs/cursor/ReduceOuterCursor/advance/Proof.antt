@@ -26,7 +26,6 @@ Inv-loop count axes c₀ i₀ c i = Advancing (take count axes) c₀ c i
 abbrev μ-loop : tie.MeasureT-loop
 μ-loop count axes c₀ i₀ c i = count - i
 
--- src/cursor.rt:44:9
 loop-holds : tie.Need-loop-holds Inv-loop μ-loop
 loop-holds c = advancing-none _ _ (c .pre .2)
 
@@ -56,35 +55,27 @@ room c = omega (arith, digit (c .before .before .before .before), c .if1 .taken)
 full : (c : tie.Else1 Inv-loop μ-loop) → (getD (c .before .before .before .before .before .before .args .t3) (c .before .before .before .before .before .loop .i) noAxis) .extent ≤ c .before .before .before .before .before .loop .inv .index % (getD (c .before .before .before .before .before .before .args .t3) (c .before .before .before .before .before .loop .i) noAxis) .extent + 1
 full c = omega (arith, digit (c .before .before .before .before), c .if1 .left)
 
--- src/cursor.rt:45:21
 mul-a : tie.Need-mul-a Inv-loop μ-loop
 mul-a c = omega arith
 
--- src/cursor.rt:45:21
 array-copy-out-a : tie.Need-array-copy-out-a Inv-loop μ-loop
 array-copy-out-a c = omega arith
 
--- src/cursor.rt:46:21
 mul-d : tie.Need-mul-d Inv-loop μ-loop
 mul-d c = omega arith
 
--- src/cursor.rt:46:21
 element-copy-out-d : tie.Need-element-copy-out-d Inv-loop μ-loop
 element-copy-out-d c = omega arith
 
--- src/cursor.rt:46:21
 add-d : tie.Need-add-d Inv-loop μ-loop
 add-d c = let t = c .before .before in omega (arith, digit t, mod-lt (t .before .loop .inv .index) (axis t .1), axis-small _ (axis t))
 
--- src/cursor.rt:48:17
 mul-c : tie.Need-mul-c Inv-loop μ-loop
 mul-c c = omega arith
 
--- src/cursor.rt:48:17
 element-write-c : tie.Need-element-write-c Inv-loop μ-loop
 element-write-c c = omega arith
 
--- src/cursor.rt:49:35
 add-c : tie.Need-add-c Inv-loop μ-loop
 add-c c =
     let u = c .before .before .before in
@@ -93,7 +84,6 @@ add-c c =
     let f : SFits w64 (a .«source_step») = record { sfits = c .struct-told2 .given .1 .0 .1 } in
     simp (toZ-ofZ f, toZ-ofZ (small-fits _ (from-here t))) (small-fits _ (step-small _ _ _ _ (t .before .loop .inv) a (here t) (room u)))
 
--- src/cursor.rt:50:17
 returns : tie.Need-returns Inv-loop μ-loop
 returns c =
     let u = c .before .before .before in
@@ -103,15 +93,12 @@ returns c =
     simp (toZ-ofZ f, toZ-ofZ (small-fits _ (from-here t)), toZ-ofZ (small-fits _ (step-small _ _ _ _ (t .before .loop .inv) a (here t) (room u))))
     (advanced-step _ _ _ _ (t .before .loop .inv) a (here t) (room u) _ refl (ap (λ (n : ℕ). set (t .before .loop .c .digits) (t .before .loop .i) (n + 1)) (digit t)))
 
--- src/cursor.rt:52:13
 mul-c-2 : tie.Need-mul-c-2 Inv-loop μ-loop
 mul-c-2 c = omega arith
 
--- src/cursor.rt:52:13
 element-write-c-2 : tie.Need-element-write-c-2 Inv-loop μ-loop
 element-write-c-2 c = omega arith
 
--- src/cursor.rt:53:31
 add-c-2 : tie.Need-add-c-2 Inv-loop μ-loop
 add-c-2 c =
     let u = c .before .before .before in
@@ -120,15 +107,12 @@ add-c-2 c =
     let f : SFits w64 (a .«source_reset») = record { sfits = c .struct-told4 .given .1 .1 .0 .1 } in
     simp (toZ-ofZ f, toZ-ofZ (small-fits _ (from-here t))) (small-fits _ (reset-small _ _ _ _ (t .before .loop .inv) a (here t) (full u)))
 
--- src/cursor.rt:54:13
 add-i : tie.Need-add-i Inv-loop μ-loop
 add-i c = omega arith
 
--- src/cursor.rt:44:9
 loop-less : tie.Need-loop-less Inv-loop μ-loop
 loop-less c = omega arith
 
--- src/cursor.rt:44:9
 loop-again : tie.Need-loop-again Inv-loop μ-loop
 loop-again c =
     let u = c .before .before .before in
@@ -138,7 +122,6 @@ loop-again c =
     simp (toZ-ofZ f, toZ-ofZ (small-fits _ (from-here t)), toZ-ofZ (small-fits _ (reset-small _ _ _ _ (t .before .loop .inv) a (here t) (full u))))
     (advancing-more _ _ _ _ (t .before .loop .inv) a (here t) (full u) (omega (arith, t .loop-test .taken, counted t)) _ refl refl)
 
--- src/cursor.rt:38:5
 returns-2 : tie.Need-returns-2 Inv-loop μ-loop
 returns-2 c =
     let s = c .before .before in

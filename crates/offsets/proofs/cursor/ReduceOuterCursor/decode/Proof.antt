@@ -27,7 +27,6 @@ Inv-loop index base count axes c₀ rest₀ i₀ c rest i = Decoded (take count 
 abbrev μ-loop : tie.MeasureT-loop
 μ-loop index base count axes c₀ rest₀ i₀ c rest i = count - i
 
--- src/cursor.rt:26:9
 loop-holds : tie.Need-loop-holds Inv-loop μ-loop
 loop-holds c =
     let f = c .fits .base in
@@ -61,35 +60,27 @@ to-next c = decode-next _ _ _ _ _ _ (c .before .loop .inv) _ (room c) (here c)
 counted : (c : tie.In-loop Inv-loop μ-loop) → length (take (c .before .before .args .count) (c .before .before .args .t4)) ≡ c .before .before .args .count
 counted c = let s = c .before .before in length-take-le (s .args .count) (s .args .t4) (omega (arith, s .pre .0, s .pre .1))
 
--- src/cursor.rt:27:21
 mul-a : tie.Need-mul-a Inv-loop μ-loop
 mul-a c = omega arith
 
--- src/cursor.rt:27:21
 array-copy-out-a : tie.Need-array-copy-out-a Inv-loop μ-loop
 array-copy-out-a c = omega arith
 
--- src/cursor.rt:28:21
 rem-d : tie.Need-rem-d Inv-loop μ-loop
 rem-d c = axis (c .before .before) .1
 
--- src/cursor.rt:29:20
 div-rest : tie.Need-div-rest Inv-loop μ-loop
 div-rest c = axis (c .before .before .before) .1
 
--- src/cursor.rt:30:13
 mul-c : tie.Need-mul-c Inv-loop μ-loop
 mul-c c = omega arith
 
--- src/cursor.rt:30:13
 element-write-c : tie.Need-element-write-c Inv-loop μ-loop
 element-write-c c = omega arith
 
--- src/cursor.rt:31:66
 cast-c : tie.Need-cast-c Inv-loop μ-loop
 cast-c c = pos-fits _ (small-digit (c .before .before .before .before))
 
--- src/cursor.rt:31:49
 mul-c-2 : tie.Need-mul-c-2 Inv-loop μ-loop
 mul-c-2 c =
     let t = c .before .before .before .before .before .before in
@@ -97,7 +88,6 @@ mul-c-2 c =
     let f : SFits w64 (a .«source_step») = record { sfits = c .struct-told2 .given .1 .0 .1 } in
     simp (toZ-ofZ f, toZ-small _ (small-digit t)) (share-fits (t .before .loop .c .«source_offset») (a .«source_step» *ℤ pos (t .before .loop .rest % a .extent)) (from-here t) (to-next t))
 
--- src/cursor.rt:31:31
 add-c : tie.Need-add-c Inv-loop μ-loop
 add-c c =
     let t = c .before .before .before .before .before .before in
@@ -107,15 +97,12 @@ add-c c =
     simp (toZ-ofZ f, toZ-small _ (small-digit t), toZ-ofZ (small-fits o (from-here t)), toZ-ofZ (share-fits o (a .«source_step» *ℤ pos (t .before .loop .rest % a .extent)) (from-here t) (to-next t)))
     (small-fits _ (to-next t))
 
--- src/cursor.rt:32:13
 add-i : tie.Need-add-i Inv-loop μ-loop
 add-i c = omega arith
 
--- src/cursor.rt:26:9
 loop-less : tie.Need-loop-less Inv-loop μ-loop
 loop-less c = omega arith
 
--- src/cursor.rt:26:9
 loop-again : tie.Need-loop-again Inv-loop μ-loop
 loop-again c =
     let t = c .before .before .before .before .before .before in
@@ -126,7 +113,6 @@ loop-again c =
     simp (toZ-ofZ f, toZ-small _ (small-digit t), toZ-ofZ (small-fits o (from-here t)), toZ-ofZ (share-fits o (a .«source_step» *ℤ pos (t .before .loop .rest % a .extent)) (from-here t) (to-next t)), toZ-ofZ (small-fits _ (to-next t)))
     (decoded-more _ _ _ _ _ _ (t .before .loop .inv) a (room t) (here t) (omega (arith, t .loop-test .taken, counted t)) _ refl refl)
 
--- src/cursor.rt:16:5
 returns : tie.Need-returns Inv-loop μ-loop
 returns c =
     let s = c .before .before in
