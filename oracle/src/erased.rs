@@ -1,6 +1,6 @@
 //! Ours: a stand-in for the source's file of this name, which we do not have.
 //!
-//! The axis records, the cursor, the reset and the fusing are written from rules 3 and 4 of the product engine
+//! The axis records, the cursor, the reset and the fusing are written from rules L3 and L4 of the engine
 //! and from the sentence on the cursor: "The cursor adds a step, or a reset with carry to the next axis."
 //! What the benchmark times of this is marked `inline`, so that it does not slow the source down.
 //! The inner axes and the names of the scalar trait serve only to compile what no case calls.
@@ -22,7 +22,7 @@ pub struct ReduceOuterAxis {
     pub dest_reset: isize,
 }
 
-/// Rule 3: -(size - 1) × stride must fit, and so must size - 1 and the product before its sign is turned.
+/// Rule L3: -(size - 1) × stride must fit, and so must size - 1 and the product before its sign is turned.
 #[inline]
 fn checked_reduce_reset(size: usize, stride: isize) -> Result<isize> {
     let less_one = i128::from(fit(size as i128 - 1)?);
@@ -36,7 +36,7 @@ fn fit(number: i128) -> Result<i64> {
     i64::try_from(number).map_err(|_| StridedError::OffsetOverflow)
 }
 
-/// Rule 4: from left to right, an axis and the next become one where step × size equals the next stride.
+/// Rule L4: from left to right, an axis and the next become one where step × size equals the next stride.
 #[inline]
 fn compress_reduce_outer_axes(axes: Vec<ReduceOuterAxis>) -> Result<Vec<ReduceOuterAxis>> {
     let mut fused = axes;

@@ -65,7 +65,7 @@ pub fn range(sizes: &[u64], strides: &[i64], r: &Range) -> Result<Layout, u32> {
     Ok(layout)
 }
 
-/// The axes of rule 2: those of size 1 dropped, the rest by |stride|, equal ones in input order, stride 0 last.
+/// The axes of rule L2: those of size 1 dropped, the rest by |stride|, equal ones in input order, stride 0 last.
 pub fn axes(sizes: &[u64], strides: &[i64]) -> Vec<(u64, i64)> {
     let mut kept: Vec<(usize, u64, i64)> = (0..sizes.len())
         .filter(|&place| sizes[place] != 1)
@@ -76,7 +76,7 @@ pub fn axes(sizes: &[u64], strides: &[i64]) -> Vec<(u64, i64)> {
 }
 
 /// Where element k lies: base plus the sum of digit × stride, the digits being k in mixed radix over the axes of
-/// rule 2, first axis fastest. No axis is fused here.
+/// rule L2, first axis fastest. No axis is fused here.
 pub fn offset(axes: &[(u64, i64)], base: i64, k: u64) -> i64 {
     let mut left = k;
     let mut at = i128::from(base);

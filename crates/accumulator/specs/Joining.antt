@@ -1,4 +1,4 @@
--- The accumulator of the paper: joining without and with refusals, and what an answer tells. Definitions only.
+-- Rules A1, A3, R9, R10 and C4: the accumulator, joining without and with refusals, and what an answer tells.
 use Prim.Native.Nat.{ℕ, _^_}
 use mathlib.Core.Bool.{Bool, true, false, not, cond, _&&_, _||_}
 use lib.IntN.{ℤ, pos, negsuc, natAbs, _+ℤ_}
@@ -12,15 +12,15 @@ use Rattle.accumulator.specs.declared.StableProductFloatAcc.{StableProdu
 use Rattle.accumulator.specs.declared.Reduced.{Reduced}
 use Rattle.accumulator.specs.declared.Reduced.the-variants.{Acc, Refused}
 
--- Identity: 1.0, 0, false
+-- rule A1, the identity: 1.0, 0, false
 abbrev pub identityAcc : StableProductFloatAcc
 identityAcc = record { m = fin false 1 (pos 0); e = pos 0; bad = false }
 
--- the factor of an accumulator: the sign of m, |m| × 2^52, and e
+-- rule W1, the factor of an accumulator: the sign of m, |m| × 2^52, and e
 abbrev pub factorOfAcc : StableProductFloatAcc → Factor
 factorOfAcc a = factorAt 52 (a .m) (a .e)
 
--- Joining two of which neither is bad: multiply; if |m| >= 2, halve m and add 1 to e.
+-- rule A3, joining two of which neither is bad: multiply; if |m| >= 2, halve m and add 1 to e.
 abbrev pub half : Float
 half = fin false 1 (negsuc 0)
 
@@ -39,7 +39,7 @@ combined a b = cond (a .bad || b .bad) (record { m = a .m; e = a .e; bad = true 
 abbrev pub withinLimit : ℤ → Bool
 withinLimit e = leb (natAbs e) (2 ^ 52)
 
--- what refusal 9 asks of a given accumulator, bad or not: 1 <= |m| < 2 and |e| <= 2^52
+-- rule R9, what is asked of a given accumulator, bad or not: 1 <= |m| < 2 and |e| <= 2^52
 unfoldable pub inLimits : StableProductFloatAcc → Bool
 inLimits a = inUnit (a .m) && withinLimit (a .e)
 
@@ -52,14 +52,14 @@ abbrev pub answerOf : Reduced → Answer
 answerOf (Acc a) = accumulator (a .m) (a .e) (a .bad)
 answerOf (Refused n) = refusal n
 
--- of two that stand: 10 if neither is bad and the joined |e| would be above 2^52; else the joined accumulator
+-- rule R10, of two in range: 10 if neither is bad and the joined |e| would be above 2^52; else the joined accumulator
 unfoldable pub answered : StableProductFloatAcc → StableProductFloatAcc → Answer
 unfolding combined
 answered a b =
     let r = combined a b in
     cond (not (a .bad || b .bad) && not (withinLimit (r .e))) (refusal EXPONENT_OUT_OF_RANGE) (accumulator (r .m) (r .e) (r .bad))
 
--- 9 if either does not stand
+-- rules C4 and R0: 9 if either is not
 unfoldable pub joined : StableProductFloatAcc → StableProductFloatAcc → Answer
 unfolding inLimits answered
 joined a b = cond (not (inLimits a && inLimits b)) (refusal ACCUMULATOR_OUT_OF_RANGE) (answered a b)

@@ -1,2 +1,2 @@
--- The accumulator and joining, as the paper has them. Definitions only.
+-- The accumulator and joining. Definitions only.
 pub mod Joining

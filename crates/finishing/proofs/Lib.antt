@@ -5,3 +5,4 @@ pub mod Loops
 pub mod Patterns
 pub mod Answers
 pub mod Cases
+pub mod Theorems

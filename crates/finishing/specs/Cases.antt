@@ -1,4 +1,4 @@
--- The finishing cases that document 01 marks with *, as one table. Each row computes to true.
+-- The finishing cases of docs/RULES.md ("Cases that the rules fix"), as one table. Each row computes to true.
 use Prim.Native.Nat.{_+_, _^_}
 use mathlib.Core.Bool.{Bool, true, false, _&&_, Bool·beq}
 use lib.Dec.{eqb}
@@ -29,7 +29,7 @@ unfoldable pub finishes : Float → ℤ → Float → Bool
 unfolding is finishedOf
 finishes m e x = is (finishedOf (Acc (record { m = m; e = e; bad = false }))) x
 
-abbrev signedOne : Bool → Float
+abbrev pub signedOne : Bool → Float
 signedOne s = fin s 1 (pos 0)
 
 unfoldable pub finishingTable : Bool

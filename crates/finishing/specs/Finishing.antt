@@ -1,4 +1,4 @@
--- Finishing an answer: the paper's number or value for each case. Definitions only.
+-- Rules F1 and C5, finishing an answer.
 use Prim.Native.Nat.{ℕ}
 use mathlib.Core.Bool.{not, cond}
 use lib.Ieee.{Float, nan}

@@ -1,5 +1,7 @@
--- Finishing, as the paper has it. Definitions only.
+-- Finishing. Definitions only.
 pub mod Once
 pub mod Finishing
 pub mod Cases
+pub mod Deciding
 pub mod InnerFinishing
+pub mod Theorems

@@ -1,4 +1,4 @@
--- "Rounded once" of the paper: the binary64 number of a factor, in whole numbers. Definitions only.
+-- Rule F2, rounded once: the binary64 number of a factor, in whole numbers.
 use Prim.Native.Nat.{ℕ, _^_}
 use mathlib.Core.Bool.{Bool, cond}
 use lib.IntN.{ℤ, pos, negsuc, natAbs, _+ℤ_, _-ℤ_}

@@ -13,3 +13,4 @@ pub mod Fields
 pub mod Masks
 pub mod Splitting
 mod Cases
+pub mod Theorems

@@ -1,4 +1,4 @@
--- The whole-number rule of the paper: factors, and their product. For a fraction of t bits; the paper's is t = 52. Definitions only.
+-- Rule W1: factors, and their product in whole numbers. For a fraction of t bits; the rule has t = 52.
 use Prim.Native.Nat.{ℕ, _+_, _-_, _*_, _^_, _≤_, _<_}
 use mathlib.Core.Path.{_≡_}
 use mathlib.Core.Bool.{Bool, false, cond}

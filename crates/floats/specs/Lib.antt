@@ -1,7 +1,8 @@
--- The numbers, as the standard and the paper have them. Definitions only.
+-- The numbers, as the standard and the rules have them. Definitions only.
 pub mod Rounding
 pub mod Product
 pub mod Factor
 pub mod Fields
 pub mod Magnitude
 pub mod Splitting
+pub mod Theorems

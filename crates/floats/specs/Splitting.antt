@@ -1,4 +1,4 @@
--- Splitting a rate, by its bit fields at 11 and 52. Definitions only.
+-- Rule A2, splitting a rate, by its bit fields at 11 and 52.
 use Prim.Native.Nat.{ℕ}
 use mathlib.Core.Bool.{Bool}
 use lib.IntN.{pos, _-ℤ_}

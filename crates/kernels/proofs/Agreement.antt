@@ -5,7 +5,7 @@ use native.Mathlib.Nat.{le-trans}
 use native.Mathlib.Omega.{arith}
 use lib.IntN.{natAbs}
 use borrow.Author.Tests.{le-leb}
-use mathlib.Core.Path.{_≡_, refl, sym, ap, _∙_}
+use mathlib.Core.Path.{_≡_, refl, sym, ap, _∙_, subst}
 use mathlib.Core.Bool.{Bool, true, false, _&&_, _||_}
 use mathlib.Core.List.{List, [], _∷_, map, map-map, foldl}
 use lib.Dec.{T}
@@ -18,7 +18,9 @@ use Rattle.floats.proofs.Fields.{factor-normal}
 use Rattle.accumulator.specs.declared.StableProductFloatAcc.{StableProductFloatAcc}
 use Rattle.accumulator.specs.Joining.{combined, withinLimit, inLimits}
 use Rattle.kernels.specs.Lanes.{Each, none, more, some}
-use Rattle.kernels.specs.Plain.{pieceProduct, listProduct, plainProduct}
+use Rattle.kernels.specs.Plain.{plainPiece, listProduct, plainProduct}
+use Rattle.kernels.specs.InnerPlain.{pieceProduct}
+use Rattle.kernels.proofs.Plain.{plain-piece}
 use Rattle.kernels.specs.Pieces.{GoodRate, Piece, worked, workedPiece, joinedPieces, GoodPiece, Admitted, patternsOf, accOf}
 use Rattle.kernels.proofs.Feeding.{each-map, or-assoc, or-none}
 use Rattle.kernels.proofs.Factors.{piece-normal}
@@ -36,22 +38,26 @@ unfolding rateFactor
 factors-is xs = sym (map-map (factorOf 11 52) bitsOf xs)
 
 abbrev piece : List Float → Factor
-piece xs = pieceProduct 52 (factors xs)
+piece xs = plainPiece 52 (factors xs)
 
 normal : (xs : List Float) → Normalised 52 (piece xs)
-normal xs = piece-normal 52 (all (map bitsOf xs))
+normal xs = subst (Normalised 52) (sym (plain-piece 52 (factors xs))) (piece-normal 52 (all (map bitsOf xs)))
   where
     all : (bs : List ℕ) → Each (Normalised 52) (map (factorOf 11 52) bs)
     all [] = none
     all (b ∷ bs) = more (factor-normal 11 52 b) (all bs)
 
 -- one piece, in either way
-pub worked-agrees : (inBlocks : Bool) {xs : List Float} → Each GoodRate xs → worked inBlocks xs ≡ accOf (pieceProduct 52 (factors xs))
-worked-agrees true {xs} R = contiguous-agrees R ∙ ap (λ (fs : List Factor). accOf (pieceProduct 52 fs)) (factors-is xs)
-worked-agrees false {xs} R = stepped-agrees R ∙ ap (λ (fs : List Factor). accOf (pieceProduct 52 fs)) (factors-is xs)
+pub worked-agrees : (inBlocks : Bool) {xs : List Float} → Each GoodRate xs → worked inBlocks xs ≡ accOf (plainPiece 52 (factors xs))
+worked-agrees inBlocks {xs} R =
+    each inBlocks ∙ ap accOf (ap (pieceProduct 52) (factors-is xs) ∙ sym (plain-piece 52 (factors xs)))
+  where
+    each : (b : Bool) → worked b xs ≡ accOf (pieceProduct 52 (map rateFactor xs))
+    each true = contiguous-agrees R
+    each false = stepped-agrees R
 
 joined-on : (f : Factor) → Normalised 52 f → {ps : List Piece} → Each GoodPiece ps
-    → foldl combined (accOf f) (map workedPiece ps) ≡ accOf (foldl (times 52) f (map (pieceProduct 52) (map (map (factorOf 11 52)) (patternsOf ps))))
+    → foldl combined (accOf f) (map workedPiece ps) ≡ accOf (foldl (times 52) f (map (plainPiece 52) (map (map (factorOf 11 52)) (patternsOf ps))))
 joined-on f F none = refl
 joined-on f F (more {x = p} {xs = ps} R Rs) =
     let g = piece (p .rates) in

@@ -21,7 +21,7 @@ use Rattle.accumulator.specs.declared.StableProductFloatAcc.{StableProductFloat
 use Rattle.accumulator.specs.Joining.{identityAcc}
 use Rattle.kernels.specs.declared.lanes.Lanes.{Lanes}
 use Rattle.kernels.specs.Lanes.{Each, none, more, feed, laneOf, inOrder, every, some}
-use Rattle.kernels.specs.Plain.{laneTimes, lanes, pieceProduct}
+use Rattle.kernels.specs.InnerPlain.{laneTimes, lanes, pieceProduct}
 use Rattle.kernels.specs.Blocks.{startLanes, mOf, eOf, unsplitStep, splitStep, inBounds, renormLane, renorm, unsplit, block, blocks, laneIn, lanesIn, contiguous}
 use Rattle.kernels.specs.Pieces.{GoodRate, accOf}
 use Rattle.kernels.proofs.Feeding.{feed-related, feed-append, feed-eights, feed-mark, order-keeps, order-related, and-both, every-each, each-map, each-both, each-take, each-drop, some-append, some-none, or-none, or-assoc, neither}

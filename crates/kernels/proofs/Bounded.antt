@@ -24,7 +24,7 @@ use Rattle.accumulator.specs.Joining.{identityAcc, combined}
 use Rattle.accumulator.proofs.Combining.{combined-bad, combined-good}
 use Rattle.accumulator.proofs.Joins.{multiplied-unit, multiplied-fits}
 use Rattle.kernels.specs.Lanes.{Each, none, more, feed, laneOf, inOrder}
-use Rattle.kernels.specs.Plain.{laneTimes, lanes, pieceProduct}
+use Rattle.kernels.specs.InnerPlain.{laneTimes, lanes, pieceProduct}
 use Rattle.kernels.specs.Stepped.{rateAcc, accAt, laneJoined, steppedLanes, lanesJoined, stepped}
 use Rattle.kernels.specs.InnerStepped.{Sound, SmallAccs, UnitAccs}
 use Rattle.kernels.specs.Blocks.{contiguous}

@@ -9,7 +9,7 @@ use lib.Seq.{getD-set-same, getD-set-other}
 use Rattle.floats.specs.Factor.{Factor, Normalised, unit, times}
 use Rattle.floats.proofs.Factor.{unit-normal, times-normal}
 use Rattle.kernels.specs.Lanes.{Each, laneOf}
-use Rattle.kernels.specs.Plain.{laneTimes, lanes, pieceProduct}
+use Rattle.kernels.specs.InnerPlain.{laneTimes, lanes, pieceProduct}
 use Rattle.kernels.proofs.Feeding.{feed-keeps, order-keeps}
 
 pub lane-lt : (i : ℕ) → laneOf i < 8

@@ -1,6 +1,7 @@
 -- The laws of specs/, by argument: first what holds of the definitions, then what the code's loops keep.
 pub mod Feeding
 pub mod Factors
+pub mod Plain
 pub mod Standing
 pub mod Joining
 pub mod Stepping
@@ -10,6 +11,7 @@ pub mod Blocking
 pub mod Sizes
 pub mod Bounded
 pub mod Agreement
+pub mod Theorems
 pub mod Cases
 pub mod Striding
 pub mod Comparing

@@ -16,7 +16,7 @@ use Rattle.floats.proofs.Splitting.{rate-normal}
 use Rattle.accumulator.specs.declared.StableProductFloatAcc.{StableProductFloatAcc}
 use Rattle.accumulator.specs.Joining.{identityAcc, combined}
 use Rattle.kernels.specs.Lanes.{Each, feed, laneOf, some}
-use Rattle.kernels.specs.Plain.{laneTimes, lanes, pieceProduct}
+use Rattle.kernels.specs.InnerPlain.{laneTimes, lanes, pieceProduct}
 use Rattle.kernels.specs.Stepped.{rateAcc, accAt, laneJoined, steppedLanes, lanesJoined, stepped}
 use Rattle.kernels.specs.Pieces.{GoodRate, accOf}
 use Rattle.kernels.proofs.Feeding.{feed-related, order-keeps, order-related, or-none, or-assoc, some-append, some-one, some-set}

@@ -1,4 +1,4 @@
--- Blocks of 64 (`stable_float_contiguous`), over the values of a piece, bad ones too. Definitions only.
+-- Rule A4, blocks of 64 (`stable_float_contiguous`), over the values of a piece, bad ones too.
 use Prim.Native.Nat.{ℕ, zero, suc, _*_, _/_, _^_}
 use mathlib.Core.List.{List}
 use mathlib.Core.Bool.{Bool, false, not, cond, _&&_, _||_}

@@ -11,7 +11,7 @@ use Rattle.kernels.specs.declared.lanes.Lanes.{Lanes}
 use Rattle.kernels.specs.Lanes.{feed, some}
 use Rattle.floats.specs.Factor.{Factor, Normalised, unit, floatOf}
 use Rattle.floats.specs.Magnitude.{withExponent}
-use Rattle.kernels.specs.Plain.{laneTimes}
+use Rattle.kernels.specs.InnerPlain.{laneTimes}
 use Rattle.kernels.specs.Blocks.{mOf, eOf}
 
 -- no lane's exponent is past n, either way

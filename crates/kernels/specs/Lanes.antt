@@ -1,4 +1,4 @@
--- Eight lanes: how the values of a piece are fed to them, and how they are worked one after another. Definitions only.
+-- Eight lanes: how the values of a piece are fed to them, and how they are worked one after another. For rules A4 and A5.
 use Prim.Native.Nat.{ℕ, zero, suc, _%_}
 use mathlib.Core.List.{List, [], _∷_}
 use mathlib.Core.Bool.{Bool, true, false, _&&_, _||_}

@@ -1,4 +1,4 @@
--- Whole lists of pieces: each piece worked in one of the two ways, the results joined left to right. Definitions only.
+-- Rules A6 and W2, whole lists of pieces: each piece worked in one of the two ways, the results joined left to right.
 use Prim.Native.Nat.{ℕ, _+_, _^_, _≤_, _<_}
 use lib.ListN.{length}
 use mathlib.Core.Path.{_≡_}

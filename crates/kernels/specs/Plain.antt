@@ -1,28 +1,28 @@
--- The plain product of the paper, in whole numbers, with no float in it. Definitions only.
--- Over factors for a fraction of any width t; over rates as bit patterns for the widths w and t (the paper's are 11 and 52).
-use Prim.Native.Nat.{ℕ}
+-- Rule W2, the plain product of a list of pieces, in whole numbers: no float is in it, and its lanes and their order are in words of its own.
+-- Over factors for a fraction of any width t; over rates as bit patterns for the widths w and t (the rule has 11 and 52).
+use Prim.Native.Nat.{ℕ, zero, suc}
 use mathlib.Core.List.{List, [], _∷_, map, foldl}
-use lib.ListN.{getD, set, replicate}
 use Rattle.floats.specs.Factor.{Factor, unit, times}
 use Rattle.floats.specs.Fields.{factorOf}
-use Rattle.kernels.specs.Lanes.{feed, laneOf, inOrder}
 
--- rate i multiplies lane i mod 8, the lane on the left
-abbrev pub laneTimes : ℕ → ℕ → List Factor → Factor → List Factor
-laneTimes t i fs f = set fs (laneOf i) (times t (getD fs (laneOf i) (unit t)) f)
+-- the rates of a lane: `skip` rates are left out, the next is taken, and after it every eighth
+unfoldable pub everyEighth : ℕ → List Factor → List Factor
+everyEighth skip [] = []
+everyEighth zero (f ∷ fs) = f ∷ everyEighth 7 fs
+everyEighth (suc skip) (f ∷ fs) = everyEighth skip fs
 
--- eight lanes at plus, 2^t, 0, and the piece's rates, counted from 0
-unfoldable pub lanes : ℕ → List Factor → List Factor
-lanes t rates = feed (laneTimes t) 0 (replicate 8 (unit t)) rates
+-- lane k multiplies its rates in order, from plus, 2^t, 0 on the left
+unfoldable pub laneProduct : ℕ → List Factor → ℕ → Factor
+laneProduct t rates k = foldl (times t) (unit t) (everyEighth k rates)
 
 -- lanes 0 to 7 multiplied in order, from plus, 2^t, 0 on the left
-unfoldable pub pieceProduct : ℕ → List Factor → Factor
-pieceProduct t rates = inOrder (λ (k : ℕ) (p : Factor). times t p (getD (lanes t rates) k (unit t))) 8 (unit t)
+unfoldable pub plainPiece : ℕ → List Factor → Factor
+plainPiece t rates = foldl (times t) (unit t) (map (laneProduct t rates) (0 ∷ 1 ∷ 2 ∷ 3 ∷ 4 ∷ 5 ∷ 6 ∷ 7 ∷ []))
 
 -- The first piece's factor is taken as it is; each later one multiplies the product so far, from the right.
 unfoldable pub listProduct : ℕ → List (List Factor) → Factor
 listProduct t [] = unit t
-listProduct t (p ∷ ps) = foldl (times t) (pieceProduct t p) (map (pieceProduct t) ps)
+listProduct t (p ∷ ps) = foldl (times t) (plainPiece t p) (map (plainPiece t) ps)
 
 -- The plain product of a list of pieces, each a list of rates as bit patterns, none of them bad.
 unfoldable pub plainProduct : ℕ → ℕ → List (List ℕ) → Factor

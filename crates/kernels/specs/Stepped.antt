@@ -1,4 +1,4 @@
--- Stepped lanes (`lanes_strided`), over the values of a piece, bad ones too. Definitions only.
+-- Rule A5, stepped lanes (`lanes_strided`), over the values of a piece, bad ones too.
 use Prim.Native.Nat.{ℕ}
 use mathlib.Core.Bool.{false}
 use mathlib.Core.List.{List}

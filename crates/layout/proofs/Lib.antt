@@ -5,3 +5,4 @@ pub mod Sorting
 pub mod Fusing
 pub mod Compiling
 pub mod Line
+pub mod Theorems

@@ -1,4 +1,4 @@
--- Axes (document 01, "Layout", rule 3) and the table that holds them.
+-- Rules L3 and L5: an axis with its reset, and the table places that hold axes.
 use Prim.Native.Nat.{ℕ, _-_}
 use mathlib.Core.Bool.{Bool, _&&_}
 use mathlib.Core.List.{List, _++_}
@@ -15,11 +15,11 @@ PLACES = 8
 unfoldable pub span : ℕ → ℤ → ℤ
 span n s = s *ℤ pos (n - 1)
 
--- an axis of the paper's size and stride, with its reset: -(size - 1) × stride
+-- an axis of this size and stride, with its reset: -(size - 1) × stride
 unfoldable pub axisOf : ℕ → ℤ → ReduceOuterAxis
 axisOf n s = record { extent = n; «source_step» = s; «source_reset» = negℤ (span n s) }
 
--- rule 3: size - 1, the product and the product with its sign turned must fit i64
+-- rule L3: size - 1, the product and the product with its sign turned must fit i64
 unfoldable pub resetFits : ℕ → ℤ → Bool
 resetFits n s = fitsI64 (pos (n - 1)) && fitsI64 (span n s) && fitsI64 (negℤ (span n s))
 

@@ -1,4 +1,4 @@
--- Compiling a layout: rules 1 and 5 of document 01, refusals 1 to 4, and the answer.
+-- Rule C1, compiling a layout: rules L1 and L5, refusals R1 to R4, and the answer.
 use Prim.Native.Nat.{ℕ, zero, suc, _*_, _^_}
 use mathlib.Core.Bool.{Bool, true, false, cond, not}
 use mathlib.Core.List.{List, [], _∷_}
@@ -14,7 +14,7 @@ use Rattle.layout.specs.Axes.{PLACES, placesOf}
 use Rattle.layout.specs.Order.{keptAxes, axesOf, resetsFit}
 use Rattle.layout.specs.Fuse.{fuse}
 
--- rule 1: the product of the sizes, left to right, checked at each step
+-- rule L1: the product of the sizes, left to right, checked at each step
 unfoldable pub totalFrom : ℕ → List ℕ → Option ℕ
 totalFrom t [] = some t
 totalFrom t (n ∷ ns) = cond (ltb (t * n) (2 ^ 64)) (totalFrom (t * n) ns) none
@@ -22,20 +22,20 @@ totalFrom t (n ∷ ns) = cond (ltb (t * n) (2 ^ 64)) (totalFrom (t * n) ns) none
 unfoldable pub totalOf : List ℕ → Option ℕ
 totalOf sizes = totalFrom 1 sizes
 
--- rules 2 to 4: the fused axes, where every check holds
+-- rules L2 to L4: the fused axes, where every check holds
 unfoldable pub fusedOf : List ℕ → List ℤ → Option (List ReduceOuterAxis)
 fusedOf sizes strides = cond (resetsFit (keptAxes sizes strides)) (fuse (axesOf sizes strides)) none
 
--- rule 5: the first axis is the run, the others are outer
+-- rule L5: the first axis is the run, the others are outer
 unfoldable pub layoutOf : ℕ → List ReduceOuterAxis → FullTraversal
 layoutOf t [] = record { total = t; «run_len» = 1; «run_stride» = pos 1; «axis_count» = 0; «run_axes» = placesOf [] }
 layoutOf t (a ∷ xs) = record { total = t; «run_len» = a .extent; «run_stride» = a .«source_step»; «axis_count» = length xs; «run_axes» = placesOf xs }
 
--- the layout of total 0
+-- rule L1: the layout of total 0
 unfoldable pub emptyLayout : FullTraversal
 emptyLayout = record { total = 0; «run_len» = 0; «run_stride» = pos 1; «axis_count» = 0; «run_axes» = placesOf [] }
 
--- rules 1 to 5: the layout, unless a check of rules 1, 3 or 4 overflows
+-- rules L1 to L5: the layout, unless a check of rules L1, L3 or L4 overflows
 unfoldable pub traversalAt : List ℕ → List ℤ → Option ℕ → Option FullTraversal
 traversalAt sizes strides none = none
 traversalAt sizes strides (some t) =
@@ -52,7 +52,7 @@ unfoldable pub aboveMost : Option ℕ → Bool
 aboveMost none = false
 aboveMost (some t) = ltb (2 ^ 40) t
 
--- refusals 1 to 4, in rank
+-- rules R1 to R4, in rank
 unfoldable pub compileRefusals : List ℕ → List ℤ → List Refusal
 compileRefusals sizes strides =
     (STRIDE_LENGTH_MISMATCH, not (eqb (length sizes) (length strides)))
@@ -61,13 +61,13 @@ compileRefusals sizes strides =
     ∷ (TOO_MANY_ELEMENTS, aboveMost (totalOf sizes))
     ∷ []
 
--- the layout beside a code
+-- rule R0: the layout beside a code
 unfoldable pub layoutBeside : ℕ → Option FullTraversal → FullTraversal
 layoutBeside zero (some l) = l
 layoutBeside zero none = emptyLayout
 layoutBeside (suc n) l = emptyLayout
 
--- the whole answer: the code, and beside a refusal the layout of total 0
+-- rule C1, the whole answer: the code, and beside a refusal the layout of total 0
 unfoldable pub compileOf : List ℕ → List ℤ → Compiled
 compileOf sizes strides =
     record {

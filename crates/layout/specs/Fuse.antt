@@ -1,4 +1,4 @@
--- Rule 4 of document 01: from left to right, axes that meet become one.
+-- Rule L4: from left to right, axes that meet become one.
 use Prim.Native.Nat.{_*_}
 use mathlib.Core.Bool.{cond}
 use mathlib.Core.List.{List, [], _∷_, _++_}
@@ -14,7 +14,7 @@ use Rattle.layout.specs.Axes.{axisOf, resetFits}
 unfoldable pub reach : ReduceOuterAxis → ℤ
 reach a = a .«source_step» *ℤ pos (a .extent)
 
--- an axis and the next: the reach must fit; if it equals the next stride, the two become one, sizes multiplied, step kept, rule 3 checked again
+-- an axis and the next: the reach must fit; if it equals the next stride, the two become one, sizes multiplied, step kept, rule L3 checked again
 unfoldable pub joinOf : ReduceOuterAxis → ReduceOuterAxis → Joined
 joinOf a b =
     cond (fitsI64 (reach a))

@@ -5,3 +5,4 @@ pub mod Compile
 pub mod Sorting
 pub mod InnerTables
 pub mod InnerAnswers
+pub mod Theorems

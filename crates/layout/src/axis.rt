@@ -62,7 +62,7 @@ fn last_of(extent: u64) -> u64
     if extent == 0 { 0 } else { extent - 1 }
 }
 
-// Rule 3: what brings the offset from the axis's last element back to its first.
+// Rule L3: what brings the offset from the axis's last element back to its first.
 pub fn checked_reduce_reset(extent: u64, step: i64) -> CheckedI64
     ensures { λ r. ⌜ r ≡ keepI (resetFits extent step) (negℤ (span extent step)) ⌝ }
 {

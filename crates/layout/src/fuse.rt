@@ -1,4 +1,4 @@
-// Rule 4: axes that meet become one.
+// Rule L4: axes that meet become one.
 ghost use mathlib.Core.Path.{_≡_};
 ghost use mathlib.Core.List.{[], _∷_, _++_};
 ghost use Prim.Native.Nat.{_<_};

@@ -1,4 +1,4 @@
-// FullTraversal: a layout compiled by rules 1 to 5 of document 01.
+// FullTraversal: a layout compiled by rules L1 to L5.
 pub mod axis;
 pub mod fuse;
 pub mod order;

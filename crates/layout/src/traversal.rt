@@ -1,4 +1,4 @@
-// FullTraversal: rules 1 and 5, and the whole compile.
+// FullTraversal: rules L1 and L5, and the whole compile.
 ghost use mathlib.Core.Path.{_≡_};
 ghost use mathlib.Core.List.{[], _∷_};
 ghost use lib.ListN.{drop};
@@ -28,7 +28,7 @@ pub struct Compiled {
     pub traversal: FullTraversal,
 }
 
-// Rule 1.
+// Rule L1.
 pub fn checked_total(sizes: &[u64]) -> CheckedU64
     ensures { λ r. ⌜ r ≡ checkedOr (totalOf (now (sizes .entry))) ⌝ }
 {
@@ -78,7 +78,7 @@ fn after_first(table: AxisTable) -> AxisTable
     out
 }
 
-// Rule 5: the first axis is the run, the others are outer.
+// Rule L5: the first axis is the run, the others are outer.
 fn with_run(total: u64, fused: AxisTable) -> FullTraversal
     requires { ⌜ CleanTable fused ⌝ }
     ensures { λ r. ⌜ r ≡ layoutOf total (tableAxes fused) ⌝ }

@@ -1,4 +1,4 @@
--- Document 01's marked layout cases hold of the definitions.
+-- The layout cases that the rules fix hold of the definitions.
 -- Assumes nothing.
 use mathlib.Core.Path.{_≡_, refl}
 use mathlib.Core.Bool.{true}
@@ -11,7 +11,12 @@ use Rattle.layout.specs.Compile.{totalFrom, totalOf, fusedOf, layoutOf, emptyLa
 use Rattle.offsets.specs.Elements.{digits, shift, offset, insideValues, everyBelow, allInside}
 use Rattle.offsets.specs.Lists.{totalIn, rangeRefusals, listCode, offsetsFrom, listBuffer}
 use Rattle.offsets.specs.Cases.{compiles, refuses, sameZ, lists, layoutTable}
+use Rattle.offsets.specs.Deciding.{codes, layoutDeciding}
 
 pub layout-table : layoutTable ≡ true
 unfolding fitsI64 eqZ span axisOf resetFits placesOf keptAxes rank precedes insertAxis orderFrom axesOf resetsFit reach joinOf fuseFrom fuse totalFrom totalOf fusedOf layoutOf emptyLayout traversalAt traversalOf firstOf overflows aboveMost compileRefusals layoutBeside compileOf digits shift offset insideValues everyBelow allInside totalIn rangeRefusals listCode offsetsFrom listBuffer compiles refuses sameZ lists layoutTable
 layout-table = refl
+
+pub layout-deciding : layoutDeciding ≡ true
+unfolding fitsI64 eqZ span axisOf resetFits placesOf keptAxes rank precedes insertAxis orderFrom axesOf resetsFit reach joinOf fuseFrom fuse totalFrom totalOf fusedOf layoutOf emptyLayout traversalAt traversalOf firstOf overflows aboveMost compileRefusals layoutBeside compileOf digits shift offset insideValues everyBelow allInside totalIn rangeRefusals listCode offsetsFrom listBuffer compiles refuses sameZ lists codes layoutDeciding
+layout-deciding = refl

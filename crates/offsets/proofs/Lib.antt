@@ -6,3 +6,4 @@ pub mod Ranges
 pub mod Walking
 pub mod Writing
 pub mod Cases
+pub mod Theorems

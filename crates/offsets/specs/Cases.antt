@@ -1,4 +1,4 @@
--- The layout cases that document 01 marks with *, as one table. Each row computes to true.
+-- The layout cases of docs/RULES.md ("Cases that the rules fix"), as one table. Each row computes to true.
 use Prim.Native.Nat.{ℕ, _^_, _+_}
 use mathlib.Core.Bool.{Bool, true, false, _&&_}
 use mathlib.Core.List.{List, [], _∷_}

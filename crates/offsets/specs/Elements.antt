@@ -1,4 +1,4 @@
--- Where the elements of a layout lie (document 01, "Layout"): element k lies at base plus the sum of digit × stride over the axes, the digits being k in mixed radix, first axis fastest.
+-- Rule L6, where the elements of a layout lie: element k lies at base plus the sum of digit × stride over the axes, the digits being k in mixed radix, first axis fastest.
 use Prim.Native.Nat.{ℕ, zero, suc, _*_, _/_, _%_, _^_}
 use mathlib.Core.Bool.{Bool, true, _&&_}
 use mathlib.Core.List.{List, [], _∷_}
@@ -25,7 +25,7 @@ unfoldable pub elements : List ReduceOuterAxis → ℕ
 elements [] = 1
 elements (a ∷ xs) = a .extent * elements xs
 
--- an offset that refusal 7 lets through: not below 0, not past 2^63 - 1, not at or past the values' length
+-- rule R7, an offset that it lets through: not below 0, not past 2^63 - 1, not at or past the values' length
 unfoldable pub insideValues : ℕ → ℤ → Bool
 insideValues length z = leZ (pos 0) z && ltZ z (pos (2 ^ 63)) && ltZ z (pos length)
 

@@ -1,8 +1,10 @@
 pub mod Elements
 pub mod Lists
 pub mod Cases
+pub mod Deciding
 pub mod Pieces
 pub mod InnerBounds
 pub mod InnerCursors
 pub mod InnerLists
 pub mod InnerPieces
+pub mod Theorems

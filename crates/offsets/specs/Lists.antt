@@ -1,4 +1,4 @@
--- The refusals of a range, and the offset list (document 01, "Refused calls").
+-- Rules R5 to R8, the refusals of a range, and rule L8, the offset list.
 use Prim.Native.Nat.{ℕ, zero, suc, _-_}
 use mathlib.Core.Bool.{cond, not}
 use mathlib.Core.List.{List, [], _∷_, _++_}
@@ -15,7 +15,7 @@ use Rattle.offsets.specs.Elements.{offset, allInside}
 unfoldable pub totalIn : List ℕ → List ℤ → ℕ
 totalIn sizes strides = (compileOf sizes strides) .traversal .total
 
--- refusals 5 to 7, in rank
+-- rules R5 to R7, in rank
 unfoldable pub rangeRefusals : List ℕ → List ℤ → ℤ → ℕ → ℕ → ℕ → List Refusal
 rangeRefusals sizes strides base start end length =
     (EMPTY_RANGE, leb end start)
@@ -28,7 +28,7 @@ unfoldable pub rangeCode : List ℕ → List ℤ → ℤ → ℕ → ℕ → ℕ
 rangeCode sizes strides base start end length =
     firstOf (compileRefusals sizes strides ++ rangeRefusals sizes strides base start end length)
 
--- the code of a list call: 8 for a buffer of `room` places that is too short
+-- rule C2, the code of a list call: 8 for a buffer of `room` places that is too short
 unfoldable pub listCode : List ℕ → List ℤ → ℤ → ℕ → ℕ → ℕ → ℕ → ℕ
 listCode sizes strides base start end length room =
     firstOf (compileRefusals sizes strides ++ rangeRefusals sizes strides base start end length ++ (BUFFER_TOO_SHORT, ltb room (end - start)) ∷ [])
@@ -38,7 +38,7 @@ unfoldable pub offsetsFrom : List ReduceOuterAxis → ℤ → ℕ → ℕ → Li
 offsetsFrom xs base k zero = []
 offsetsFrom xs base k (suc n) = offset xs base k ∷ offsetsFrom xs base (suc k) n
 
--- the buffer after a list call: an accepted call fills the first end - start places, and changes no other
+-- rules L8 and R0, the buffer after a list call: an accepted call fills the first end - start places, and changes no other
 unfoldable pub listBuffer : List ℕ → List ℤ → ℤ → ℕ → ℕ → ℕ → List ℤ → List ℤ
 listBuffer sizes strides base start end len out =
     cond (eqb (listCode sizes strides base start end len (length out)) 0)

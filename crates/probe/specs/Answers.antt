@@ -1,4 +1,4 @@
--- What a C host is handed of a reduction's answer: a code, and three places that a refusal leaves as they were. Definitions only.
+-- Rule C6: what a C host is handed of a reduction's answer: a code, and three places that a refusal leaves as they were.
 use Prim.Native.Nat.{ℕ}
 use mathlib.Core.Bool.{Bool}
 use lib.IntN.{ℤ}

@@ -1,4 +1,4 @@
--- Demand 3 of a range, whatever its layout: the mark, the plain product, and that the answer stands.
+-- Rule D3 of a range, whatever its layout: the mark, the plain product, and that the answer stands.
 -- Assumes nothing.
 use Prim.Native.Nat.{ℕ, zero, suc, _+_, _-_, _^_, _≤_, _<_}
 use mathlib.Core.Path.{_≡_, refl, sym, _∙_, ap, subst}
@@ -127,7 +127,7 @@ module _ (l : FullTraversal) (t : Traversal l) (base : ℤ) (b : Bounded (runOf 
           ap (λ (xs : List Float). ratesFrom l base values k (pieceLength (l .«run_len») end k) ++ xs) (f q (omega arith))
           ∙ joined k (pieceLength (l .«run_len») end k) q
 
-  -- ---- demand 3, of the range start to end - 1
+  -- ---- rule D3, of the range start to end - 1
   module _ (start : ℕ) (h : start < end) (few : end ≤ 2 ^ 40) where
     full : Each FullPiece (piecesOf l base values start end)
     full = full-pieces (end - start) start

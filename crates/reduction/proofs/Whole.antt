@@ -1,4 +1,4 @@
--- Demand 3, whole: of every accepted range of every layout, over the reduction's answer and what finishing makes of it.
+-- Rule D3, whole: of every accepted range of every layout, over the reduction's answer and what finishing makes of it.
 -- Assumes that each value is one of binary64, as every f64 is.
 use Prim.Native.Nat.{ℕ, zero, suc, _-_}
 use mathlib.Core.Path.{_≡_, refl, sym, _∙_, ap, subst}
@@ -28,6 +28,7 @@ use Rattle.kernels.specs.Lanes.{Each, some}
 use Rattle.kernels.specs.Plain.{plainProduct}
 use Rattle.kernels.specs.Pieces.{Piece, patternsOf, accOf}
 use Rattle.reduction.specs.Ranges.{valueAt, piecesOf, ratesOf, visitedRates, rangeProduct, reduceOf}
+use Rattle.reduction.specs.Theorems.{RuleD3, RuleD3Law}
 use Rattle.reduction.proofs.Calls.{reduce-accepted}
 use Rattle.reduction.proofs.Demand.{range-rates, range-mark, range-in-limits, range-agrees}
 
@@ -55,26 +56,11 @@ answer-acc (Acc b) a e = ap Acc (same (ap answer-m e) (ap (answer-e (a .e)) e) (
     same : b .m ≡ a .m → b .e ≡ a .e → b .bad ≡ a .bad → b ≡ a
     same p q r = rw (p, q, r) refl
 
--- ---- what demand 3 says of an answer `a` to the range
-pub record Demand3 (ns : List ℕ) (ss : List ℤ) (base : ℤ) (start end : ℕ) (values : List Float) (a : StableProductFloatAcc) : Type 0 where
-  -- the call is accepted, and this is its answer
-  pub answer : reduceOf ns ss base start end values ≡ answerOf (Acc a)
-  -- the pieces hold the visited rates, in order
-  pub rates : ratesOf (piecesOf ((compileOf ns ss) .traversal) base values start end) ≡ visitedRates ns ss base start end values
-  -- the mark is set exactly if a visited rate is zero, subnormal, infinite or NaN
-  pub mark : a .bad ≡ some isBad (visitedRates ns ss base start end values)
-  -- not bad: m and e are the plain product's over the pieces
-  pub plain : a .bad ≡ false → a ≡ accOf (plainProduct 11 52 (patternsOf (piecesOf ((compileOf ns ss) .traversal) base values start end)))
-  -- 1 <= |m| < 2, bad or not
-  pub unit : inUnit (a .m) ≡ true
-  -- finishing the answer gives m × 2^e rounded once, or the NaN of a bad mark; never a refusal
-  pub once : (r : Reduced) → answerOf r ≡ reduceOf ns ss base start end values → a .bad ≡ false → finishedOf r ≡ value (roundedOnce (factorOfAcc a))
-  pub marked : (r : Reduced) → answerOf r ≡ reduceOf ns ss base start end values → a .bad ≡ true → finishedOf r ≡ value nan
-
+-- ---- rule D3
 module _ (ns : List ℕ) (ss : List ℤ) (base : ℤ) (start end : ℕ) (values : List Float) (v : Each (λ (x : Float). T (fits binary64 x)) values)
     (e : rangeCode ns ss base start end (length values) ≡ 0) where
-  pub demand-3 : Demand3 ns ss base start end values (rangeProduct ns ss base start end values)
-  demand-3 =
+  range-rule : RuleD3 ns ss base start end values (rangeProduct ns ss base start end values)
+  range-rule =
       let l = (compileOf ns ss) .traversal in
       let g = ranged ns ss base start end (length values) e in
       let a = ranged-accepted ns ss base start end (length values) g in
@@ -94,3 +80,6 @@ module _ (ns : List ℕ) (ss : List ℤ) (base : ℤ) (start end : ℕ) (values 
         once = λ q t k. ap finishedOf (answer-acc q r (t ∙ answer)) ∙ finished-once r up k;
         marked = λ q t k. ap finishedOf (answer-acc q r (t ∙ answer)) ∙ finished-bad r up k;
       }
+
+pub rule-D3 : RuleD3Law
+rule-D3 = range-rule

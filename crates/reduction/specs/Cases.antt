@@ -1,4 +1,4 @@
--- Every case that document 01 marks with *, layouts and products and finishing, as one table. Each row computes to true.
+-- Every case of docs/RULES.md ("Cases that the rules fix"), layouts and products and finishing, as one table. Each row computes to true.
 use Prim.Native.Nat.{ℕ}
 use mathlib.Core.Bool.{Bool, true, false, _&&_, Bool·beq}
 use mathlib.Core.List.{List, [], _∷_}
@@ -21,19 +21,19 @@ unfolding tells
 reduces n stride values m e bad = tells (reduceOf (n ∷ []) (stride ∷ []) (pos 0) 0 n values) m e bad
 
 -- 0.0, 1.0, 1.5, 2.0 and 3.0
-abbrev zeroF : Float
+abbrev pub zeroF : Float
 zeroF = fin false 0 (pos 0)
 
-abbrev oneF : Float
+abbrev pub oneF : Float
 oneF = fin false 1 (pos 0)
 
-abbrev oneHalf : Float
+abbrev pub oneHalf : Float
 oneHalf = fin false 3 (negsuc 0)
 
-abbrev twoF : Float
+abbrev pub twoF : Float
 twoF = fin false 1 (pos 1)
 
-abbrev threeF : Float
+abbrev pub threeF : Float
 threeF = fin false 3 (pos 0)
 
 -- each product in both ways: side by side, and a stride apart

@@ -1,4 +1,4 @@
--- A range's pieces with their rates (document 01, "Accumulator"). Definitions only.
+-- Rules A6 and C3: the pieces of a range with their rates, and the full reduction.
 use Prim.Native.Nat.{ℕ, zero, suc, _+_, _-_}
 use mathlib.Core.Bool.{cond}
 use mathlib.Core.List.{List, [], _∷_, _++_, map}
@@ -43,7 +43,7 @@ unfoldable pub ratesOf : List Piece → List Float
 ratesOf [] = []
 ratesOf (p ∷ ps) = p .rates ++ ratesOf ps
 
--- the rates that a range visits: element k lies where the axes of rule 2 put it
+-- the rates that a range visits: element k lies where the axes of rule L2 put it (rule L6)
 abbrev pub visitedRates : List ℕ → List ℤ → ℤ → ℕ → ℕ → List Float → List Float
 visitedRates sizes strides base start end values = map (valueAt values) (offsetsFrom (axesOf sizes strides) base start (end - start))
 
@@ -51,7 +51,7 @@ visitedRates sizes strides base start end values = map (valueAt values) (offsets
 abbrev pub rangeProduct : List ℕ → List ℤ → ℤ → ℕ → ℕ → List Float → StableProductFloatAcc
 rangeProduct sizes strides base start end values = joinedPieces (piecesOf ((compileOf sizes strides) .traversal) base values start end)
 
--- the full reduction: the number of the refusal, 1 to 7, or the range's product
+-- rule C3, the full reduction: the number of the refusal, 1 to 7, or the range's product
 unfoldable pub reduceOf : List ℕ → List ℤ → ℤ → ℕ → ℕ → List Float → Answer
 reduceOf sizes strides base start end values =
     let code = rangeCode sizes strides base start end (length values) in

@@ -19,7 +19,7 @@ use Rattle.floats.proofs.Splitting.{rate-normal}
 use Rattle.accumulator.specs.declared.StableProductFloatAcc.{StableProductFloatAcc}
 use Rattle.kernels.specs.declared.lanes.Lanes.{Lanes}
 use Rattle.kernels.specs.Lanes.{Each, none, more, feed, laneOf, inOrder, every, some}
-use Rattle.kernels.specs.Plain.{laneTimes, lanes, pieceProduct}
+use Rattle.kernels.specs.InnerPlain.{laneTimes, lanes, pieceProduct}
 use Rattle.kernels.specs.Pieces.{GoodRate, accOf}
 use Rattle.kernels.specs.Blocks.{startLanes, mOf, eOf, contiguous}
 use Rattle.kernels.specs.InnerLanes.{SmallLanes, Represents, LanesRepresent, LanesAfter}

@@ -12,7 +12,7 @@ use Rattle.floats.specs.Factor.{Factor, unit}
 use Rattle.floats.specs.Splitting.{isBad, rateFactor}
 use Rattle.kernels.specs.declared.lanes.Lanes.{Lanes}
 use Rattle.kernels.specs.Lanes.{Each, feed, every, some}
-use Rattle.kernels.specs.Plain.{laneTimes}
+use Rattle.kernels.specs.InnerPlain.{laneTimes}
 use Rattle.kernels.specs.Pieces.{GoodRate}
 use Rattle.kernels.specs.Blocks.{mOf, eOf, renorm}
 use Rattle.kernels.specs.InnerLanes.{LanesRepresent, LanesAfter}

@@ -18,7 +18,7 @@ use Rattle.floats.specs.Splitting.{isBad, rateFactor, split}
 use Rattle.floats.proofs.Overflow.{isLost, lost-product, lost-factor}
 use Rattle.kernels.specs.declared.lanes.Lanes.{Lanes}
 use Rattle.kernels.specs.Lanes.{Each, none, more, feed, laneOf, every, some}
-use Rattle.kernels.specs.Plain.{laneTimes}
+use Rattle.kernels.specs.InnerPlain.{laneTimes}
 use Rattle.kernels.specs.Pieces.{GoodRate}
 use Rattle.kernels.specs.Blocks.{mOf, eOf, unsplitStep, splitStep, renorm}
 use Rattle.kernels.specs.InnerLanes.{SmallLanes, LanesRepresent, LanesAfter}

@@ -14,7 +14,7 @@ use Rattle.floats.specs.Splitting.{isBad, rateFactor, split}
 use Rattle.floats.proofs.Overflow.{isLost}
 use Rattle.accumulator.specs.declared.StableProductFloatAcc.{StableProductFloatAcc}
 use Rattle.kernels.specs.Lanes.{Each, none, more, feed, inOrder, every, some}
-use Rattle.kernels.specs.Plain.{laneTimes, lanes, pieceProduct}
+use Rattle.kernels.specs.InnerPlain.{laneTimes, lanes, pieceProduct}
 use Rattle.kernels.specs.Pieces.{GoodRate, accOf}
 use Rattle.kernels.specs.Blocks.{startLanes, contiguous}
 use Rattle.kernels.proofs.Feeding.{each-map, some-none}

@@ -13,7 +13,7 @@ use lib.Ieee.{Float, nan, binary64, fits}
 use borrow.Author.Tests.{ltb-true, ltb-false}
 use Rattle.kernels.specs.declared.lanes.Lanes.{Lanes}
 use Rattle.kernels.specs.Lanes.{Each, every, feed}
-use Rattle.kernels.specs.Plain.{laneTimes}
+use Rattle.kernels.specs.InnerPlain.{laneTimes}
 use Rattle.kernels.specs.InnerStrided.{strided}
 use Rattle.kernels.specs.Blocks.{startLanes, renorm}
 use Rattle.kernels.specs.InnerLanes.{SmallLanes, LanesAfter}

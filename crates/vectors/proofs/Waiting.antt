@@ -17,7 +17,7 @@ use Rattle.floats.specs.Factor.{Factor, unit, times}
 use Rattle.floats.specs.Splitting.{isBad, rateFactor}
 use Rattle.floats.proofs.Overflow.{isLost, lost-product, lost-factor}
 use Rattle.kernels.specs.Lanes.{Each, none, more, feed, laneOf, every}
-use Rattle.kernels.specs.Plain.{laneTimes}
+use Rattle.kernels.specs.InnerPlain.{laneTimes}
 use Rattle.kernels.specs.Pieces.{GoodRate}
 use Rattle.kernels.proofs.Feeding.{and-both}
 use Rattle.kernels.proofs.Factors.{lane-lt, set-cases}

@@ -1,0 +1,14 @@
+-- The statements of specs/Theorems hold.
+use Rattle.floats.specs.Theorems.{ProductLaw, WholeNumberLaw, SplittingLaw}
+use Rattle.floats.proofs.Product.{mul-binary64}
+use Rattle.floats.proofs.Bridge.{product-times}
+use Rattle.floats.proofs.Splitting.{split-unit, split-factor}
+
+pub product-law : ProductLaw
+product-law = mul-binary64
+
+pub whole-number-law : WholeNumberLaw
+whole-number-law = product-times
+
+pub splitting-law : SplittingLaw
+splitting-law x = record { unit = split-unit x; factor = split-factor x }
