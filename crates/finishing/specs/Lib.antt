@@ -2,6 +2,5 @@
 pub mod Once
 pub mod Finishing
 pub mod Cases
-pub mod Deciding
 pub mod InnerFinishing
 pub mod Theorems

@@ -11,4 +11,4 @@ pub whole-number-law : WholeNumberLaw
 whole-number-law = product-times
 
 pub splitting-law : SplittingLaw
-splitting-law x = record { unit = split-unit x; factor = split-factor x }
+splitting-law x = (split-unit x, split-factor x)

@@ -18,9 +18,5 @@ WholeNumberLaw =
     → productOf 11 52 (floatOf 11 52 f) (floatOf 11 52 g) ≡ floatOf 11 52 (times 52 f g)
 
 -- Rule A2: split, every rate has 1 <= |m| < 2, and m and e are its factor.
-pub record SplitRate (x : Float) : Type 0 where
-  pub unit : inUnit (split x .m) ≡ true
-  pub factor : factorAt 52 (split x .m) (split x .e) ≡ rateFactor x
-
 abbrev pub SplittingLaw : Type 0
-SplittingLaw = (x : Float) → SplitRate x
+SplittingLaw = (x : Float) → (inUnit (split x .m) ≡ true) × (factorAt 52 (split x .m) (split x .e) ≡ rateFactor x)

@@ -11,7 +11,7 @@ use Rattle.layout.specs.Theorems.{SortedAxes, WholeRecord}
 use Rattle.layout.proofs.Sorting.{permutation, sorted, stable}
 
 pub sorted-axes : SortedAxes
-sorted-axes ns ss = record { permutation = λ p. permutation p ns ss; sorted = sorted ns ss; stable = λ r. stable r ns ss }
+sorted-axes ns ss = (λ p. permutation p ns ss, sorted ns ss, λ r. stable r ns ss)
 
 pub whole-record : WholeRecord
 unfolding firstOf fitsI64 eqZ span axisOf resetFits placesOf keptAxes rank precedes insertAxis orderFrom axesOf resetsFit reach joinOf fuseFrom fuse

@@ -55,11 +55,8 @@ aboveMost (some t) = ltb (2 ^ 40) t
 -- rules R1 to R4, in rank
 unfoldable pub compileRefusals : List ℕ → List ℤ → List Refusal
 compileRefusals sizes strides =
-    (STRIDE_LENGTH_MISMATCH, not (eqb (length sizes) (length strides)))
-    ∷ (TOO_MANY_AXES, ltb PLACES (length sizes))
-    ∷ (OFFSET_OVERFLOW, overflows (traversalOf sizes strides))
-    ∷ (TOO_MANY_ELEMENTS, aboveMost (totalOf sizes))
-    ∷ []
+    (STRIDE_LENGTH_MISMATCH, not (eqb (length sizes) (length strides))) ∷ (TOO_MANY_AXES, ltb PLACES (length sizes))
+    ∷ (OFFSET_OVERFLOW, overflows (traversalOf sizes strides)) ∷ (TOO_MANY_ELEMENTS, aboveMost (totalOf sizes)) ∷ []
 
 -- rule R0: the layout beside a code
 unfoldable pub layoutBeside : ℕ → Option FullTraversal → FullTraversal
@@ -70,7 +67,4 @@ layoutBeside (suc n) l = emptyLayout
 -- rule C1, the whole answer: the code, and beside a refusal the layout of total 0
 unfoldable pub compileOf : List ℕ → List ℤ → Compiled
 compileOf sizes strides =
-    record {
-      code = firstOf (compileRefusals sizes strides);
-      traversal = layoutBeside (firstOf (compileRefusals sizes strides)) (traversalOf sizes strides);
-    }
+    record { code = firstOf (compileRefusals sizes strides); traversal = layoutBeside (firstOf (compileRefusals sizes strides)) (traversalOf sizes strides) }

@@ -19,9 +19,7 @@ unfoldable pub joinOf : ReduceOuterAxis → ReduceOuterAxis → Joined
 joinOf a b =
     cond (fitsI64 (reach a))
     (cond (eqZ (reach a) (b .«source_step»))
-    (cond (resetFits (a .extent * b .extent) (a .«source_step»)) (One (axisOf (a .extent * b .extent) (a .«source_step»))) Overflow)
-    Two)
-    Overflow
+    (cond (resetFits (a .extent * b .extent) (a .«source_step»)) (One (axisOf (a .extent * b .extent) (a .«source_step»))) Overflow) Two) Overflow
 
 -- the axes done, the axis so far, those that follow; none where a check fails
 unfoldable pub fuseFrom : List ReduceOuterAxis → ReduceOuterAxis → List ReduceOuterAxis → Option (List ReduceOuterAxis)

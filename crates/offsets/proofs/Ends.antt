@@ -16,7 +16,8 @@ use lib.Signed.{leZ, ltZ, _≤ℤ_, _<ℤ_}
 use Rattle.integers.proofs.Difference.{ints, atoms}
 use Rattle.layout.specs.declared.axis.ReduceOuterAxis.{ReduceOuterAxis}
 use Rattle.layout.specs.Axes.{span}
-use Rattle.offsets.specs.Elements.{digits, shift, offset, elements, insideValues, everyBelow, allInside}
+use Rattle.offsets.specs.Elements.{digits, shift, offset, insideValues, everyBelow, allInside}
+use Rattle.offsets.specs.InnerCursors.{elements}
 use Rattle.offsets.specs.InnerBounds.{negativePart, positivePart, lowSum, highSum, lowestOffset, highestOffset}
 use Rattle.offsets.specs.InnerCursors.{Axes, Bounded}
 

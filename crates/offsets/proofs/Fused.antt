@@ -33,7 +33,8 @@ use Rattle.offsets.specs.InnerCursors.{Traversal, Axis, Axes}
 use Rattle.offsets.proofs.Ends.{and-left, and-right}
 use Rattle.layout.specs.Fuse.{reach, joinOf, fuseFrom, fuse}
 use Rattle.layout.proofs.Fusing.{join-over, join-two, join-no-reset, join-one, fused-one, fused-two, fused-over, some-inj, none-some, length-fuse}
-use Rattle.offsets.specs.Elements.{digits, shift, offset, elements}
+use Rattle.offsets.specs.Elements.{digits, shift, offset}
+use Rattle.offsets.specs.InnerCursors.{elements}
 use Rattle.offsets.proofs.Stepping.{offset-cons}
 
 -- the same elements at the same offsets

@@ -20,11 +20,6 @@ shift (a ∷ xs) (d ∷ ds) = a .«source_step» *ℤ pos d +ℤ shift xs ds
 unfoldable pub offset : List ReduceOuterAxis → ℤ → ℕ → ℤ
 offset xs base k = base +ℤ shift xs (digits xs k)
 
--- how many elements the axes have
-unfoldable pub elements : List ReduceOuterAxis → ℕ
-elements [] = 1
-elements (a ∷ xs) = a .extent * elements xs
-
 -- rule R7, an offset that it lets through: not below 0, not past 2^63 - 1, not at or past the values' length
 unfoldable pub insideValues : ℕ → ℤ → Bool
 insideValues length z = leZ (pos 0) z && ltZ z (pos (2 ^ 63)) && ltZ z (pos length)

@@ -1,7 +1,6 @@
 pub mod Elements
 pub mod Lists
 pub mod Cases
-pub mod Deciding
 pub mod Pieces
 pub mod InnerBounds
 pub mod InnerCursors

@@ -18,10 +18,8 @@ totalIn sizes strides = (compileOf sizes strides) .traversal .total
 -- rules R5 to R7, in rank
 unfoldable pub rangeRefusals : List ℕ → List ℤ → ℤ → ℕ → ℕ → ℕ → List Refusal
 rangeRefusals sizes strides base start end length =
-    (EMPTY_RANGE, leb end start)
-    ∷ (RANGE_PAST_END, ltb (totalIn sizes strides) end)
-    ∷ (ELEMENT_OUTSIDE, not (allInside (axesOf sizes strides) (totalIn sizes strides) base length))
-    ∷ []
+    (EMPTY_RANGE, leb end start) ∷ (RANGE_PAST_END, ltb (totalIn sizes strides) end)
+    ∷ (ELEMENT_OUTSIDE, not (allInside (axesOf sizes strides) (totalIn sizes strides) base length)) ∷ []
 
 -- the code of a range: 1 to 7, or 0
 unfoldable pub rangeCode : List ℕ → List ℤ → ℤ → ℕ → ℕ → ℕ → ℕ

@@ -1,11 +1,8 @@
 -- What a C host is handed, in cases, holds of the definitions. Assumes nothing.
-use mathlib.Core.Path.{_≡_, refl}
-use mathlib.Core.Bool.{true}
-use Rattle.integers.specs.Integers.{eqZ}
-use Rattle.finishing.specs.Cases.{sameFloat}
+use mathlib.Core.Path.{refl}
 use Rattle.probe.specs.Answers.{codeGiven, mGiven, eGiven, badGiven}
-use Rattle.probe.specs.Deciding.{handsOut}
+use Rattle.probe.specs.Cases.{HandsOut}
 
-pub hands-out : handsOut ≡ true
-unfolding eqZ sameFloat codeGiven mGiven eGiven badGiven handsOut
-hands-out = refl
+pub hands-out : HandsOut
+unfolding codeGiven mGiven eGiven badGiven
+hands-out = (refl, refl, refl, refl, refl, refl, refl, refl)

@@ -1,3 +1,3 @@
 -- What the static library hands out. Definitions only.
 pub mod Answers
-pub mod Deciding
+pub mod Cases

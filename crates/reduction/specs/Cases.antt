@@ -1,51 +1,65 @@
--- Every case of docs/RULES.md ("Cases that the rules fix"), layouts and products and finishing, as one table. Each row computes to true.
-use Prim.Native.Nat.{ℕ}
-use mathlib.Core.Bool.{Bool, true, false, _&&_, Bool·beq}
-use mathlib.Core.List.{List, [], _∷_}
+-- Two tables of cases: those of docs/RULES.md ("Cases that the rules fix"), and those that no theorem decides. Each row is an equation that holds by computing.
+use Prim.Native.Nat.{ℕ, _+_, _^_}
+use mathlib.Core.Path.{_≡_}
+use mathlib.Core.Bool.{Bool, true, false}
+use mathlib.Core.List.{List, [], _∷_, map}
 use lib.ListN.{replicate}
 use lib.IntN.{ℤ, pos, negsuc}
 use lib.Ieee.{Float, fin}
-use Rattle.integers.specs.Integers.{eqZ}
-use Rattle.accumulator.specs.Joining.{Answer, accumulator, refusal}
-use Rattle.offsets.specs.Cases.{layoutTable}
-use Rattle.finishing.specs.Cases.{sameFloat, finishingTable}
+use Rattle.accumulator.specs.Joining.{accumulator}
+use Rattle.offsets.specs.Cases.{LayoutTable, LayoutDeciding}
+use Rattle.finishing.specs.Cases.{oneHalf, FinishingTable, LimitsDeciding}
 use Rattle.reduction.specs.Ranges.{reduceOf}
 
-unfoldable pub tells : Answer → Float → ℤ → Bool → Bool
-tells (accumulator m e bad) n d mark = sameFloat m n && eqZ e d && Bool·beq bad mark
-tells (refusal k) n d mark = false
+-- 0.0, 1.0, 3.0 and so on
+abbrev pub whole : ℕ → Float
+whole n = fin false n (pos 0)
 
--- reducing one axis of n elements, a stride apart from the first value on, gives this accumulator
-unfoldable pub reduces : ℕ → ℤ → List Float → Float → ℤ → Bool → Bool
-unfolding tells
-reduces n stride values m e bad = tells (reduceOf (n ∷ []) (stride ∷ []) (pos 0) 0 n values) m e bad
-
--- 0.0, 1.0, 1.5, 2.0 and 3.0
-abbrev pub zeroF : Float
-zeroF = fin false 0 (pos 0)
-
-abbrev pub oneF : Float
-oneF = fin false 1 (pos 0)
-
-abbrev pub oneHalf : Float
-oneHalf = fin false 3 (negsuc 0)
-
-abbrev pub twoF : Float
-twoF = fin false 1 (pos 1)
-
-abbrev pub threeF : Float
-threeF = fin false 3 (pos 0)
+-- reducing one axis of n elements from the base on gives this accumulator
+abbrev pub Reduces : ℕ → ℤ → ℤ → List Float → Float → ℤ → Bool → Type 0
+Reduces n stride base values m e bad = reduceOf (n ∷ []) (stride ∷ []) base 0 n values ≡ accumulator m e bad
 
 -- each product in both ways: side by side, and a stride apart
-unfoldable pub productTable : Bool
-unfolding reduces
-productTable =
-    reduces 2 (pos 1) (oneHalf ∷ oneHalf ∷ []) (fin false 9 (negsuc 2)) (pos 1) false
-    && reduces 2 (pos 2) (oneHalf ∷ twoF ∷ oneHalf ∷ []) (fin false 9 (negsuc 2)) (pos 1) false
-    && reduces 64 (pos 1) (replicate 64 twoF) oneF (pos 64) false
-    && reduces 64 (pos 0) (twoF ∷ []) oneF (pos 64) false
-    && reduces 2 (pos 1) (zeroF ∷ threeF ∷ []) oneHalf (negsuc 1021) true
-    && reduces 2 (pos 2) (zeroF ∷ oneF ∷ threeF ∷ []) oneF (pos 0) true
+abbrev pub ProductTable : Type 0
+ProductTable =
+    Reduces 2 (pos 1) (pos 0) (oneHalf ∷ oneHalf ∷ []) (fin false 9 (negsuc 2)) (pos 1) false
+    × Reduces 2 (pos 2) (pos 0) (oneHalf ∷ whole 3 ∷ oneHalf ∷ []) (fin false 9 (negsuc 2)) (pos 1) false
+    × Reduces 64 (pos 1) (pos 0) (replicate 64 (fin false 1 (pos 1))) (whole 1) (pos 64) false
+    × Reduces 64 (pos 0) (pos 0) (fin false 1 (pos 1) ∷ []) (whole 1) (pos 64) false
+    × Reduces 2 (pos 1) (pos 0) (whole 0 ∷ whole 3 ∷ []) oneHalf (negsuc 1021) true
+    × Reduces 2 (pos 2) (pos 0) (whole 0 ∷ whole 1 ∷ whole 3 ∷ []) (whole 1) (pos 0) true
 
-unfoldable pub caseTable : Bool
-caseTable = layoutTable && productTable && finishingTable
+abbrev pub CaseTable : Type 0
+CaseTable = LayoutTable × ProductTable × FinishingTable
+
+-- 1 + 7^k × 2^-52: in a product of several the last bits depend on the order. Nine of them give lane 0 two.
+abbrev pub oddRate : ℕ → Float
+oddRate k = fin false (2 ^ 52 + 7 ^ k) (negsuc 51)
+
+abbrev pub nine : List Float
+nine = map oddRate (16 ∷ 15 ∷ 14 ∷ 13 ∷ 12 ∷ 11 ∷ 10 ∷ 9 ∷ 8 ∷ [])
+
+-- A4, A5: the lane of a value, counted from the piece's first value, not from the run's; the order of lanes; a bad lane among good ones
+abbrev pub LanesDeciding : Type 0
+LanesDeciding =
+    Reduces 9 (pos 1) (pos 0) nine (fin false 70975204821401 (negsuc 45)) (pos 0) false
+    × Reduces 9 (negsuc 0) (pos 8) (map oddRate (8 ∷ 9 ∷ 10 ∷ 11 ∷ 12 ∷ 13 ∷ 14 ∷ 15 ∷ 16 ∷ [])) (fin false 70975204821401 (negsuc 45)) (pos 0) false
+    × (reduceOf (10 ∷ []) (pos 1 ∷ []) (pos 0) 1 10 (oneHalf ∷ nine) ≡ accumulator (fin false 70975204821401 (negsuc 45)) (pos 0) false)
+    × Reduces 2 (pos 2) (pos 0) (oneHalf ∷ whole 3 ∷ whole 0 ∷ []) oneHalf (pos 0) true
+
+-- three runs of two: a × 3, b × 5, c × 7, with a value between them that no element visits
+abbrev pub RunsGive : Float → Float → Float → Float → ℤ → Type 0
+RunsGive a b c m e =
+    reduceOf (2 ∷ 3 ∷ []) (pos 1 ∷ pos 3 ∷ []) (pos 0) 0 6 (a ∷ whole 3 ∷ oneHalf ∷ b ∷ whole 5 ∷ oneHalf ∷ c ∷ whole 7 ∷ []) ≡ accumulator m e true
+
+-- A6: three runs of three from element 1 on, cut and joined from the left; A3: the side that a bad piece keeps, first, in the middle and last
+abbrev pub PiecesDeciding : Type 0
+PiecesDeciding =
+    (reduceOf (3 ∷ 3 ∷ []) (pos 1 ∷ pos 4 ∷ []) (pos 0) 1 9 (map oddRate (18 ∷ 17 ∷ 16 ∷ 1 ∷ 15 ∷ 14 ∷ 13 ∷ 1 ∷ 12 ∷ 11 ∷ 10 ∷ []))
+    ≡ accumulator (fin false 298565528675189 (negsuc 47)) (pos 0) false)
+    × RunsGive (whole 0) (whole 3) (whole 3) oneHalf (negsuc 1021)
+    × RunsGive oneHalf (whole 0) (whole 3) (fin false 9 (negsuc 2)) (pos 2)
+    × RunsGive oneHalf (whole 3) (whole 0) (fin false 135 (negsuc 6)) (pos 6)
+
+abbrev pub DecidingTable : Type 0
+DecidingTable = LayoutDeciding × LimitsDeciding × LanesDeciding × PiecesDeciding

@@ -1,0 +1,18 @@
+-- Rule C6 in cases: what a host is handed of an accumulator, and of a refusal, which leaves its places as they were. Each row is an equation that holds by computing.
+use Prim.Native.Nat.{ℕ}
+use mathlib.Core.Path.{_≡_}
+use mathlib.Core.Bool.{true, false}
+use lib.IntN.{ℤ, pos, negsuc}
+use Rattle.accumulator.specs.Joining.{Answer, accumulator, refusal}
+use Rattle.finishing.specs.Cases.{oneHalf}
+use Rattle.reduction.specs.Cases.{whole}
+use Rattle.probe.specs.Answers.{codeGiven, mGiven, eGiven, badGiven}
+
+abbrev pub given : Answer
+given = accumulator oneHalf (negsuc 6) true
+
+abbrev pub HandsOut : Type 0
+HandsOut =
+    (codeGiven given ≡ 0) × (mGiven (whole 3) given ≡ oneHalf) × (eGiven (pos 5) given ≡ negsuc 6) × (badGiven false given ≡ true)
+    × (codeGiven (refusal 7) ≡ 7) × (mGiven (whole 3) (refusal 7) ≡ whole 3) × (eGiven (pos 5) (refusal 7) ≡ pos 5)
+    × (badGiven false (refusal 7) ≡ false)
