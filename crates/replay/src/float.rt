@@ -46,14 +46,14 @@ pub fn read_floats(line: &[u8], at: usize, out: &mut [f64]) -> Items
 {
     let head = text::word::read_count(line, at, out.len());
     if !head.ok {
-        return text::word::malformed();
+        return text::word::no_items();
     }
     let count = head.count;
     let mut next = head.next;
     let mut i: usize = 0;
     while i < count {
         let ReadFloat::Is(value, after) = read_float(line, next) else {
-            return text::word::malformed();
+            return text::word::no_items();
         };
         out[i] = value;
         next = after;

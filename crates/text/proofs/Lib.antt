@@ -1,3 +1,3 @@
-pub mod Digits
+pub mod DigitCount
 pub mod Reading
 pub mod Signs

@@ -1,22 +1,23 @@
 -- How `readOn` goes along a list, for any step.
 -- Assumes nothing.
-use Prim.Native.Nat.{ℕ, _+_, _-_, _^_, _<_, _≤_}
+use Prim.Native.Nat.{ℕ, _+_, _*_, _-_, _/_, _^_, _<_, _≤_}
 use mathlib.Core.Path.{_≡_, refl, sym, _∙_, ap}
 use mathlib.Core.Bool.{true, false, not}
 use mathlib.Core.List.{List, [], _∷_}
+use native.Mathlib.Nat.{le-div-iff-mul-le, div-lt-iff-lt-mul}
 use native.Mathlib.Omega.{arith}
 use native.Mathlib.Numerals.{add-one}
 use lib.ListN.{length, take, drop, getD, drop-of-length-le, length-drop}
 use lib.Seq.{drop-cons, take-all}
 use lib.Dec.{eqb}
 use borrow.Author.Tests.{lt-ltb, le-ltb, eq-eqb, ne-eqb}
-use Rattle.text.specs.declared.number.Number.{Number}
-use Rattle.text.specs.declared.number.Number.the-variants.{Is, Not}
-use Rattle.text.specs.declared.number.Signed.the-variants.{Not as SNot}
-use Rattle.text.specs.Numbers.{readOn, narrow, plain, numberOf, positive, negative, signedOf}
+use Rattle.text.specs.declared.number.ParsedU64.{ParsedU64}
+use Rattle.text.specs.declared.number.ParsedU64.the-variants.{Is, Malformed}
+use Rattle.text.specs.declared.number.ParsedI64.the-variants.{Malformed as MalformedSigned}
+use Rattle.text.specs.Numbers.{digitOf, digitBehind, digitStep, readOn, plain, numberOf, positive, negative, signedOf}
 
-module _ (step : ℕ → ℕ → Number) where
-  pub read-not : (bs : List ℕ) → readOn step Not bs ≡ Not
+module _ (step : ℕ → ℕ → ParsedU64) where
+  pub read-not : (bs : List ℕ) → readOn step Malformed bs ≡ Malformed
   read-not [] = refl
   read-not (b ∷ bs) = refl
 
@@ -28,16 +29,16 @@ module _ (step : ℕ → ℕ → Number) where
   -- a word of which i bytes are read as n, so that what is left gives what the whole word gives
   module _ (w : List ℕ) (n i : ℕ) (so-far : readOn step (Is n) (drop i w) ≡ readOn step (Is 0) w) where
     -- the next byte gives m
-    pub read-again : (r : Number) (m : ℕ) → i < length w → r ≡ step n (getD w i 0) → r ≡ Is m
+    pub read-again : (r : ParsedU64) (m : ℕ) → i < length w → r ≡ step n (getD w i 0) → r ≡ Is m
         → readOn step (Is m) (drop (i + 1) w) ≡ readOn step (Is 0) w
     read-again r m h e f =
-        ap (λ (x : Number). readOn step x (drop (i + 1) w)) (sym f ∙ e) ∙ sym (read-one w n i h) ∙ so-far
+        ap (λ (x : ParsedU64). readOn step x (drop (i + 1) w)) (sym f ∙ e) ∙ sym (read-one w n i h) ∙ so-far
 
     -- the next byte is refused
-    pub read-refused : (r : Number) → i < length w → r ≡ step n (getD w i 0) → r ≡ Not → Not ≡ readOn step (Is 0) w
+    pub read-refused : (r : ParsedU64) → i < length w → r ≡ step n (getD w i 0) → r ≡ Malformed → Malformed ≡ readOn step (Is 0) w
     read-refused r h e f =
         sym (read-not (drop (i + 1) w))
-        ∙ ap (λ (x : Number). readOn step x (drop (i + 1) w)) (sym f ∙ e)
+        ∙ ap (λ (x : ParsedU64). readOn step x (drop (i + 1) w)) (sym f ∙ e)
         ∙ sym (read-one w n i h)
         ∙ so-far
 
@@ -45,11 +46,26 @@ module _ (step : ℕ → ℕ → Number) where
     pub read-end : length w ≤ i → Is n ≡ readOn step (Is 0) w
     read-end h = sym (ap (readOn step (Is n)) (drop-of-length-le w h)) ∙ so-far
 
-pub narrow-yes : (x : ℕ) → x < 2 ^ 64 → narrow x ≡ Is x
-narrow-yes x h = simp (lt-ltb x (2 ^ 64) h)
+-- a byte of the value d, behind n, by what is tested of it
+module _ (base n b d : ℕ) (is : digitOf b ≡ Is d) where
+  step-is : digitStep base n b ≡ digitBehind base n (Is d)
+  step-is = ap (digitBehind base n) is
 
-pub narrow-no : (x : ℕ) → 2 ^ 64 ≤ x → narrow x ≡ Not
-narrow-no x h = simp (le-ltb x (2 ^ 64) h)
+  pub digit-refused : base ≤ d → Malformed ≡ digitStep base n b
+  digit-refused h = sym (step-is ∙ simp (le-ltb d base h))
+
+  pub digit-over : d < base → 2 ^ 64 ≤ n * base + d → Malformed ≡ digitStep base n b
+  digit-over h k = sym (step-is ∙ simp (lt-ltb d base h, le-ltb (n * base + d) (2 ^ 64) k))
+
+  pub digit-fits : d < base → n * base + d < 2 ^ 64 → Is (n * base + d) ≡ digitStep base n b
+  digit-fits h k = sym (step-is ∙ simp (lt-ltb d base h, lt-ltb (n * base + d) (2 ^ 64) k))
+
+-- the code's test of a sum that might not fit, without that sum
+pub sum-over : (base n d : ℕ) → 0 < base → d < 2 ^ 64 → (2 ^ 64 - 1 - d) / base < n → 2 ^ 64 ≤ n * base + d
+sum-over base n d h f k = let l = div-lt-iff-lt-mul h .0 k in omega arith
+
+pub sum-fits : (base n d : ℕ) → 0 < base → d < 2 ^ 64 → n ≤ (2 ^ 64 - 1 - d) / base → n * base + d < 2 ^ 64
+sum-fits base n d h f k = let l = le-div-iff-mul-le h .0 k in omega arith
 
 pub plain-none : (w : List ℕ) → length w ≡ 0 → false ≡ plain w
 plain-none [] h = refl
@@ -65,7 +81,7 @@ plain-more [] h k = absurd (h refl)
 plain-more (b ∷ []) h k = absurd (k refl)
 plain-more (b ∷ (d ∷ ds)) h k = refl
 
-pub signed-none : (w : List ℕ) → length w ≡ 0 → SNot ≡ signedOf w
+pub signed-none : (w : List ℕ) → length w ≡ 0 → MalformedSigned ≡ signedOf w
 signed-none [] h = refl
 signed-none (b ∷ bs) h = absurd (omega arith)
 
@@ -78,5 +94,5 @@ signed-plain [] h e = absurd (h refl)
 signed-plain (b ∷ bs) h e = simp (ne-eqb b 45 e)
 
 -- what stands behind a word's first byte, as a part of it
-pub behind : (w : List ℕ) → take (length w - 1) (drop 1 w) ≡ drop 1 w
-behind w = take-all (length w - 1) (drop 1 w) (simp length-drop (omega arith))
+pub rest-behind : (w : List ℕ) → take (length w - 1) (drop 1 w) ≡ drop 1 w
+rest-behind w = take-all (length w - 1) (drop 1 w) (simp length-drop (omega arith))

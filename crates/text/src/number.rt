@@ -1,51 +1,73 @@
 // Numbers as words. Decimal: no leading zero, no plus, a minus only before a number that is not 0.
+ghost use Prim.Native.Nat.{_<_};
 ghost use mathlib.Core.Path.{_≡_};
-ghost use Rattle.text.specs.Numbers.{decimalStep, hexDigit, hexStep, readOn, plain, numberOf, negativeOf, positive, signedOf, bitsOf};
+ghost use Rattle.text.specs.Numbers.{digitOf, digitStep, readOn, plain, numberOf, negativeOf, positive, signedOf, hexOf};
 
-pub enum Number {
+pub enum ParsedU64 {
     Is(u64),
-    Not,
+    Malformed,
 }
 
-pub enum Signed {
+pub enum ParsedI64 {
     Is(i64),
-    Not,
+    Malformed,
 }
 
-const MOST: u64 = 0xffff_ffff_ffff_ffff;
+const U64_MAX: u64 = 0xffff_ffff_ffff_ffff;
 
 const I64_MAX: u64 = 0x7fff_ffff_ffff_ffff;
 
-// n with a digit behind it, while that fits.
-fn with_decimal(n: u64, byte: u8) -> Number
-    ensures { λ r. ⌜ r ≡ decimalStep n byte ⌝ }
+// The value of a digit: 0 to 9, and a to f for 10 to 15.
+fn digit_of(byte: u8) -> ParsedU64
+    ensures { λ r. ⌜ r ≡ digitOf byte ⌝ }
 {
     if byte < b'0' {
-        return Number::Not;
+        return ParsedU64::Malformed;
     }
-    if b'9' < byte {
-        return Number::Not;
+    if byte <= b'9' {
+        return ParsedU64::Is((byte - b'0') as u64);
     }
-    let digit = (byte - b'0') as u64;
-    if (MOST - digit) / 10 < n {
-        return Number::Not;
+    if byte < b'a' {
+        return ParsedU64::Malformed;
     }
-    Number::Is(n * 10 + digit)
+    if byte <= b'f' {
+        return ParsedU64::Is((byte - 87) as u64);
+    }
+    ParsedU64::Malformed
 }
 
-fn decimal(word: &[u8]) -> Number
-    ensures { λ r. ⌜ r ≡ readOn decimalStep (Number.Is 0) (now (word .entry)) ⌝ }
+// n with a digit of the base behind it, while that fits.
+fn with_digit(base: u64, n: u64, byte: u8) -> ParsedU64
+    requires { ⌜ 0 < base ⌝ }
+    ensures { λ r. ⌜ r ≡ digitStep base n byte ⌝ }
+{
+    let ParsedU64::Is(digit) = digit_of(byte) else {
+        return ParsedU64::Malformed;
+    };
+    if base <= digit {
+        return ParsedU64::Malformed;
+    }
+    if (U64_MAX - digit) / base < n {
+        return ParsedU64::Malformed;
+    }
+    ParsedU64::Is(n * base + digit)
+}
+
+// Decimal and hex numbers are read by the same loop.
+fn digits(base: u64, word: &[u8]) -> ParsedU64
+    requires { ⌜ 0 < base ⌝ }
+    ensures { λ r. ⌜ r ≡ readOn (digitStep base) (ParsedU64.Is 0) (now (word .entry)) ⌝ }
 {
     let mut n: u64 = 0;
     let mut i: usize = 0;
     while i < word.len() {
-        let Number::Is(m) = with_decimal(n, word[i]) else {
-            return Number::Not;
+        let ParsedU64::Is(m) = with_digit(base, n, word[i]) else {
+            return ParsedU64::Malformed;
         };
         n = m;
         i += 1;
     }
-    Number::Is(n)
+    ParsedU64::Is(n)
 }
 
 // Whether the word is not empty and has no zero in front of another digit.
@@ -61,108 +83,63 @@ fn is_plain(word: &[u8]) -> bool
     word[0] != b'0'
 }
 
-pub fn parse_u64(word: &[u8]) -> Number
+pub fn parse_u64(word: &[u8]) -> ParsedU64
     ensures { λ r. ⌜ r ≡ numberOf (now (word .entry)) ⌝ }
 {
     if is_plain(word) {
-        return decimal(word);
+        return digits(10, word);
     }
-    Number::Not
+    ParsedU64::Malformed
 }
 
-fn from_positive(n: u64) -> Signed
-    ensures { λ r. ⌜ r ≡ positive (Number.Is n) ⌝ }
+fn from_positive(n: u64) -> ParsedI64
+    ensures { λ r. ⌜ r ≡ positive (ParsedU64.Is n) ⌝ }
 {
     if I64_MAX < n {
-        return Signed::Not;
+        return ParsedI64::Malformed;
     }
-    Signed::Is(n as i64)
+    ParsedI64::Is(n as i64)
 }
 
-fn from_negative(n: u64) -> Signed
+fn from_negative(n: u64) -> ParsedI64
     ensures { λ r. ⌜ r ≡ negativeOf n ⌝ }
 {
     if n == 0 {
-        return Signed::Not;
+        return ParsedI64::Malformed;
     }
     if n <= I64_MAX {
-        return Signed::Is(0 - (n as i64));
+        return ParsedI64::Is(0 - (n as i64));
     }
     if n == I64_MAX + 1 {
-        return Signed::Is(-0x8000_0000_0000_0000);
+        return ParsedI64::Is(-0x8000_0000_0000_0000);
     }
-    Signed::Not
+    ParsedI64::Malformed
 }
 
-pub fn parse_i64(word: &[u8]) -> Signed
+pub fn parse_i64(word: &[u8]) -> ParsedI64
     ensures { λ r. ⌜ r ≡ signedOf (now (word .entry)) ⌝ }
 {
     if word.len() == 0 {
-        return Signed::Not;
+        return ParsedI64::Malformed;
     }
     if word[0] == b'-' {
-        let Number::Is(n) = parse_u64(&word[1..]) else {
-            return Signed::Not;
+        let ParsedU64::Is(n) = parse_u64(&word[1..]) else {
+            return ParsedI64::Malformed;
         };
         return from_negative(n);
     }
-    let Number::Is(n) = parse_u64(word) else {
-        return Signed::Not;
+    let ParsedU64::Is(n) = parse_u64(word) else {
+        return ParsedI64::Malformed;
     };
     from_positive(n)
 }
 
-fn hex_digit(byte: u8) -> Number
-    ensures { λ r. ⌜ r ≡ hexDigit byte ⌝ }
-{
-    if byte < b'0' {
-        return Number::Not;
-    }
-    if byte <= b'9' {
-        return Number::Is((byte - b'0') as u64);
-    }
-    if byte < b'a' {
-        return Number::Not;
-    }
-    if byte <= b'f' {
-        return Number::Is((byte - 87) as u64);
-    }
-    Number::Not
-}
-
-fn with_hex(n: u64, byte: u8) -> Number
-    ensures { λ r. ⌜ r ≡ hexStep n byte ⌝ }
-{
-    let Number::Is(digit) = hex_digit(byte) else {
-        return Number::Not;
-    };
-    if (MOST - digit) / 16 < n {
-        return Number::Not;
-    }
-    Number::Is(n * 16 + digit)
-}
-
-fn hex(word: &[u8]) -> Number
-    ensures { λ r. ⌜ r ≡ readOn hexStep (Number.Is 0) (now (word .entry)) ⌝ }
-{
-    let mut n: u64 = 0;
-    let mut i: usize = 0;
-    while i < word.len() {
-        let Number::Is(m) = with_hex(n, word[i]) else {
-            return Number::Not;
-        };
-        n = m;
-        i += 1;
-    }
-    Number::Is(n)
-}
-
 // Exactly 16 lower-case hex digits.
-pub fn parse_bits(word: &[u8]) -> Number
-    ensures { λ r. ⌜ r ≡ bitsOf (now (word .entry)) ⌝ }
+pub fn parse_bits(word: &[u8]) -> ParsedU64
+    ensures { λ r. ⌜ r ≡ hexOf (now (word .entry)) ⌝ }
 {
     if word.len() != 16 {
-        return Number::Not;
+        return ParsedU64::Malformed;
     }
-    hex(word)
+    digits(16, word)
 }

@@ -2,8 +2,8 @@
 ghost use Prim.Native.Nat.{ℕ, _≤_, _<_};
 ghost use mathlib.Core.Path.{_≡_};
 ghost use lib.ListN.{length, getD};
-use crate::number::Number;
-use crate::number::Signed;
+use crate::number::ParsedI64;
+use crate::number::ParsedU64;
 
 // A number, and where the next word begins.
 pub enum ReadU64 {
@@ -50,7 +50,7 @@ pub fn read_u64(line: &[u8], at: usize) -> ReadU64 {
         return ReadU64::Malformed;
     }
     let end = find(line, at, b' ');
-    let Number::Is(n) = crate::number::parse_u64(&line[at..end]) else {
+    let ParsedU64::Is(n) = crate::number::parse_u64(&line[at..end]) else {
         return ReadU64::Malformed;
     };
     ReadU64::Is(n, end + 1)
@@ -61,7 +61,7 @@ pub fn read_i64(line: &[u8], at: usize) -> ReadI64 {
         return ReadI64::Malformed;
     }
     let end = find(line, at, b' ');
-    let Signed::Is(n) = crate::number::parse_i64(&line[at..end]) else {
+    let ParsedI64::Is(n) = crate::number::parse_i64(&line[at..end]) else {
         return ReadI64::Malformed;
     };
     ReadI64::Is(n, end + 1)
@@ -73,13 +73,14 @@ pub fn read_bits(line: &[u8], at: usize) -> ReadU64 {
         return ReadU64::Malformed;
     }
     let end = find(line, at, b' ');
-    let Number::Is(n) = crate::number::parse_bits(&line[at..end]) else {
+    let ParsedU64::Is(n) = crate::number::parse_bits(&line[at..end]) else {
         return ReadU64::Malformed;
     };
     ReadU64::Is(n, end + 1)
 }
 
-pub fn malformed() -> Items
+// What is answered where a list is malformed.
+pub fn no_items() -> Items
     ensures { λ r. ⌜ r .count ≡ 0 ⌝ }
 {
     Items {
@@ -94,10 +95,10 @@ pub fn read_count(line: &[u8], at: usize, most: usize) -> Items
     ensures { λ r. ⌜ r .count ≤ most ⌝ }
 {
     let ReadU64::Is(n, next) = read_u64(line, at) else {
-        return malformed();
+        return no_items();
     };
     if (most as u64) < n {
-        return malformed();
+        return no_items();
     }
     Items {
         ok: true,
@@ -112,14 +113,14 @@ pub fn read_u64s(line: &[u8], at: usize, out: &mut [u64]) -> Items
 {
     let head = read_count(line, at, out.len());
     if !head.ok {
-        return malformed();
+        return no_items();
     }
     let count = head.count;
     let mut next = head.next;
     let mut i: usize = 0;
     while i < count {
         let ReadU64::Is(n, after) = read_u64(line, next) else {
-            return malformed();
+            return no_items();
         };
         out[i] = n;
         next = after;
@@ -137,14 +138,14 @@ pub fn read_i64s(line: &[u8], at: usize, out: &mut [i64]) -> Items
 {
     let head = read_count(line, at, out.len());
     if !head.ok {
-        return malformed();
+        return no_items();
     }
     let count = head.count;
     let mut next = head.next;
     let mut i: usize = 0;
     while i < count {
         let ReadI64::Is(n, after) = read_i64(line, next) else {
-            return malformed();
+            return no_items();
         };
         out[i] = n;
         next = after;
