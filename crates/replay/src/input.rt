@@ -1,4 +1,5 @@
 // The lines of standard input, read by chunks into a buffer that holds the longest line and its newline.
+// A program has no exit status: where a read or a write fails, it says so on standard error and answers no more.
 ghost use Prim.Native.Nat.{_≤_};
 ghost use mathlib.Core.Path.{_≡_};
 ghost use lib.ListN.{length};
@@ -10,22 +11,58 @@ struct Held {
     cut: bool,
 }
 
-// What is left of a chunk once its whole lines are answered.
+// What is left of a chunk once its whole lines are answered. `ok` says that every answer was written.
 struct Left {
+    ok: bool,
     from: usize,
     cut: bool,
 }
 
-fn answer_line(line: &[u8], cut: bool, out: &mut [u8])
+// How many bytes a read gave, 0 at the input's end. A read that failed is not the end.
+struct Got {
+    failed: bool,
+    count: usize,
+}
+
+// Nothing more is read.
+fn ended() -> Held
+    ensures { λ r. ⌜ r .count ≡ 0 ⌝ }
+{
+    Held {
+        more: false,
+        count: 0,
+        cut: false,
+    }
+}
+
+// Whether an answer was written.
+fn write_answer(answer: &[u8]) -> bool {
+    if io::write_all(libc::STDOUT_FILENO, answer) {
+        return true;
+    }
+    io::write_all(
+        libc::STDERR_FILENO,
+        b"replay: cannot write to standard output (is it closed, or the disk full?), so it stops\n",
+    );
+    false
+}
+
+// A line that was cut is too long to be of the format.
+fn answer_of(line: &[u8], cut: bool, out: &mut [u8]) -> usize
     requires { ⌜ 131072 ≤ length (now out) ⌝ }
+    ensures { λ r. ⌜ r ≤ 131072 ⌝ }
 {
     if cut {
-        let n = crate::answer::malformed(&mut *out);
-        io::write_all(libc::STDOUT_FILENO, &out[..n]);
-        return;
+        return crate::answer::malformed(&mut *out);
     }
-    let n = crate::answer::answer(line, &mut *out);
-    io::write_all(libc::STDOUT_FILENO, &out[..n]);
+    crate::answer::answer(line, &mut *out)
+}
+
+fn answer_line(line: &[u8], cut: bool, out: &mut [u8]) -> bool
+    requires { ⌜ 131072 ≤ length (now out) ⌝ }
+{
+    let n = answer_of(line, cut, &mut *out);
+    write_answer(&out[..n])
 }
 
 fn answer_lines(chunk: &[u8], cut_before: bool, out: &mut [u8]) -> Left
@@ -37,13 +74,27 @@ fn answer_lines(chunk: &[u8], cut_before: bool, out: &mut [u8]) -> Left
     while from < chunk.len() {
         let end = text::word::find(chunk, from, b'\n');
         if end == chunk.len() {
-            return Left { from, cut };
+            return Left {
+                ok: true,
+                from,
+                cut,
+            };
         }
-        answer_line(&chunk[from..end], cut, &mut *out);
+        if !answer_line(&chunk[from..end], cut, &mut *out) {
+            return Left {
+                ok: false,
+                from,
+                cut,
+            };
+        }
         cut = false;
         from = end + 1;
     }
-    Left { from, cut }
+    Left {
+        ok: true,
+        from,
+        cut,
+    }
 }
 
 // Moves the bytes from `from` up to `to` to the buffer's start, and answers how many they are.
@@ -67,6 +118,9 @@ fn keep_rest(buf: &mut [u8], count: usize, cut: bool, out: &mut [u8]) -> Held
     ensures { λ r. ⌜ r .count ≤ length (now (buf .entry)) ⌝ }
 {
     let left = answer_lines(&buf[..count], cut, &mut *out);
+    if !left.ok {
+        return ended();
+    }
     let from = left.from;
     if left.cut {
         return Held {
@@ -110,23 +164,29 @@ fn turn(buf: &mut [u8], held: Held, out: &mut [u8]) -> Held
 {
     let count = held.count;
     let got = read_some(&mut buf[count..]);
-    if got == 0 {
-        answer_last(&*buf, count, held.cut, &mut *out);
-        return Held {
-            more: false,
-            count: 0,
-            cut: false,
-        };
+    if got.failed {
+        io::write_all(
+            libc::STDERR_FILENO,
+            b"replay: cannot read standard input (is it closed, or a folder?), so it stops\n",
+        );
+        return ended();
     }
-    keep_rest(&mut *buf, count + got, held.cut, &mut *out)
+    if got.count == 0 {
+        answer_last(&*buf, count, held.cut, &mut *out);
+        return ended();
+    }
+    keep_rest(&mut *buf, count + got.count, held.cut, &mut *out)
 }
 
-// One read: how many bytes came, 0 at the input's end.
-fn read_some(space: &mut [u8]) -> usize
-    ensures { λ r. ⌜ r ≤ length (now (space .entry)) ⌝ }
+fn read_some(space: &mut [u8]) -> Got
+    ensures { λ r. ⌜ r .count ≤ length (now (space .entry)) ⌝ }
 {
     let got = libc::read(libc::STDIN_FILENO, &mut *space);
-    io::count(got, &*space)
+    let count = io::count(got, &*space);
+    Got {
+        failed: got < 0,
+        count,
+    }
 }
 
 // Every function ends, so the turns are counted down from a number that no run uses up.

@@ -41,7 +41,8 @@ slice-aggregate-answer-offsets c = counts _ _ (search needs)
 
 answer-offsets-requires : tie.Need-answer-offsets-requires
 answer-offsets-requires c κs =
-    let call = c .before .before .before .before .before .before .before .read-i64s in
+    let read = c .before .before .before .before in
+    let call = read .before .before .before .read-i64s in
     (omega (arith, at-most (call .result .count) (call .last .1 .1 .0), call .ensures), search needs)
 
 same-length-3 : tie.Need-same-length-3

@@ -1,4 +1,5 @@
--- `replay::input::answer_all` meets its contract. The invariant: what is held lies within the buffer, and both buffers keep their lengths. The measure is the turns left.
+-- `replay::input::answer_all` meets its contract. The invariant: what is held lies within the buffer, and both buffers keep their lengths.
+-- The measure is the turns left.
 -- Assumes nothing.
 use Prim.Native.Nat.{_≤_}
 use mathlib.Core.Path.{_≡_}

@@ -16,6 +16,9 @@ slice-aggregate-answer-lines c = counts _ _ (search needs)
 answer-lines-requires : tie.Need-answer-lines-requires
 answer-lines-requires c κs = search needs
 
+ended-requires : tie.Need-ended-requires
+ended-requires c κs = search needs
+
 same-length : tie.Need-same-length
 same-length c = search needs
 
@@ -24,11 +27,6 @@ same-length-2 c = search needs
 
 returns : tie.Need-returns
 returns c = search needs
-
-move-down-requires : tie.Need-move-down-requires
-move-down-requires c κs =
-    let a = c .before .before .before .before .before .before .before .before .before .args in
-    (omega (arith, c .before .before .before .before .answer-lines .ensures, at-most (a .count) (now (a .buf))), search needs)
 
 same-length-3 : tie.Need-same-length-3
 same-length-3 c = search needs
@@ -39,6 +37,14 @@ same-length-4 c = search needs
 returns-2 : tie.Need-returns-2
 returns-2 c = search needs
 
+move-down-requires : tie.Need-move-down-requires
+move-down-requires c κs =
+    let written = c .before .before in
+    let called = written .before .before .before .before in
+    let lent = called .before .before in
+    let a = lent .before .before .before .args in
+    (omega (arith, called .answer-lines .ensures, at-most (a .count) (now (a .buf))), search needs)
+
 same-length-5 : tie.Need-same-length-5
 same-length-5 c = search needs
 
@@ -48,6 +54,15 @@ same-length-6 c = search needs
 returns-3 : tie.Need-returns-3
 returns-3 c = search needs
 
+same-length-7 : tie.Need-same-length-7
+same-length-7 c = search needs
+
+same-length-8 : tie.Need-same-length-8
+same-length-8 c = search needs
+
+returns-4 : tie.Need-returns-4
+returns-4 c = search needs
+
 pub keep-rest-spec : {M : Type 1} → statement M
 keep-rest-spec =
     tie.close
@@ -55,13 +70,17 @@ keep-rest-spec =
     slice-reshare-prefix-answer-lines
     slice-aggregate-answer-lines
     answer-lines-requires
+    ended-requires
     same-length
     same-length-2
     returns
-    move-down-requires
     same-length-3
     same-length-4
     returns-2
+    move-down-requires
     same-length-5
     same-length-6
-    returns-3)
+    returns-3
+    same-length-7
+    same-length-8
+    returns-4)
