@@ -1,5 +1,7 @@
 """The stored cases of `reduce`, `product` and `finish`, a function for each group."""
 
+from math import isqrt
+
 from case_lines import INFINITE, LEAST, LIMIT, LISTED, MANY, MOST, ONE, SIGN, THREE_HALVES, TWO
 from case_lines import WRONG_FLOATS, WRONG_MARKS, WRONG_SIGNED, WRONG_UNSIGNED
 from case_lines import finish, floats, patterns_of_m, rate, reduce, say, spoiled, unit
@@ -379,6 +381,132 @@ def refusals_handed_in():
         say(f"finish refused {number}")
 
 
+# ---- cases that see what the stored ones did not
+
+
+def as_both(sizes, strides, base, start, end, table):
+    """A range as an accumulator and as a number."""
+    for word in ["reduce", "product"]:
+        reduce(sizes, strides, base, start, end, table, word)
+
+
+def runs_as_both(values):
+    """All values of one run, at each stride, as an accumulator and as a number."""
+    runs(values)
+    runs(values, "product")
+
+
+def exchanged(values, place):
+    return with_rate(with_rate(values, place, values[place + 1]), place + 1, values[place])
+
+
+def small_rates():
+    """Rates below what may be multiplied unsplit for long, in short runs and in long ones, alone and among others."""
+    runs_as_both([rate(ONE, -20)] * 64)
+    runs_as_both([rate(ONE, -10)] * 2048)
+    runs_as_both(rates(110, 64, -20, -20))
+    run(rates(111, 2048, -20, -10))
+    for stride in [1, 2]:
+        run(with_rate(rates(112, 1100), 700, rate(THREE_HALVES, -40)), stride)
+    # The two doubles about 2^-14.5, whose square is 2^-29.
+    for significand in [isqrt(2 * ONE * ONE), isqrt(2 * ONE * ONE) + 1]:
+        for place in [0, 63, 69]:
+            runs(with_rate(rates(113, 70), place, rate(significand, -15)))
+
+
+def long_runs():
+    """Runs about 256 and 512 values long, and a zero in 1,024 values: the first, and about the 256th and the 512th."""
+    for length in [257, 511, 513, 521]:
+        run(rates(length, length), 1)
+        run(rates(length, length), 2)
+    values = rates(114, 1024)
+    runs_as_both(with_rate(values, 0, 0))
+    for place in [255, 256, 511, 512, 1023]:
+        run(with_rate(values, place, 0))
+
+
+def one_small_value_again():
+    """A value of 2^-20 that is visited over and over at stride 0, with others before and behind it."""
+    others = rates(115, 9)
+    for count in [100, 5000]:
+        for value in [rate(ONE, -20), *rates(116, 1, -20, -20)]:
+            as_both([count], [0], 0, 0, count, [value, *others])
+            as_both([count], [0], 4, 0, count, with_rate(others, 4, value))
+    as_both([100, 3], [0, 1], 2, 50, 250, [rate(ONE, -20 - place) for place in range(6)])
+
+
+def five_axes():
+    """Five axes of which no two fuse, from element 17, which lies inside a run, and from the first."""
+    for stride in STRIDES:
+        base, table = laid(rates(117, 58), stride)
+        for start, end in [(17, 32), (17, 18), (17, 25), (0, 32)]:
+            as_both([2] * 5, [stride * s for s in [1, 3, 7, 15, 31]], base, start, end, table)
+
+
+def zero_in_the_second_run():
+    """Five runs of two, with a zero in either place of the second, and ranges with it and without."""
+    for stride in STRIDES:
+        for place in [3, 4]:
+            base, table = laid(with_rate(rates(118, 14), place, 0), stride)
+            for start, end in [(0, 10), (1, 10), (2, 9), (3, 10), (4, 10), (0, 2)]:
+                as_both([2, 5], [stride, 3 * stride], base, start, end, table)
+
+
+def lane_of_a_value():
+    """Twenty values, and the same with two neighbours exchanged: each is in the other's lane, and the last bits differ."""
+    values = rates(361, 20)
+    runs_as_both(values)
+    for place in range(9):
+        runs_as_both(exchanged(values, place))
+
+
+def order_of_lanes():
+    """A value to a lane, two neighbours exchanged, turned round, and the first put last: the last bits differ.
+
+    The first two are left as they are: their product is the same both ways.
+    """
+    values = rates(1979, 8)
+    for turned in [values, values[::-1], [*values[1:], values[0]], *(exchanged(values, place) for place in range(1, 7))]:
+        runs_as_both(turned)
+
+
+def cut_into_pieces():
+    """The same values in the same order, in runs of 24, 12, 8, 6, 4, 3 and 2: no two have the same last bits."""
+    values = rates(229, 24)
+    for length in [24, 12, 8, 6, 4, 3, 2]:
+        # A value stands between two runs, so that they do not fuse.
+        spread = []
+        for first in range(0, 24, length):
+            spread += [*values[first : first + length], *rates(first, 1)]
+        for stride in STRIDES:
+            base, table = laid(spread, stride)
+            as_both([length, 24 // length], [stride, (length + 1) * stride], base, 0, 24, table)
+
+
+def side_of_a_join():
+    """A bad run among three and among seven: the first, the middle one, the last. What the left had is kept."""
+    for count, bad in [(3, 0), (7, NAN)]:
+        for row in [0, count // 2, count - 1]:
+            values = with_rate(rates(119, 10 * count), 10 * row + 4, bad)
+            for stride in STRIDES:
+                base, table = laid(values, stride)
+                as_both([9, count], [stride, 10 * stride], base, 0, 9 * count, table)
+                as_both([9, count], [stride, 10 * stride], base, 3, 9 * count - 2, table)
+
+
+def cases_that_see_what_the_stored_ones_did_not():
+    """Small and long runs, values visited again, many axes; the lane, its order, the cut and the side of a join."""
+    small_rates()
+    long_runs()
+    one_small_value_again()
+    five_axes()
+    zero_in_the_second_run()
+    lane_of_a_value()
+    order_of_lanes()
+    cut_into_pieces()
+    side_of_a_join()
+
+
 def malformed_lines():
     """Words of lines of `reduce`, `product` and `finish` that are not of the format."""
     m = "3ff8000000000000"
@@ -421,4 +549,5 @@ GROUPS = [
     subnormal_ties,
     finish_marks,
     refusals_handed_in,
+    cases_that_see_what_the_stored_ones_did_not,
 ]
