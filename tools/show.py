@@ -117,7 +117,7 @@ def float_fault(word):
     if word[:2] in ("0x", "0X"):
         return "the hex digits of a float have no 0x in front"
     if re.fullmatch("[0-9a-fA-F]+", word):
-        return f"it has {len(word)} hex digits, and a float has the 16 of its bits"
+        return f"a float has 16 hex digits, those of its bits, and this has {len(word)}"
     if re.fullmatch(r"[+-]?[0-9]*\.?[0-9]+(e[+-]?[0-9]+)?", word):
         return f"a float is written by the 16 hex digits of its bits, here {struct.pack('>d', float(word)).hex()}"
     return "a float is the 16 lower-case hex digits of its bits"
@@ -426,8 +426,10 @@ def guarded():
     try:
         return main()
     except OSError as error:
-        what = f"cannot read {error.filename}" if error.filename else "cannot write to standard output"
-        say(f"show.py: {what}: {error.strerror}")
+        if error.filename:
+            say(f"show.py: cannot read {error.filename} ({error.strerror}); give another file")
+        else:
+            say(f"show.py: cannot write to standard output ({error.strerror}); make room, or send it elsewhere")
         return 1
 
 

@@ -213,7 +213,7 @@ readonly faulty=(
     'finish number 1' 'neither acc nor refused'
     'finish refused 4294967296' 'it does not lie in 0 to 4294967295'
     'finish acc 3FF8000000000000 0 0' 'lower case'
-    'finish acc 3ff800000000000 0 0' 'it has 15 hex digits'
+    'finish acc 3ff800000000000 0 0' 'and this has 15'
     'finish acc 0x3ff8000000000000 0 0' 'no 0x in front'
     'finish acc 1.5 0 0' "here $m"
     'finish acc one 0 0' 'the 16 lower-case hex digits of its bits'
