@@ -47,9 +47,9 @@ module _ (step : ℕ → ℕ → ParsedU64) where
     read-end h = sym (ap (readOn step (Is n)) (drop-of-length-le w h)) ∙ so-far
 
 -- a byte of the value d, behind n, by what is tested of it
-module _ (base n b d : ℕ) (is : digitOf b ≡ Is d) where
+module _ (base n b d : ℕ) (value : digitOf b ≡ Is d) where
   step-is : digitStep base n b ≡ digitBehind base n (Is d)
-  step-is = ap (digitBehind base n) is
+  step-is = ap (digitBehind base n) value
 
   pub digit-refused : base ≤ d → Malformed ≡ digitStep base n b
   digit-refused h = sym (step-is ∙ simp (le-ltb d base h))

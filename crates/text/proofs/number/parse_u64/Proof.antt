@@ -18,8 +18,8 @@ returns : tie.Need-returns
 returns c =
     let called = c .before .before in
     let w = now (called .before .before .args .word) in
-    let is : plain w ≡ true = sym (called .is-plain .ensures) ∙ c .before .if1 .taken in
-    simp is (c .digits .ensures)
+    let found : plain w ≡ true = sym (called .is-plain .ensures) ∙ c .before .if1 .taken in
+    simp found (c .digits .ensures)
 
 returns-2 : tie.Need-returns-2
 returns-2 c = search needs
