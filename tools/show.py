@@ -292,8 +292,8 @@ def read_refusals(path=REFUSALS):
             text = file.read()
     except OSError as error:
         raise Failure(f"{path}, where the refusals are named, cannot be read ({error.strerror}); restore it") from error
-    found = re.findall(r"^// *(.+)\npub const (\w+): u32 = ([0-9]+);$", text, re.MULTILINE)
-    if not found or len(found) != len(re.findall(r"^pub const ", text, re.MULTILINE)):
+    found = re.findall(r"^//+ *(.+)\npub const (\w+): u32 = ([0-9]+);$", text, re.MULTILINE)
+    if not found or len(found) != len(re.findall(r"^pub const \w+: u32", text, re.MULTILINE)):
         raise Failure(f"{path}: each refusal should stand as `pub const NAME: u32 = N;` below a line `// its condition`")
     return {int(code): (name, inside(condition)) for condition, name, code in found}
 

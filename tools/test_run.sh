@@ -247,7 +247,7 @@ refusals() {
     local cases=() code said
     for code in 1 2 3 4 5 6 7 8 9 10; do cases+=("finish refused $code" "    refused $code ("); done
     check_lines 'refusals' 0 "${cases[@]}"
-    said=$(grep -cE '^    refused [0-9]+ \([A-Z_]+\): [a-z].*[^.]$' "$work/out")
+    said=$(grep -cE '^    refused [0-9]+ \([A-Z_]+\): .*[^.]$' "$work/out")
     [ "$said" -eq 10 ] || die "refusals: $said of 10 have a name and a condition"
     mv "$copy/crates/refusals" "$work/refusals"
     check 'no names of refusals' 1 '' 'refusals/src/lib.rt, where the refusals are named, cannot be read' run_sh "'$work/good'"
