@@ -61,14 +61,16 @@ joined-on : (f : Factor) → Normalised 52 f → {ps : List Piece} → Each Good
 joined-on f F none = refl
 joined-on f F (more {x = p} {xs = ps} R Rs) =
     let g = piece (p .rates) in
-    ap (λ (a : StableProductFloatAcc). foldl combined a (map workedPiece ps)) (ap (combined (accOf f)) (worked-agrees (p .inBlocks) (R .good)) ∙ combined-times f g F (normal (p .rates)))
+    ap (λ (a : StableProductFloatAcc). foldl combined a (map workedPiece ps))
+    (ap (combined (accOf f)) (worked-agrees (p .inBlocks) (R .good)) ∙ combined-times f g F (normal (p .rates)))
     ∙ joined-on (times 52 f g) (times-normal 52 f g F (normal (p .rates))) Rs
 
 joined-agree : {ps : List Piece} → Each GoodPiece ps → joinedPieces ps ≡ accOf (plainProduct 11 52 (patternsOf ps))
 unfolding joinedPieces plainProduct listProduct
 joined-agree none = identity-is
 joined-agree (more {x = p} {xs = ps} R Rs) =
-    ap (λ (a : StableProductFloatAcc). foldl combined a (map workedPiece ps)) (worked-agrees (p .inBlocks) (R .good)) ∙ joined-on (piece (p .rates)) (normal (p .rates)) Rs
+    ap (λ (a : StableProductFloatAcc). foldl combined a (map workedPiece ps)) (worked-agrees (p .inBlocks) (R .good))
+    ∙ joined-on (piece (p .rates)) (normal (p .rates)) Rs
 
 -- The agreement: the results joined left to right are the plain product's m and e, with no bad mark.
 pub agreement : (ps : List Piece) → Admitted ps → joinedPieces ps ≡ accOf (plainProduct 11 52 (patternsOf ps))
@@ -78,7 +80,10 @@ agreement ps a = joined-agree (a .pieces)
 pub agreement-in-limits : (ps : List Piece) → Admitted ps → inLimits (joinedPieces ps) ≡ true
 unfolding inLimits
 agreement-in-limits ps a =
-    let r = joined-within (each-map GoodPiece FullPiece (λ p g. record { some-rate = g .some-rate; values = each-map GoodRate (λ (x : Float). T (fits binary64 x)) (λ x v. v .value) (g .good) }) (a .pieces)) in
+    let r = joined-within
+    (each-map GoodPiece FullPiece
+    (λ p g. record { some-rate = g .some-rate; values = each-map GoodRate (λ (x : Float). T (fits binary64 x)) (λ x v. v .value) (g .good) })
+    (a .pieces)) in
     ap (λ (t : Bool). t && withinLimit (joinedPieces ps .e)) (r .0 .in-unit)
     ∙ le-leb (natAbs (joinedPieces ps .e)) (2 ^ 52) (le-trans (r .1) (let z = a .few in omega arith))
 

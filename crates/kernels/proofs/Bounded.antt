@@ -97,11 +97,15 @@ module _ (t E : ℕ) where
   plain-size {fs} F =
       let h = filled-all F in
       let ls = lanes t fs in
-      let r = order-keeps (λ (k : ℕ) (p : Factor). times t p (getD ls k (unit t))) (λ (k : ℕ) (p : Factor). Normalised t p × (expSize p ≤ total expSize (take k ls) + k)) 8 (turn h) (unit t) (unit-normal t, zero-le) in
-      le-trans (r .1) (subst (λ (l : List Factor). total expSize l + 8 ≤ suc E * length fs + 8) (sym (take-all 8 ls (le-of-eq (h .normal .long)))) (add-le-add (h .near) (le-refl 8)))
+      let r = order-keeps (λ (k : ℕ) (p : Factor). times t p (getD ls k (unit t)))
+      (λ (k : ℕ) (p : Factor). Normalised t p × (expSize p ≤ total expSize (take k ls) + k)) 8 (turn h) (unit t) (unit-normal t, zero-le) in
+      le-trans (r .1)
+      (subst (λ (l : List Factor). total expSize l + 8 ≤ suc E * length fs + 8) (sym (take-all 8 ls (le-of-eq (h .normal .long))))
+      (add-le-add (h .near) (le-refl 8)))
     where
       turn : Filled (length fs) (lanes t fs) → (k : ℕ) (p : Factor) → k < 8 → Normalised t p × (expSize p ≤ total expSize (take k (lanes t fs)) + k)
-          → Normalised t (times t p (getD (lanes t fs) k (unit t))) × (expSize (times t p (getD (lanes t fs) k (unit t))) ≤ total expSize (take (suc k) (lanes t fs)) + suc k)
+          → Normalised t (times t p (getD (lanes t fs) k (unit t)))
+          × (expSize (times t p (getD (lanes t fs) k (unit t))) ≤ total expSize (take (suc k) (lanes t fs)) + suc k)
       turn h k p l r =
           let ls = lanes t fs in
           let g = getD ls k (unit t) in
@@ -117,14 +121,22 @@ identity-sound = record { value = tt; in-unit = refl }
 
 pub rate-sound : (x : Float) → Sound (rateAcc x)
 unfolding rateAcc
-rate-sound x = record { value = subst (λ (m : Float). T (fits binary64 m)) (sym (split-m x)) (floatOf-fits binary64 11 52 refl refl (withExponent (rateFactor x) (pos 0))); in-unit = split-unit x }
+rate-sound x = record {
+  value = subst (λ (m : Float). T (fits binary64 m)) (sym (split-m x)) (floatOf-fits binary64 11 52 refl refl (withExponent (rateFactor x) (pos 0)));
+  in-unit = split-unit x;
+}
 
 pub combined-sound : (a b : StableProductFloatAcc) → Sound a → Sound b → Sound (combined a b)
 combined-sound a b A C = go (a .bad || b .bad) refl
   where
     go : (t : Bool) → (a .bad || b .bad) ≡ t → Sound (combined a b)
     go true h = subst Sound (sym (combined-bad a b h)) (record { value = A .value; in-unit = A .in-unit })
-    go false h = subst Sound (sym (combined-good a b h)) (record { value = multiplied-fits a b (A .value) (C .value) (A .in-unit) (C .in-unit); in-unit = multiplied-unit a b (A .value) (C .value) (A .in-unit) (C .in-unit) })
+    go false h =
+        subst Sound (sym (combined-good a b h))
+        (record {
+          value = multiplied-fits a b (A .value) (C .value) (A .in-unit) (C .in-unit);
+          in-unit = multiplied-unit a b (A .value) (C .value) (A .in-unit) (C .in-unit);
+        })
 
 -- ---- stepped lanes
 abbrev accSize : StableProductFloatAcc → ℕ
@@ -141,7 +153,11 @@ joined-small i ls h = record { at = λ k. le-trans (total-at accSize ls k (accAt
 
 pub joined-start : Joined 0 (replicate 8 identityAcc)
 unfolding total
-joined-start = record { long = length-replicate 8 identityAcc; near = zero-le; sound = record { at = λ k h. subst Sound (sym (getD-replicate 8 k identityAcc (accAt [] 0) h)) identity-sound } }
+joined-start = record {
+  long = length-replicate 8 identityAcc;
+  near = zero-le;
+  sound = record { at = λ k h. subst Sound (sym (getD-replicate 8 k identityAcc (accAt [] 0) h)) identity-sound };
+}
 
 pub joined-more : (i : ℕ) (ls : List StableProductFloatAcc) (x : Float) → Joined i ls → Joined (suc i) (laneJoined i ls x)
 unfolding laneJoined
@@ -153,16 +169,23 @@ joined-more i ls x h =
     record {
       long = length-set ls j a ∙ h .long;
       near = le-trans z (let w = h .near in omega arith);
-      sound = record { at = λ k l. set-cases Sound ls j k a (accAt [] 0) inside (λ e. combined-sound (accAt ls j) (rateAcc x) (h .sound .at j (lane-lt i)) (rate-sound x)) (λ n. h .sound .at k l) };
+      sound = record {
+        at = λ k l.
+            set-cases Sound ls j k a (accAt [] 0) inside (λ e. combined-sound (accAt ls j) (rateAcc x) (h .sound .at j (lane-lt i)) (rate-sound x))
+            (λ n. h .sound .at k l);
+      };
     }
 
 joined-feed : (i : ℕ) (ls : List StableProductFloatAcc) (xs : List Float) → Joined i ls → Joined (i + length xs) (feed laneJoined i ls xs)
 unfolding feed
 joined-feed i ls [] h = subst (λ (n : ℕ). Joined n ls) (sym (add-zero i)) h
-joined-feed i ls (x ∷ xs) h = subst (λ (n : ℕ). Joined n (feed laneJoined (suc i) (laneJoined i ls x) xs)) (omega arith) (joined-feed (suc i) (laneJoined i ls x) xs (joined-more i ls x h))
+joined-feed i ls (x ∷ xs) h =
+    subst (λ (n : ℕ). Joined n (feed laneJoined (suc i) (laneJoined i ls x) xs)) (omega arith)
+    (joined-feed (suc i) (laneJoined i ls x) xs (joined-more i ls x h))
 
 -- k lanes joined in order
-pub order-sound : (ls : List StableProductFloatAcc) (k : ℕ) → k ≤ 8 → UnitAccs ls → Sound (inOrder (λ (k : ℕ) (a : StableProductFloatAcc). combined a (accAt ls k)) k identityAcc)
+pub order-sound : (ls : List StableProductFloatAcc) (k : ℕ) → k ≤ 8 → UnitAccs ls
+    → Sound (inOrder (λ (k : ℕ) (a : StableProductFloatAcc). combined a (accAt ls k)) k identityAcc)
 order-sound ls k h u =
     order-keeps (λ (k : ℕ) (a : StableProductFloatAcc). combined a (accAt ls k)) (λ (k : ℕ). Sound) k
     (λ j a l s. combined-sound a (accAt ls j) s (u .at j (le-trans l h))) identityAcc identity-sound
@@ -170,7 +193,8 @@ order-sound ls k h u =
 module _ (xs : List Float) where
   pub joined-all : Joined (length xs) (steppedLanes xs)
   unfolding steppedLanes
-  joined-all = subst (λ (n : ℕ). Joined n (feed laneJoined 0 (replicate 8 identityAcc) xs)) (omega arith) (joined-feed 0 (replicate 8 identityAcc) xs joined-start)
+  joined-all =
+      subst (λ (n : ℕ). Joined n (feed laneJoined 0 (replicate 8 identityAcc) xs)) (omega arith) (joined-feed 0 (replicate 8 identityAcc) xs joined-start)
 
   pub stepped-sound : Sound (stepped xs)
   unfolding stepped lanesJoined
@@ -180,10 +204,14 @@ module _ (xs : List Float) where
   unfolding stepped lanesJoined total
   stepped-size =
       let ls = steppedLanes xs in
-      let r = order-keeps (λ (k : ℕ) (a : StableProductFloatAcc). combined a (accAt ls k)) (λ (k : ℕ) (a : StableProductFloatAcc). accSize a ≤ total accSize (take k ls) + k) 8 (turn) identityAcc zero-le in
-      le-trans r (subst (λ (l : List StableProductFloatAcc). total accSize l + 8 ≤ 1025 * length xs + 8) (sym (take-all 8 ls (le-of-eq (joined-all .long)))) (add-le-add (joined-all .near) (le-refl 8)))
+      let r = order-keeps (λ (k : ℕ) (a : StableProductFloatAcc). combined a (accAt ls k))
+      (λ (k : ℕ) (a : StableProductFloatAcc). accSize a ≤ total accSize (take k ls) + k) 8 (turn) identityAcc zero-le in
+      le-trans r
+      (subst (λ (l : List StableProductFloatAcc). total accSize l + 8 ≤ 1025 * length xs + 8) (sym (take-all 8 ls (le-of-eq (joined-all .long))))
+      (add-le-add (joined-all .near) (le-refl 8)))
     where
-      turn : (k : ℕ) (a : StableProductFloatAcc) → k < 8 → accSize a ≤ total accSize (take k (steppedLanes xs)) + k → accSize (combined a (accAt (steppedLanes xs) k)) ≤ total accSize (take (suc k) (steppedLanes xs)) + suc k
+      turn : (k : ℕ) (a : StableProductFloatAcc) → k < 8 → accSize a ≤ total accSize (take k (steppedLanes xs)) + k
+          → accSize (combined a (accAt (steppedLanes xs) k)) ≤ total accSize (take (suc k) (steppedLanes xs)) + suc k
       turn k a l r =
           let ls = steppedLanes xs in
           let e = total-take accSize ls k (accAt [] 0) (subst (λ (n : ℕ). k < n) (sym (joined-all .long)) l) in
@@ -197,7 +225,8 @@ module _ {xs : List Float} (v : Each (λ (x : Float). T (fits binary64 x)) xs) w
   pub contiguous-size : natAbs (contiguous xs .e) ≤ 1025 * length xs + 8
   contiguous-size =
       subst (λ (z : ℤ). natAbs z ≤ 1025 * length xs + 8) (sym (ap (λ (a : StableProductFloatAcc). a .e) (contiguous-is v)))
-      (subst (λ (n : ℕ). natAbs (pieceProduct 52 (map rateFactor xs) .exp) ≤ 1025 * n + 8) (length-map xs rateFactor) (plain-size 52 1024 (each-of rateFactor (λ (x : Float). T (fits binary64 x)) (Short 52 1024) (λ x f. rate-short x) v)))
+      (subst (λ (n : ℕ). natAbs (pieceProduct 52 (map rateFactor xs) .exp) ≤ 1025 * n + 8) (length-map xs rateFactor)
+      (plain-size 52 1024 (each-of rateFactor (λ (x : Float). T (fits binary64 x)) (Short 52 1024) (λ x f. rate-short x) v)))
 
   pub contiguous-sound : Sound (contiguous xs)
   contiguous-sound =
@@ -239,7 +268,8 @@ unfolding rateCount
 joined-near n a A h none = (A, le-trans h (omega arith))
 joined-near n a A h (more {x = p} {xs = ps} f fs) =
     let b = workedPiece p in
-    let k : natAbs (combined a b .e) ≤ 1034 * (n + length (p .rates)) = le-trans (combined-size a b) (let z = worked-size p (f .values) in let y = f .some-rate in omega arith) in
+    let k : natAbs (combined a b .e) ≤ 1034 * (n + length (p .rates)) = le-trans (combined-size a b)
+    (let z = worked-size p (f .values) in let y = f .some-rate in omega arith) in
     let r = joined-near (n + length (p .rates)) (combined a b) (combined-sound a b A (worked-sound p (f .values))) k fs in
     (r .0, le-trans (r .1) (omega arith))
 

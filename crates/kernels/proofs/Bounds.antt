@@ -76,6 +76,7 @@ in-range-exponent k small x f w =
 
     most : p ≤ suc k + 1022
     most =
-        let l : 52 + p ≤ B + 1074 = power-le (52 + p) (B + 1074) (le-trans (le-of-eq (pow-add 2 52 p)) (le-trans (mul-le-mul-right (2 ^ p) (rate-normal x .least))
+        let l : 52 + p ≤ B + 1074 = power-le (52 + p) (B + 1074)
+        (le-trans (le-of-eq (pow-add 2 52 p)) (le-trans (mul-le-mul-right (2 ^ p) (rate-normal x .least))
         (le-trans (value-most B (g .sign) (g .sig * 2 ^ p) (2 ^ 1074) x (rate-value x f good) w) (le-of-eq (sym (pow-add 2 B 1074)))))) in
         omega arith

@@ -1,4 +1,5 @@
--- The bounds of a block, and no value at all, computed from the definitions. The marked products stand in the table of all marked cases, in `reduction`. Assumes nothing.
+-- The bounds of a block, and no value at all, computed from the definitions. (The table of marked cases stands in `reduction`.) Assumes nothing.
+use Prim.Native.Nat.{_+_, _-_, _^_}
 use mathlib.Core.Path.{_≡_, refl}
 use mathlib.Core.Bool.{true, false}
 use mathlib.Core.List.{[]}
@@ -17,7 +18,7 @@ pub bound-in : inBounds (fin true 1 (pos 120)) ≡ true
 unfolding inRange
 bound-in = refl
 
-pub bound-out : inBounds (fin false 4503599627370497 (pos 68)) ≡ false
+pub bound-out : inBounds (fin false (2 ^ 52 + 1) (pos 68)) ≡ false
 unfolding inRange
 bound-out = refl
 
@@ -25,7 +26,7 @@ pub bound-in-low : inBounds (fin false 1 (negsuc 119)) ≡ true
 unfolding inRange
 bound-in-low = refl
 
-pub bound-out-low : inBounds (fin false 9007199254740991 (negsuc 172)) ≡ false
+pub bound-out-low : inBounds (fin false (2 ^ 53 - 1) (negsuc 172)) ≡ false
 unfolding inRange
 bound-out-low = refl
 
@@ -35,5 +36,6 @@ bound-nan = refl
 
 -- no value at all: the identity, as the Rust returns at once
 pub none-blocks : contiguous [] ≡ identityAcc
-unfolding contiguous blocks block unsplit renorm renormLane inOrder feed splitStep unsplitStep inRange every some laneIn lanesIn split toBits valueOf ofParts delivered isBad badBits product rounded size odd isNan
+unfolding contiguous blocks block unsplit renorm renormLane inOrder feed splitStep unsplitStep inRange every some laneIn lanesIn split toBits valueOf ofParts
+    delivered isBad badBits product rounded size odd isNan
 none-blocks = refl

@@ -19,7 +19,8 @@ pub lane-again : (i : ℕ) → laneOf (i + 8) ≡ laneOf i
 lane-again i = omega arith
 
 -- ---- one place of a list: the place that was set, or another
-pub set-cases : {A : Type 0} (P : A → Type 0) (l : List A) (j k : ℕ) (a d : A) → j < length l → (k ≡ j → P a) → ((k ≡ j → ⊥) → P (getD l k d)) → P (getD (set l j a) k d)
+pub set-cases : {A : Type 0} (P : A → Type 0) (l : List A) (j k : ℕ) (a d : A) → j < length l → (k ≡ j → P a) → ((k ≡ j → ⊥) → P (getD l k d))
+    → P (getD (set l j a) k d)
 set-cases P l j k a d h same other = go (compare k j)
   where
     compare : (x y : ℕ) → (x ≡ y) ⊎ (x ≡ y → ⊥)
@@ -48,12 +49,17 @@ module _ (t : ℕ) where
   pub lane-normal : (i : ℕ) (fs : List Factor) (f : Factor) → Normalised t f → NormalLanes fs → NormalLanes (laneTimes t i fs f)
   lane-normal i fs f F N = record {
     long = length-set fs (laneOf i) (times t (getD fs (laneOf i) (unit t)) f) ∙ N .long;
-    at = λ k h. set-cases (Normalised t) fs (laneOf i) k (times t (getD fs (laneOf i) (unit t)) f) (unit t) (subst (λ (n : ℕ). laneOf i < n) (sym (N .long)) (lane-lt i)) (λ e. times-normal t (getD fs (laneOf i) (unit t)) f (N .at (laneOf i) (lane-lt i)) F) (λ n. N .at k h);
+    at = λ k h.
+        set-cases (Normalised t) fs (laneOf i) k (times t (getD fs (laneOf i) (unit t)) f) (unit t)
+        (subst (λ (n : ℕ). laneOf i < n) (sym (N .long)) (lane-lt i)) (λ e. times-normal t (getD fs (laneOf i) (unit t)) f (N .at (laneOf i) (lane-lt i)) F)
+        (λ n. N .at k h);
   }
 
   pub lanes-normal : {fs : List Factor} → Each (Normalised t) fs → NormalLanes (lanes t fs)
   unfolding lanes
-  lanes-normal {fs} N = feed-keeps (laneTimes t) (Normalised t) (λ (i : ℕ). NormalLanes) (length fs) (λ i s x h. lane-normal i s x) 0 (replicate 8 (unit t)) N (omega arith) units-normal
+  lanes-normal {fs} N =
+      feed-keeps (laneTimes t) (Normalised t) (λ (i : ℕ). NormalLanes) (length fs) (λ i s x h. lane-normal i s x) 0 (replicate 8 (unit t)) N
+      (omega arith) units-normal
 
   pub piece-normal : {fs : List Factor} → Each (Normalised t) fs → Normalised t (pieceProduct t fs)
   unfolding pieceProduct

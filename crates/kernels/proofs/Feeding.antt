@@ -1,10 +1,10 @@
 -- Laws of feeding and of working lanes in order: what holds at the start and is kept by every step holds at the end, of one state or between two.
 -- Any states, any values: no float and no format is in it. Assumes nothing.
-use Prim.Native.Nat.{ℕ, zero, suc, _+_, _*_, _≤_, _<_}
+use Prim.Native.Nat.{ℕ, zero, suc, _+_, _*_, _≤_, _<_, zero-le}
 use mathlib.Core.Path.{_≡_, refl, sym, ap, _∙_, subst}
 use mathlib.Core.Bool.{Bool, true, false, _&&_, _||_, true≢false}
 use mathlib.Core.List.{List, [], _∷_, _++_, map}
-use native.Mathlib.Nat.{le-refl, le-of-lt, add-zero}
+use native.Mathlib.Nat.{le-refl, le-of-lt, add-zero, zero-add}
 use native.Mathlib.Numerals.{add-one}
 use native.Mathlib.Omega.{arith}
 use lib.ListN.{length, getD, set, take, drop, drop-of-length-le}
@@ -33,6 +33,12 @@ feed-keeps step P R n keep i s (more {x = x} {xs = xs} p ps) h r =
     (feed-keeps step P R n keep (suc i) (step i s x) ps (omega arith) (keep i s x (omega arith) p r))
 
 module _ {S X : Type 0} (step : ℕ → S → X → S) where
+  -- what every step keeps, whatever the number and the value
+  pub feed-holds : (R : S → Type 0) → ((i : ℕ) (s : S) (x : X) → R s → R (step i s x)) → (i : ℕ) (s : S) (xs : List X) → R s → R (feed step i s xs)
+  unfolding feed
+  feed-holds R keep i s [] r = r
+  feed-holds R keep i s (x ∷ xs) r = feed-holds R keep (suc i) (step i s x) xs (keep i s x r)
+
   pub feed-append : (i : ℕ) (s : S) (xs ys : List X) → feed step i s (xs ++ ys) ≡ feed step (i + length xs) (feed step i s xs) ys
   unfolding feed
   feed-append i s [] ys = ap (λ (j : ℕ). feed step j s ys) (sym (add-zero i))
@@ -42,37 +48,30 @@ module _ {S X : Type 0} (step : ℕ → S → X → S) where
   pub feed-shift : ((i : ℕ) (s : S) (x : X) → step (i + 8) s x ≡ step i s x) → (i : ℕ) (s : S) (xs : List X) → feed step (i + 8) s xs ≡ feed step i s xs
   unfolding feed
   feed-shift same i s [] = refl
-  feed-shift same i s (x ∷ xs) = ap (λ (u : S). feed step (suc (i + 8)) u xs) (same i s x) ∙ ap (λ (j : ℕ). feed step j (step i s x) xs) (omega arith) ∙ feed-shift same (suc i) (step i s x) xs
+  feed-shift same i s (x ∷ xs) =
+      ap (λ (u : S). feed step (suc (i + 8)) u xs) (same i s x)
+      ∙ ap (λ (j : ℕ). feed step j (step i s x) xs) (omega arith)
+      ∙ feed-shift same (suc i) (step i s x) xs
 
   pub feed-eights : ((i : ℕ) (s : S) (x : X) → step (i + 8) s x ≡ step i s x) → (k : ℕ) (s : S) (xs : List X) → feed step (8 * k) s xs ≡ feed step 0 s xs
   feed-eights same zero s xs = refl
   feed-eights same (suc k) s xs = ap (λ (j : ℕ). feed step j s xs) (omega arith) ∙ feed-shift same (8 * k) s xs ∙ feed-eights same k s xs
 
-  -- a loop that has come to number i
-  pub feed-more : (s : S) (xs : List X) (i : ℕ) (d : X) → i < length xs → feed step i s (drop i xs) ≡ feed step (i + 1) (step i s (getD xs i d)) (drop (i + 1) xs)
-  unfolding feed
-  feed-more s xs i d h = rw (add-one i, drop-cons xs i d h)
-
-  pub feed-all : (s : S) (xs : List X) (i : ℕ) → length xs ≤ i → feed step i s (drop i xs) ≡ s
-  unfolding feed
-  feed-all s xs i h = ap (feed step i s) (drop-of-length-le xs h)
+  -- one list after another, the first of whole vectors
+  pub feed-vectors : ((i : ℕ) (s : S) (x : X) → step (i + 8) s x ≡ step i s x) → (i : ℕ) (s : S) (xs ys : List X) → length xs ≡ 8 * i
+      → feed step 0 s (xs ++ ys) ≡ feed step 0 (feed step 0 s xs) ys
+  feed-vectors same i s xs ys h =
+      feed-append 0 s xs ys ∙ ap (λ (n : ℕ). feed step n (feed step 0 s xs) ys) (zero-add (length xs) ∙ h) ∙ feed-eights same i (feed step 0 s xs) ys
 
 -- ---- lanes in order
-pub order-keeps : {S : Type 0} (f : ℕ → S → S) (R : ℕ → S → Type 0) (n : ℕ) → ((k : ℕ) (s : S) → k < n → R k s → R (suc k) (f k s)) → (s : S) → R 0 s → R n (inOrder f n s)
+pub order-keeps : {S : Type 0} (f : ℕ → S → S) (R : ℕ → S → Type 0) (n : ℕ) → ((k : ℕ) (s : S) → k < n → R k s → R (suc k) (f k s)) → (s : S) → R 0 s
+    → R n (inOrder f n s)
 unfolding inOrder
 order-keeps f R n keep s r = go n (le-refl n)
   where
     go : (m : ℕ) → m ≤ n → R m (inOrder f m s)
     go zero h = r
     go (suc m) h = keep m (inOrder f m s) h (go m (le-of-lt h))
-
--- a loop that has worked k lanes
-pub order-more : {S : Type 0} (f : ℕ → S → S) (s t u : S) (k : ℕ) → t ≡ inOrder f k s → u ≡ f k t → u ≡ inOrder f (k + 1) s
-unfolding inOrder
-order-more f s t u k p q = q ∙ ap (f k) p ∙ ap (λ (n : ℕ). inOrder f n s) (sym (add-one k))
-
-pub order-all : {S : Type 0} (f : ℕ → S → S) (n : ℕ) (s t : S) (k : ℕ) → k ≤ n → n ≤ k → t ≡ inOrder f k s → t ≡ inOrder f n s
-order-all f n s t k a b p = p ∙ ap (λ (m : ℕ). inOrder f m s) (let e : k ≡ n = omega arith in e)
 
 pub order-related : {S S' : Type 0} (f : ℕ → S → S) (f' : ℕ → S' → S') (R : S → S' → Type 0) (n : ℕ)
     → ((k : ℕ) (s : S) (s' : S') → k < n → R s s' → R (f k s) (f' k s')) → (s : S) (s' : S') → R s s' → R (inOrder f n s) (inOrder f' n s')
@@ -83,7 +82,57 @@ order-related f f' R n keep s s' r = go n (le-refl n)
     go zero h = r
     go (suc m) h = keep m (inOrder f m s) (inOrder f' m s') h (go m (le-of-lt h))
 
+-- ---- a loop that has worked k of n lanes, or has come to value k of n
+pub record Worked {S : Type 0} (f : ℕ → S → S) (n : ℕ) (s t : S) (k : ℕ) : Type 0 where
+  pub upto : k ≤ n
+  pub is : t ≡ inOrder f k s
+
+module _ {S : Type 0} {f : ℕ → S → S} {n : ℕ} {s t : S} where
+  pub worked-none : t ≡ s → Worked f n s t 0
+  unfolding inOrder
+  worked-none e = record { upto = zero-le; is = e }
+
+  -- one more
+  pub worked-more : {u : S} {k : ℕ} → Worked f n s t k → k < n → u ≡ f k t → Worked f n s u (k + 1)
+  unfolding inOrder
+  worked-more {k = k} w h e = record { upto = omega arith; is = e ∙ ap (f k) (w .is) ∙ ap (λ (m : ℕ). inOrder f m s) (sym (add-one k)) }
+
+  -- all done
+  pub worked-all : {k : ℕ} → Worked f n s t k → n ≤ k → t ≡ inOrder f n s
+  worked-all {k} w h = w .is ∙ ap (λ (m : ℕ). inOrder f m s) (let e : k ≡ n = omega arith in e)
+
+-- value k by its number
+abbrev pub over : {S X : Type 0} → (ℕ → S → X → S) → List X → X → ℕ → S → S
+over step xs d k t = step k t (getD xs k d)
+
+module _ {S X : Type 0} (step : ℕ → S → X → S) (d : X) (xs : List X) where
+  pub feed-order : (s : S) → feed step 0 s xs ≡ inOrder (over step xs d) (length xs) s
+  unfolding feed
+  feed-order s =
+      sym
+      (order-keeps (over step xs d) (λ (k : ℕ) (t : S). feed step k t (drop k xs) ≡ feed step 0 s xs) (length xs)
+      (λ k t h e. ap (feed step k t) (sym (drop-cons xs k d h)) ∙ e) s refl)
+      ∙ ap (feed step (length xs) (inOrder (over step xs d) (length xs) s)) (drop-of-length-le xs (le-refl (length xs)))
+
+  pub worked-fed : {n k : ℕ} {s t : S} → length xs ≡ n → Worked (over step xs d) n s t k → n ≤ k → t ≡ feed step 0 s xs
+  worked-fed {s = s} l w h = worked-all w h ∙ ap (λ (m : ℕ). inOrder (over step xs d) m s) (sym l) ∙ sym (feed-order s)
+
 -- ---- tests of every value
+-- value k is tested besides those before it
+abbrev pub tested : {X : Type 0} → (X → Bool) → ℕ → Bool → X → Bool
+tested q k ok x = ok && q x
+
+module _ {X : Type 0} (q : X → Bool) where
+  every-feed : (i : ℕ) (ok : Bool) (xs : List X) → feed (tested q) i ok xs ≡ (ok && every q xs)
+  unfolding feed every
+  every-feed i true [] = refl
+  every-feed i false [] = refl
+  every-feed i true (x ∷ xs) = every-feed (suc i) (q x) xs
+  every-feed i false (x ∷ xs) = every-feed (suc i) false xs
+
+  pub worked-tested : (d : X) (xs : List X) {n k : ℕ} {ok : Bool} → length xs ≡ n → Worked (over (tested q) xs d) n true ok k → n ≤ k → ok ≡ every q xs
+  worked-tested d xs l w h = worked-fed (tested q) d xs l w h ∙ every-feed 0 true xs
+
 pub and-both : (p q : Bool) → (p && q) ≡ true → (p ≡ true) × (q ≡ true)
 and-both true true h = (refl, refl)
 and-both true false h = absurd (true≢false (sym h))
@@ -155,7 +204,8 @@ unfolding some
 some-one p x = or-none (p x)
 
 -- one place of a list gets the mark q besides its own
-pub some-set : {X : Type 0} (p : X → Bool) (xs : List X) (k : ℕ) (d y : X) (q : Bool) → k < length xs → p y ≡ (p (getD xs k d) || q) → some p (set xs k y) ≡ (some p xs || q)
+pub some-set : {X : Type 0} (p : X → Bool) (xs : List X) (k : ℕ) (d y : X) (q : Bool) → k < length xs → p y ≡ (p (getD xs k d) || q)
+    → some p (set xs k y) ≡ (some p xs || q)
 unfolding some
 some-set p [] k d y q h e = absurd (omega arith)
 some-set p (x ∷ xs) zero d y q h e = ap (λ (b : Bool). b || some p xs) e ∙ or-swap (p x) q (some p xs)

@@ -1,7 +1,7 @@
 -- Joining accumulators of factors, and the mark of a joining. Assumes nothing.
 use mathlib.Core.Path.{_≡_, refl, sym, ap, _∙_}
 use mathlib.Core.Bool.{Bool, true, false, _||_}
-use lib.IntN.{ℤ, pos}
+use lib.IntN.{pos}
 use lib.Dec.{T, lit<}
 use lib.Ieee.{Float, binary64, fits}
 use Rattle.floats.specs.Product.{productOf}
@@ -13,7 +13,7 @@ use Rattle.floats.proofs.Magnitude.{unit-float, factor-at-float, float-at}
 use Rattle.floats.proofs.Splitting.{split-bad}
 use Rattle.accumulator.specs.declared.StableProductFloatAcc.{StableProductFloatAcc}
 use Rattle.accumulator.specs.Joining.{identityAcc, factorOfAcc, multiplied, combined}
-use Rattle.accumulator.proofs.Combining.{combined-bad, combined-good, multiplied-two, multiplied-less}
+use Rattle.accumulator.proofs.Combining.{acc-same, combined-bad, combined-good, multiplied-two, multiplied-less}
 use Rattle.accumulator.proofs.Joins.{multiplied-unit, multiplied-fits, multiplied-times}
 use Rattle.kernels.specs.Stepped.{rateAcc}
 use Rattle.kernels.specs.Pieces.{GoodRate, accOf}
@@ -37,10 +37,7 @@ combined-mark a b = go (a .bad || b .bad) refl
 
 -- ---- accumulators of factors
 acc-is : (a : StableProductFloatAcc) (f : Factor) → a .m ≡ floatOf 11 52 (withExponent f (pos 0)) → a .e ≡ f .exp → a .bad ≡ false → a ≡ accOf f
-acc-is a f p q r = fields (a .m) (floatOf 11 52 (withExponent f (pos 0))) (a .e) (f .exp) (a .bad) p q r
-  where
-    fields : (m m' : Float) (e e' : ℤ) (b : Bool) → m ≡ m' → e ≡ e' → b ≡ false → _≡_ {A = StableProductFloatAcc} (record { m = m; e = e; bad = b }) (record { m = m'; e = e'; bad = false })
-    fields m m' e e' b p q r = cc
+acc-is a f p q r = acc-same (a .m) (floatOf 11 52 (withExponent f (pos 0))) (a .e) (f .exp) (a .bad) false p q r
 
 -- two that are not bad join to their product
 pub combined-times : (f g : Factor) → Normalised 52 f → Normalised 52 g → combined (accOf f) (accOf g) ≡ accOf (times 52 f g)
@@ -48,7 +45,8 @@ unfolding factorAt
 combined-times f g F G =
     combined-good (accOf f) (accOf g) refl
     ∙ acc-is r (times 52 f g)
-    (sym (float-at binary64 11 52 refl refl (lit< tt) (r .m) (multiplied-fits a b fa fb ua ub) (multiplied-unit a b fa fb ua ub)) ∙ ap (λ (h : Factor). floatOf 11 52 (withExponent h (pos 0))) product)
+    (sym (float-at binary64 11 52 refl refl (lit< tt) (r .m) (multiplied-fits a b fa fb ua ub) (multiplied-unit a b fa fb ua ub))
+    ∙ ap (λ (h : Factor). floatOf 11 52 (withExponent h (pos 0))) product)
     (ap (λ (h : Factor). h .exp) product)
     (multiplied-mark a b)
   where

@@ -20,7 +20,7 @@ use Rattle.kernels.specs.declared.lanes.Lanes.{Lanes}
 use Rattle.kernels.specs.Lanes.{feed, laneOf, inOrder}
 use Rattle.kernels.specs.Blocks.{startLanes, mOf, eOf, unsplitStep, splitStep, renormLane, renorm, unsplit, block, blocks, laneIn}
 use Rattle.kernels.specs.InnerLanes.{SmallLanes}
-use Rattle.kernels.proofs.Feeding.{order-keeps}
+use Rattle.kernels.proofs.Feeding.{feed-holds, order-keeps}
 use Rattle.kernels.proofs.Sizes.{set-either, replicate-either, split-size}
 
 pub lanes-le : (n m : ℕ) (s : Lanes) → n ≤ m → SmallLanes n s → SmallLanes m s
@@ -49,18 +49,19 @@ pub split-small : (n i : ℕ) (s : Lanes) (xs : List Float) → SmallLanes n s �
 unfolding feed
 split-small n i s [] h = lanes-le n (n + 1024 * 0) s (omega arith) h
 split-small n i s (x ∷ xs) h =
-    subst (λ (m : ℕ). SmallLanes m (feed splitStep (suc i) (splitStep i s x) xs)) (omega arith) (split-small (n + 1024) (suc i) (splitStep i s x) xs (step-small n s h i x))
+    subst (λ (m : ℕ). SmallLanes m (feed splitStep (suc i) (splitStep i s x) xs)) (omega arith)
+    (split-small (n + 1024) (suc i) (splitStep i s x) xs (step-small n s h i x))
 
 pub unsplit-small : (n i : ℕ) (s : Lanes) (xs : List Float) → SmallLanes n s → SmallLanes n (feed unsplitStep i s xs)
-unfolding feed unsplitStep
-unsplit-small n i s [] h = h
-unsplit-small n i s (x ∷ xs) h = unsplit-small n (suc i) (unsplitStep i s x) xs (record { at = λ k. h .at k })
+unfolding unsplitStep
+unsplit-small n = feed-holds unsplitStep (SmallLanes n) (λ i s x h. record { at = λ k. h .at k })
 
 -- k lanes brought back
 pub renormed-small : (n k : ℕ) (s : Lanes) → SmallLanes n s → SmallLanes (n + 1024 * k) (inOrder renormLane k s)
 renormed-small n k s h =
     order-keeps renormLane (λ (k : ℕ) (t : Lanes). SmallLanes (n + 1024 * k) t) k
-    (λ j t l r. subst (λ (m : ℕ). SmallLanes m (renormLane j t)) (omega arith) (renorm-lane-small (n + 1024 * j) t r j)) s (lanes-le n (n + 1024 * 0) s (omega arith) h)
+    (λ j t l r. subst (λ (m : ℕ). SmallLanes m (renormLane j t)) (omega arith) (renorm-lane-small (n + 1024 * j) t r j)) s
+    (lanes-le n (n + 1024 * 0) s (omega arith) h)
 
 pub renorm-small : (n : ℕ) (s : Lanes) → SmallLanes n s → SmallLanes (n + 8192) (renorm s)
 unfolding renorm
@@ -72,15 +73,21 @@ unfolding block
 block-small n s xs l h = go (unsplit s xs)
   where
     go : (t : Bool) → SmallLanes (n + 73728) (renorm (cond t (feed unsplitStep 0 s xs) (feed splitStep 0 s xs)))
-    go true = lanes-le (n + 8192) (n + 73728) (renorm (feed unsplitStep 0 s xs)) (omega arith) (renorm-small n (feed unsplitStep 0 s xs) (unsplit-small n 0 s xs h))
-    go false = lanes-le (n + 1024 * length xs + 8192) (n + 73728) (renorm (feed splitStep 0 s xs)) (omega arith) (renorm-small (n + 1024 * length xs) (feed splitStep 0 s xs) (split-small n 0 s xs h))
+    go true =
+        lanes-le (n + 8192) (n + 73728) (renorm (feed unsplitStep 0 s xs)) (omega arith) (renorm-small n (feed unsplitStep 0 s xs) (unsplit-small n 0 s xs h))
+    go false =
+        lanes-le (n + 1024 * length xs + 8192) (n + 73728) (renorm (feed splitStep 0 s xs)) (omega arith)
+        (renorm-small (n + 1024 * length xs) (feed splitStep 0 s xs) (split-small n 0 s xs h))
 
 pub blocks-small : (n m : ℕ) (s : Lanes) (xs : List Float) → length xs ≤ 64 * m + 64 → SmallLanes n s → SmallLanes (n + 73728 * (m + 1)) (blocks m s xs)
 unfolding blocks
-blocks-small n zero s xs l h = lanes-le (n + 1024 * length xs + 8192) (n + 73728 * (0 + 1)) (renorm (feed splitStep 0 s xs)) (omega arith) (renorm-small (n + 1024 * length xs) (feed splitStep 0 s xs) (split-small n 0 s xs h))
+blocks-small n zero s xs l h =
+    lanes-le (n + 1024 * length xs + 8192) (n + 73728 * (0 + 1)) (renorm (feed splitStep 0 s xs)) (omega arith)
+    (renorm-small (n + 1024 * length xs) (feed splitStep 0 s xs) (split-small n 0 s xs h))
 blocks-small n (suc m) s xs l h =
     subst (λ (k : ℕ). SmallLanes k (blocks m (block s (take 64 xs)) (drop 64 xs))) (omega arith)
-    (blocks-small (n + 73728) m (block s (take 64 xs)) (drop 64 xs) (omega (arith, length-drop 64 xs)) (block-small n s (take 64 xs) (omega (arith, length-take 64 xs)) h))
+    (blocks-small (n + 73728) m (block s (take 64 xs)) (drop 64 xs) (omega (arith, length-drop 64 xs))
+    (block-small n s (take 64 xs) (omega (arith, length-take 64 xs)) h))
 
 -- ---- there are always eight lanes
 abbrev pub Eight : Lanes → Type 0
@@ -90,14 +97,12 @@ pub start-eight : Eight startLanes
 start-eight = length-replicate 8 (fin false 1 (pos 0))
 
 pub unsplit-eight : (i : ℕ) (s : Lanes) (xs : List Float) → Eight s → Eight (feed unsplitStep i s xs)
-unfolding feed unsplitStep
-unsplit-eight i s [] h = h
-unsplit-eight i s (x ∷ xs) h = unsplit-eight (suc i) (unsplitStep i s x) xs (length-set (s .m) (laneOf i) (productOf 11 52 (mOf s (laneOf i)) x) ∙ h)
+unfolding unsplitStep
+unsplit-eight = feed-holds unsplitStep Eight (λ i s x h. length-set (s .m) (laneOf i) (productOf 11 52 (mOf s (laneOf i)) x) ∙ h)
 
-split-eight : (i : ℕ) (s : Lanes) (xs : List Float) → Eight s → Eight (feed splitStep i s xs)
-unfolding feed splitStep
-split-eight i s [] h = h
-split-eight i s (x ∷ xs) h = split-eight (suc i) (splitStep i s x) xs (length-set (s .m) (laneOf i) (productOf 11 52 (mOf s (laneOf i)) (split x .m)) ∙ h)
+pub split-eight : (i : ℕ) (s : Lanes) (xs : List Float) → Eight s → Eight (feed splitStep i s xs)
+unfolding splitStep
+split-eight = feed-holds splitStep Eight (λ i s x h. length-set (s .m) (laneOf i) (productOf 11 52 (mOf s (laneOf i)) (split x .m)) ∙ h)
 
 renorm-eight : (s : Lanes) → Eight s → Eight (renorm s)
 unfolding renorm renormLane
@@ -116,9 +121,11 @@ pub lane-in-size : (n : ℕ) (s : Lanes) (k : ℕ) (a : StableProductFloatAcc) �
 unfolding laneIn
 lane-in-size n s k a h =
     let m = productOf 11 52 (a .m) (mOf s k) in
-    le-trans (add-size (a .e +ℤ eOf s k) (split m .e)) (add-le-add (le-trans (add-size (a .e) (eOf s k)) (add-le-add (le-refl (natAbs (a .e))) (h .at k))) (split-size m))
+    le-trans (add-size (a .e +ℤ eOf s k) (split m .e))
+    (add-le-add (le-trans (add-size (a .e) (eOf s k)) (add-le-add (le-refl (natAbs (a .e))) (h .at k))) (split-size m))
 
-pub lanes-in-size : (n : ℕ) (s : Lanes) (k : ℕ) (a : StableProductFloatAcc) → a .e ≡ pos 0 → SmallLanes n s → natAbs (inOrder (laneIn s) k a .e) ≤ (n + 1024) * k
+pub lanes-in-size : (n : ℕ) (s : Lanes) (k : ℕ) (a : StableProductFloatAcc) → a .e ≡ pos 0 → SmallLanes n s
+    → natAbs (inOrder (laneIn s) k a .e) ≤ (n + 1024) * k
 lanes-in-size n s k a e h =
     order-keeps (laneIn s) (λ (k : ℕ) (b : StableProductFloatAcc). natAbs (b .e) ≤ (n + 1024) * k) k
     (λ j b l r. le-trans (lane-in-size n s j b h) (omega (arith, r))) a (subst (λ (z : ℤ). natAbs z ≤ (n + 1024) * 0) (sym e) zero-le)

@@ -4,7 +4,8 @@ use Prim.Native.Nat.{ℕ, zero, suc, _+_, _*_, _^_, _≤_, _<_}
 use mathlib.Core.Path.{_≡_, refl, sym, ap, _∙_, subst}
 use mathlib.Core.Bool.{Bool, true, false, not, cond, _&&_, _||_, true≢false}
 use mathlib.Core.Logic.{_⊎_, inl, inr}
-use native.Mathlib.Nat.{le-trans, le-of-eq, le-of-lt, lt-of-lt-of-le, lt-of-le-of-lt, not-le-of-lt, lt-of-not-le, mul-comm, mul-right-comm, mul-one, one-mul, mul-pos, mul-le-mul-right, mul-lt-mul-of-pos-right, le-of-mul-le-mul-right}
+use native.Mathlib.Nat.{le-trans, le-of-eq, le-of-lt, lt-of-lt-of-le, lt-of-le-of-lt, not-le-of-lt, lt-of-not-le, mul-comm, mul-right-comm, mul-one, one-mul}
+use native.Mathlib.Nat.{mul-pos, mul-le-mul-right, mul-lt-mul-of-pos-right, le-of-mul-le-mul-right}
 use native.Mathlib.Omega.{arith}
 use lib.IntN.{ℤ, pos, negsuc, _+ℤ_}
 use lib.Dec.{T, leb, eqb, lit<, lit≤}
@@ -80,7 +81,8 @@ module _ (B : ℕ) (small : B ≤ 1021) (x : Float) (f : T (fits binary64 x)) (w
   field-good s zero t h e = absurd (not-zero s t h e)
   field-good s (suc E) t h e = go (eqb (suc E) 2047) refl e
     where
-      go : (b : Bool) → eqb (suc E) 2047 ≡ b → x ≡ cond b (cond (eqb t 0) (inf s) nan) (delivered 53 1023 s (2 ^ 52 + t) E) → (eqb (suc E) 0 || eqb (suc E) 2047) ≡ false
+      go : (b : Bool) → eqb (suc E) 2047 ≡ b → x ≡ cond b (cond (eqb t 0) (inf s) nan) (delivered 53 1023 s (2 ^ 52 + t) E)
+          → (eqb (suc E) 0 || eqb (suc E) 2047) ≡ false
       go true k e = absurd (not-full (eqb t 0) s e)
       go false k e = ap (λ (b : Bool). b || eqb (suc E) 2047) (ne-eqb (suc E) 0 (λ (z : suc E ≡ 0). omega arith)) ∙ k
 
@@ -90,11 +92,13 @@ module _ (B : ℕ) (small : B ≤ 1021) (x : Float) (f : T (fits binary64 x)) (w
 
 -- ---- the exponent
 -- a rate that is not bad, by its factor
-pub rate-value : (x : Float) → T (fits binary64 x) → (good : isBad x ≡ false) → HasValue x (rateFactor x .sign) (rateFactor x .sig * 2 ^ rate-range x good .place) (2 ^ 1074)
+pub rate-value : (x : Float) → T (fits binary64 x) → (good : isBad x ≡ false)
+    → HasValue x (rateFactor x .sign) (rateFactor x .sig * 2 ^ rate-range x good .place) (2 ^ 1074)
 rate-value x f good =
     let g = rateFactor x in
     let R = rate-range x good in
-    subst (λ (y : Float). HasValue y (g .sign) (g .sig * 2 ^ R .place) (2 ^ 1074)) (rate-float x f good) (floatOf-value binary64 11 52 refl refl g (rate-normal x) R)
+    subst (λ (y : Float). HasValue y (g .sign) (g .sig * 2 ^ R .place) (2 ^ 1074)) (rate-float x f good)
+    (floatOf-value binary64 11 52 refl refl g (rate-normal x) R)
 
 least-place : (e : ℤ) (p k : ℕ) → e +ℤ pos 1022 ≡ pos p → 1022 ≤ p + suc k → leZ (negsuc k) e ≡ true
 least-place e p k = simp ints (simp atoms (omega arith))
@@ -114,7 +118,8 @@ reaching-exponent k x f good w = least-place (g .exp) p k (rate-range x good .ab
     least : 1022 ≤ p + suc k
     least =
         let l : 1074 < 53 + p + B = power-less 1074 (53 + p + B) (lt-of-le-of-lt (value-least B (g .sign) (g .sig * 2 ^ p) (2 ^ 1074) x (rate-value x f good) w)
-        (lt-of-lt-of-le (mul-lt-mul-of-pos-right (mul-lt-mul-of-pos-right (rate-normal x .most) (pow-pos p)) (pow-pos B)) (le-of-eq (ap (λ (y : ℕ). y * 2 ^ B) (sym (pow-add 2 53 p)) ∙ sym (pow-add 2 (53 + p) B))))) in
+        (lt-of-lt-of-le (mul-lt-mul-of-pos-right (mul-lt-mul-of-pos-right (rate-normal x .most) (pow-pos p)) (pow-pos B))
+        (le-of-eq (ap (λ (y : ℕ). y * 2 ^ B) (sym (pow-add 2 53 p)) ∙ sym (pow-add 2 (53 + p) B))))) in
         omega arith
 
 -- ---- by a comparison with 2^-(k + 1)

@@ -2,6 +2,7 @@
 pub mod Feeding
 pub mod Factors
 pub mod Plain
+pub mod Lanewise
 pub mod Standing
 pub mod Joining
 pub mod Stepping

@@ -63,19 +63,26 @@ combined-size a b = go (a .bad || b .bad) refl
     size r n z e h = subst (λ (y : ℤ). natAbs y ≤ n) (sym e) h
 
     product : (t : Bool) → twoOrMore (productOf 11 52 (a .m) (b .m)) ≡ t → natAbs (multiplied a b .e) ≤ natAbs (a .e) + natAbs (b .e) + 1
-    product true h = size (multiplied a b) (natAbs (a .e) + natAbs (b .e) + 1) (a .e +ℤ b .e +ℤ pos 1) (ap (λ (r : StableProductFloatAcc). r .e) (multiplied-two a b h)) (le-trans (add-size (a .e +ℤ b .e) (pos 1)) (add-le-add sum (le-refl 1)))
-    product false h = size (multiplied a b) (natAbs (a .e) + natAbs (b .e) + 1) (a .e +ℤ b .e) (ap (λ (r : StableProductFloatAcc). r .e) (multiplied-less a b h)) (le-trans sum (omega arith))
+    product true h =
+        size (multiplied a b) (natAbs (a .e) + natAbs (b .e) + 1) (a .e +ℤ b .e +ℤ pos 1) (ap (λ (r : StableProductFloatAcc). r .e) (multiplied-two a b h))
+        (le-trans (add-size (a .e +ℤ b .e) (pos 1)) (add-le-add sum (le-refl 1)))
+    product false h =
+        size (multiplied a b) (natAbs (a .e) + natAbs (b .e) + 1) (a .e +ℤ b .e) (ap (λ (r : StableProductFloatAcc). r .e) (multiplied-less a b h))
+        (le-trans sum (omega arith))
 
     go : (t : Bool) → (a .bad || b .bad) ≡ t → natAbs (combined a b .e) ≤ natAbs (a .e) + natAbs (b .e) + 1
     go true h = size (combined a b) (natAbs (a .e) + natAbs (b .e) + 1) (a .e) (ap (λ (r : StableProductFloatAcc). r .e) (combined-bad a b h)) (omega arith)
-    go false h = size (combined a b) (natAbs (a .e) + natAbs (b .e) + 1) (multiplied a b .e) (ap (λ (r : StableProductFloatAcc). r .e) (combined-good a b h)) (product (twoOrMore (productOf 11 52 (a .m) (b .m))) refl)
+    go false h =
+        size (combined a b) (natAbs (a .e) + natAbs (b .e) + 1) (multiplied a b .e) (ap (λ (r : StableProductFloatAcc). r .e) (combined-good a b h))
+        (product (twoOrMore (productOf 11 52 (a .m) (b .m))) refl)
 
 -- ---- stepped lanes
 pub accs-le : (n m : ℕ) (ls : List StableProductFloatAcc) → n ≤ m → SmallAccs n ls → SmallAccs m ls
 accs-le n m ls h s = record { at = λ k. le-trans (s .at k) h }
 
 -- k lanes joined in order
-pub joined-size : (n : ℕ) (ls : List StableProductFloatAcc) (k : ℕ) → SmallAccs n ls → natAbs (inOrder (λ (k : ℕ) (a : StableProductFloatAcc). combined a (accAt ls k)) k identityAcc .e) ≤ suc n * k
+pub joined-size : (n : ℕ) (ls : List StableProductFloatAcc) (k : ℕ) → SmallAccs n ls
+    → natAbs (inOrder (λ (k : ℕ) (a : StableProductFloatAcc). combined a (accAt ls k)) k identityAcc .e) ≤ suc n * k
 joined-size n ls k h =
     order-keeps (λ (k : ℕ) (a : StableProductFloatAcc). combined a (accAt ls k)) (λ (k : ℕ) (a : StableProductFloatAcc). natAbs (a .e) ≤ suc n * k) k
     (λ j a l r. le-trans (combined-size a (accAt ls j)) (omega (arith, h .at j, r))) identityAcc zero-le

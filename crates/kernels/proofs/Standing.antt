@@ -1,7 +1,7 @@
 -- Products of lanes that stand for factors stand for `times`, as long as m stays a normal number. Assumes nothing.
 use Prim.Native.Nat.{ℕ, zero, suc, _+_, _-_, _*_, _≤_}
 use mathlib.Core.Path.{_≡_, refl, sym, ap, _∙_}
-use mathlib.Core.Bool.{Bool, false}
+use mathlib.Core.Bool.{false}
 use native.Mathlib.Nat.{le-refl, le-trans, add-le-add}
 use native.Mathlib.Omega.{arith}
 use lib.IntN.{ℤ, pos, negsuc, natAbs, _+ℤ_, +ℤ-idr, +ℤ-idl}
@@ -17,6 +17,7 @@ use Rattle.floats.proofs.Bridge.{product-times}
 use Rattle.floats.proofs.Magnitude.{moved-normal}
 use Rattle.floats.proofs.Splitting.{split-m, split-e, rate-normal, rate-float, float-rate}
 use Rattle.accumulator.specs.declared.StableProductFloatAcc.{StableProductFloatAcc}
+use Rattle.accumulator.proofs.Combining.{acc-same}
 use Rattle.kernels.specs.Pieces.{accOf}
 use Rattle.kernels.specs.InnerLanes.{Represents}
 
@@ -28,7 +29,7 @@ pub near-in : (f : Factor) (z : ℤ) → natAbs z ≤ 1022 → NormalExponent 11
 near-in f (pos n) h = record { place = n + 1022; above = refl; below = omega arith }
 near-in f (negsuc n) h = record { place = 1022 - suc n; above = is-diff 1022 (suc n) ∙ at-pos 1022 (suc n) (1022 - suc n) (omega arith); below = omega arith }
 
-exponents : (e d z y p q : ℤ) (c : ℕ) → p ≡ e +ℤ z → q ≡ d +ℤ y → p +ℤ q +ℤ pos c ≡ e +ℤ d +ℤ (z +ℤ y +ℤ pos c)
+pub exponents : (e d z y p q : ℤ) (c : ℕ) → p ≡ e +ℤ z → q ≡ d +ℤ y → p +ℤ q +ℤ pos c ≡ e +ℤ d +ℤ (z +ℤ y +ℤ pos c)
 exponents e d z y p q c = simp ints (simp atoms (omega arith))
 
 -- ---- the product
@@ -41,11 +42,9 @@ module _ (B C : ℕ) (m x : Float) (e d : ℤ) (f g : Factor) (F : Represents B 
 
   size : natAbs z ≤ B + C + 1
   unfolding z c
-  size = le-trans (add-size (F .off +ℤ G .off) (pos c)) (add-le-add (le-trans (add-size (F .off) (G .off)) (add-le-add (F .near) (G .near))) (carry-le 52 f g (F .normal) (G .normal)))
-
-  product-is : times 52 (withExponent f (F .off)) (withExponent g (G .off)) ≡ withExponent (times 52 f g) z
-  unfolding times z c
-  product-is = refl
+  size =
+      le-trans (add-size (F .off +ℤ G .off) (pos c))
+      (add-le-add (le-trans (add-size (F .off) (G .off)) (add-le-add (F .near) (G .near))) (carry-le 52 f g (F .normal) (G .normal)))
 
   pub represents-times : Represents (B + C + 1) (productOf 11 52 m x) (e +ℤ d) (times 52 f g)
   unfolding times z c
@@ -64,7 +63,8 @@ module _ (B C : ℕ) (m x : Float) (e d : ℤ) (f g : Factor) (F : Represents B 
 
 -- ---- bringing back
 -- a lane whose m is normal, split, stands for the same factor with m in [1, 2)
-pub range-split : (m : Float) (e : ℤ) (f : Factor) (off : ℤ) → NormalExponent 11 (withExponent f off) → m ≡ floatOf 11 52 (withExponent f off) → f .exp ≡ e +ℤ off → Normalised 52 f → Represents 0 (split m .m) (e +ℤ split m .e) f
+pub range-split : (m : Float) (e : ℤ) (f : Factor) (off : ℤ) → NormalExponent 11 (withExponent f off) → m ≡ floatOf 11 52 (withExponent f off)
+    → f .exp ≡ e +ℤ off → Normalised 52 f → Represents 0 (split m .m) (e +ℤ split m .e) f
 range-split m e f off R is at N =
     let g = withExponent f off in
     let r : rateFactor m ≡ g = ap rateFactor is ∙ float-rate g (moved-normal 52 f off N) R in
@@ -107,13 +107,11 @@ none-off (pos zero) h = refl
 none-off (pos (suc n)) h = absurd (omega arith)
 none-off (negsuc n) h = absurd (omega arith)
 
-acc-same : (m m' : Float) (e e' : ℤ) (q : Bool) → m ≡ m' → e ≡ e' → _≡_ {A = StableProductFloatAcc} (record { m = m; e = e; bad = q }) (record { m = m'; e = e'; bad = q })
-acc-same m m' e e' q a b = cc
-
 -- brought back, m and e are those of the factor
 pub represents-acc : (m : Float) (e : ℤ) (f : Factor) → Represents 0 m e f → _≡_ {A = StableProductFloatAcc} (record { m = m; e = e; bad = false }) (accOf f)
 represents-acc m e f s =
     let z = none-off (s .off) (s .near) in
-    acc-same m (floatOf 11 52 (withExponent f (pos 0))) e (f .exp) false
+    acc-same m (floatOf 11 52 (withExponent f (pos 0))) e (f .exp) false false
     (s .m-is ∙ ap (λ (y : ℤ). floatOf 11 52 (withExponent f y)) z)
     (sym (s .e-is ∙ ap (λ (y : ℤ). e +ℤ y) z ∙ +ℤ-idr e))
+    refl

@@ -36,12 +36,17 @@ same-start : SameLanes (replicate 8 identityAcc) (replicate 8 (unit 52))
 same-start = record {
   acc-long = length-replicate 8 identityAcc;
   factor-long = length-replicate 8 (unit 52);
-  at = λ k h.
-      (getD-replicate 8 k identityAcc noAcc h ∙ identity-is ∙ ap accOf (sym (getD-replicate 8 k (unit 52) (unit 52) h)), subst (Normalised 52) (sym (getD-replicate 8 k (unit 52) (unit 52) h)) (unit-normal 52));
+  at = λ k h. (
+    getD-replicate 8 k identityAcc noAcc h
+        ∙ identity-is
+        ∙ ap accOf (sym (getD-replicate 8 k (unit 52) (unit 52) h)),
+    subst (Normalised 52) (sym (getD-replicate 8 k (unit 52) (unit 52) h)) (unit-normal 52),
+  );
 }
 
 -- An accumulator that is a factor's, from whatever format it came, joined to lane i mod 8.
-pub joined-value : (i : ℕ) (ls : List StableProductFloatAcc) (fs : List Factor) (b : StableProductFloatAcc) (g : Factor) → b ≡ accOf g → Normalised 52 g → SameLanes ls fs
+pub joined-value : (i : ℕ) (ls : List StableProductFloatAcc) (fs : List Factor) (b : StableProductFloatAcc) (g : Factor) → b ≡ accOf g → Normalised 52 g
+    → SameLanes ls fs
     → SameLanes (set ls (laneOf i) (combined (accAt ls (laneOf i)) b)) (laneTimes 52 i fs g)
 joined-value i ls fs b g e N s = record {
   acc-long = length-set ls j a ∙ s .acc-long;
@@ -76,50 +81,74 @@ joined-value i ls fs b g e N s = record {
     both : (k : ℕ) → k < 8 → (accAt (set ls j a) k ≡ accOf (getD (set fs j f) k (unit 52))) × Normalised 52 (getD (set fs j f) k (unit 52))
     both k h =
         set-cases (λ (y : Factor). (accAt (set ls j a) k ≡ accOf y) × Normalised 52 y) fs j k f (unit 52) in-factor
-        (λ p. (set-cases (λ (c : StableProductFloatAcc). c ≡ accOf f) ls j k a noAcc in-acc (λ p'. joined) (λ n. absurd (n p)), times-normal 52 (getD fs j (unit 52)) g normal N))
-        (λ n. (set-cases (λ (c : StableProductFloatAcc). c ≡ accOf (getD fs k (unit 52))) ls j k a noAcc in-acc (λ p. absurd (n p)) (λ n'. s .at k h .0), s .at k h .1))
+        (λ p. (
+          set-cases (λ (c : StableProductFloatAcc). c ≡ accOf f) ls j k a noAcc in-acc (λ p'. joined) (λ n. absurd (n p)),
+          times-normal 52 (getD fs j (unit 52)) g normal N,
+        ))
+        (λ n. (
+          set-cases (λ (c : StableProductFloatAcc). c ≡ accOf (getD fs k (unit 52))) ls j k a noAcc in-acc (λ p. absurd (n p))
+              (λ n'. s .at k h .0),
+          s .at k h .1,
+        ))
 
-same-more : (i : ℕ) (ls : List StableProductFloatAcc) (fs : List Factor) (x : Float) → GoodRate x → SameLanes ls fs → SameLanes (laneJoined i ls x) (laneTimes 52 i fs (rateFactor x))
+same-more : (i : ℕ) (ls : List StableProductFloatAcc) (fs : List Factor) (x : Float) → GoodRate x → SameLanes ls fs
+    → SameLanes (laneJoined i ls x) (laneTimes 52 i fs (rateFactor x))
 unfolding laneJoined
 same-more i ls fs x r s = joined-value i ls fs (rateAcc x) (rateFactor x) (rate-is x r) (rate-normal x) s
 
 same-all : {xs : List Float} → Each GoodRate xs → SameLanes (steppedLanes xs) (lanes 52 (map rateFactor xs))
 unfolding steppedLanes lanes
 same-all {xs} R =
-    feed-related laneJoined (laneTimes 52) rateFactor GoodRate (λ (i : ℕ). SameLanes) (length xs) (λ i s s' x h. same-more i s s' x) 0 (replicate 8 identityAcc) (replicate 8 (unit 52)) R (omega arith) same-start
+    feed-related laneJoined (laneTimes 52) rateFactor GoodRate (λ (i : ℕ). SameLanes) (length xs) (λ i s s' x h. same-more i s s' x) 0 (replicate 8 identityAcc)
+    (replicate 8 (unit 52)) R (omega arith) same-start
 
 -- with no bad rate, stepped lanes give the plain product of the piece
 pub stepped-agrees : {xs : List Float} → Each GoodRate xs → stepped xs ≡ accOf (pieceProduct 52 (map rateFactor xs))
 unfolding stepped lanesJoined pieceProduct
 stepped-agrees {xs} R =
-    order-related (λ (k : ℕ) (a : StableProductFloatAcc). combined a (accAt (steppedLanes xs) k)) (λ (k : ℕ) (p : Factor). times 52 p (getD (lanes 52 (map rateFactor xs)) k (unit 52)))
-    (λ (a : StableProductFloatAcc) (p : Factor). (a ≡ accOf p) × Normalised 52 p) 8 (λ k a p h r. turn k a p h r) identityAcc (unit 52) (identity-is, unit-normal 52) .0
+    order-related (λ (k : ℕ) (a : StableProductFloatAcc). combined a (accAt (steppedLanes xs) k))
+    (λ (k : ℕ) (p : Factor). times 52 p (getD (lanes 52 (map rateFactor xs)) k (unit 52)))
+    (λ (a : StableProductFloatAcc) (p : Factor). (a ≡ accOf p) × Normalised 52 p) 8 (λ k a p h r. turn k a p h r) identityAcc (unit 52)
+    (identity-is, unit-normal 52) .0
   where
     turn : (k : ℕ) (a : StableProductFloatAcc) (p : Factor) → k < 8 → (a ≡ accOf p) × Normalised 52 p
-        → (combined a (accAt (steppedLanes xs) k) ≡ accOf (times 52 p (getD (lanes 52 (map rateFactor xs)) k (unit 52)))) × Normalised 52 (times 52 p (getD (lanes 52 (map rateFactor xs)) k (unit 52)))
+        → (combined a (accAt (steppedLanes xs) k) ≡ accOf (times 52 p (getD (lanes 52 (map rateFactor xs)) k (unit 52))))
+        × Normalised 52 (times 52 p (getD (lanes 52 (map rateFactor xs)) k (unit 52)))
     turn k a p h r =
         let g = getD (lanes 52 (map rateFactor xs)) k (unit 52) in
-        let s = same-all R .at k h in
-        (ap (λ (b : StableProductFloatAcc). combined b (accAt (steppedLanes xs) k)) (r .0) ∙ ap (combined (accOf p)) (s .0) ∙ combined-times p g (r .1) (s .1), times-normal 52 p g (r .1) (s .1))
+        let s = same-all R .at k h in (
+          ap (λ (b : StableProductFloatAcc). combined b (accAt (steppedLanes xs) k)) (r .0)
+              ∙ ap (combined (accOf p)) (s .0)
+              ∙ combined-times p g (r .1) (s .1),
+          times-normal 52 p g (r .1) (s .1),
+        )
 
 -- ---- the mark
 abbrev bad : StableProductFloatAcc → Bool
 bad a = a .bad
 
-marks : (i : ℕ) (ls : List StableProductFloatAcc) (xs : List Float) → length ls ≡ 8 → (length (feed laneJoined i ls xs) ≡ 8) × (some bad (feed laneJoined i ls xs) ≡ (some bad ls || some isBad xs))
+marks : (i : ℕ) (ls : List StableProductFloatAcc) (xs : List Float) → length ls ≡ 8
+    → (length (feed laneJoined i ls xs) ≡ 8) × (some bad (feed laneJoined i ls xs) ≡ (some bad ls || some isBad xs))
 unfolding feed laneJoined some
 marks i ls [] h = (h, sym (or-none (some bad ls)))
 marks i ls (x ∷ xs) h =
     let j = laneOf i in
     let a = combined (accAt ls j) (rateAcc x) in
-    let r = marks (suc i) (set ls j a) xs (length-set ls j a ∙ h) in
-    (r .0, r .1 ∙ ap (λ (b : Bool). b || some isBad xs) (some-set bad ls j noAcc a (isBad x) (subst (λ (n : ℕ). j < n) (sym h) (lane-lt i)) (combined-mark (accAt ls j) (rateAcc x) ∙ ap (λ (b : Bool). accAt ls j .bad || b) (rate-mark x))) ∙ or-assoc (some bad ls) (isBad x) (some isBad xs))
+    let r = marks (suc i) (set ls j a) xs (length-set ls j a ∙ h) in (
+      r .0,
+      r .1
+          ∙ ap (λ (b : Bool). b || some isBad xs)
+          (some-set bad ls j noAcc a (isBad x) (subst (λ (n : ℕ). j < n) (sym h) (lane-lt i))
+          (combined-mark (accAt ls j) (rateAcc x) ∙ ap (λ (b : Bool). accAt ls j .bad || b) (rate-mark x)))
+          ∙ or-assoc (some bad ls) (isBad x) (some isBad xs),
+    )
 
 -- lanes joined in order are bad exactly if one of them is
 joined-mark : (ls : List StableProductFloatAcc) → length ls ≡ 8 → lanesJoined ls .bad ≡ some bad ls
 unfolding lanesJoined some
 joined-mark ls h =
-    order-keeps (λ (k : ℕ) (a : StableProductFloatAcc). combined a (accAt ls k)) (λ (k : ℕ) (a : StableProductFloatAcc). a .bad ≡ some bad (take k ls)) 8 (λ k a l r. turn k a l r) identityAcc start
+    order-keeps (λ (k : ℕ) (a : StableProductFloatAcc). combined a (accAt ls k)) (λ (k : ℕ) (a : StableProductFloatAcc). a .bad ≡ some bad (take k ls)) 8
+    (λ k a l r. turn k a l r) identityAcc start
     ∙ ap (some bad) (take-all 8 ls (le-of-eq h))
   where
     start : identityAcc .bad ≡ some bad (take 0 ls)
@@ -130,7 +159,10 @@ joined-mark ls h =
         let b = accAt ls k in
         combined-mark a b
         ∙ ap (λ (t : Bool). t || b .bad) r
-        ∙ sym (ap (some bad) (take-suc ls k noAcc (subst (λ (n : ℕ). k < n) (sym h) l)) ∙ some-append bad (take k ls) (b ∷ []) ∙ ap (λ (t : Bool). some bad (take k ls) || t) (some-one bad b))
+        ∙ sym
+        (ap (some bad) (take-suc ls k noAcc (subst (λ (n : ℕ). k < n) (sym h) l))
+        ∙ some-append bad (take k ls) (b ∷ [])
+        ∙ ap (λ (t : Bool). some bad (take k ls) || t) (some-one bad b))
 
 -- the mark is set exactly if some rate of the piece is bad
 pub stepped-mark : (xs : List Float) → stepped xs .bad ≡ some isBad xs

@@ -1,34 +1,32 @@
 -- What the code of a step on the lanes works out. Assumes nothing.
 use Prim.Native.Nat.{ℕ, _+_, _^_, _≤_, _<_}
-use mathlib.Core.Path.{_≡_, refl, sym, ap, _∙_, subst}
-use mathlib.Core.Bool.{Bool, true, false, not, cond, _&&_, _||_}
-use mathlib.Core.List.{List}
+use mathlib.Core.Path.{_≡_, sym, ap, _∙_, subst}
+use mathlib.Core.Bool.{_||_}
 use native.Mathlib.Nat.{le-trans, mod-eq-of-lt}
 use lib.Dec.{lit≤}
 use lib.ListN.{getD, set}
 use lib.IntN.{ℤ, natAbs, _+ℤ_}
-use lib.Ieee.{Float, nan, mul, binary64, isNan}
+use lib.Ieee.{Float, nan, mul, binary64}
 use mir.Syntax.{w64}
 use mir.Val.{SFits, toZ, ofZ}
 use Rattle.floats.specs.Product.{productOf}
 use Rattle.floats.specs.Splitting.{split}
 use Rattle.floats.specs.declared.Split.{Split}
 use Rattle.floats.proofs.Product.{mul-binary64}
-use Rattle.accumulator.specs.declared.StableProductFloatAcc.{StableProductFloatAcc}
 use Rattle.kernels.specs.declared.lanes.Lanes.{Lanes}
-use Rattle.kernels.specs.Lanes.{feed, laneOf, every, some}
-use Rattle.kernels.specs.Blocks.{mOf, eOf, unsplitStep, splitStep, inBounds, renormLane, renorm, unsplit, block, laneIn}
+use Rattle.kernels.specs.Lanes.{laneOf}
+use Rattle.kernels.specs.Blocks.{mOf, eOf, unsplitStep, splitStep, renormLane}
 use Rattle.kernels.specs.InnerLanes.{SmallLanes}
 use Rattle.accumulator.proofs.Exponents.{sum-fits, sum-exact}
 use Rattle.kernels.proofs.Factors.{lane-again}
 use Rattle.kernels.proofs.Sizes.{split-size}
-use Rattle.kernels.proofs.LaneSizes.{all-fits, all-exact}
 
 lane-is : (k : ℕ) → k < 8 → laneOf k ≡ k
 lane-is k h = mod-eq-of-lt h
 
 -- value k of a vector goes to lane k
-pub unsplit-lane : (s : Lanes) (k : ℕ) (x : Float) → k < 8 → _≡_ {A = Lanes} (record { m = set (s .m) k (mul binary64 (getD (s .m) k nan) x); e = s .e; bad = s .bad }) (unsplitStep k s x)
+pub unsplit-lane : (s : Lanes) (k : ℕ) (x : Float) → k < 8
+    → _≡_ {A = Lanes} (record { m = set (s .m) k (mul binary64 (getD (s .m) k nan) x); e = s .e; bad = s .bad }) (unsplitStep k s x)
 unfolding unsplitStep
 unsplit-lane s k x h =
     ap (λ (y : Float). record { m = set (s .m) k y; e = s .e; bad = s .bad }) (mul-binary64 (mOf s k) x)
@@ -51,17 +49,25 @@ module _ (s : Lanes) (h : SmallLanes (2 ^ 61) s) (x : Float) (p : Split) (e : p 
 
   -- value i, split into its lane
   pub split-lane : (i : ℕ)
-      → _≡_ {A = Lanes} (record { m = set (s .m) (laneOf i) (mul binary64 (getD (s .m) (laneOf i) nan) (p .m)); e = set (s .e) (laneOf i) (toZ w64 (ofZ w64 (toZ w64 (ofZ w64 (eOf s (laneOf i))) +ℤ toZ w64 (ofZ w64 (p .e))))); bad = s .bad || p .bad }) (splitStep i s x)
+      → _≡_ {A = Lanes}
+      (record {
+        m = set (s .m) (laneOf i) (mul binary64 (getD (s .m) (laneOf i) nan) (p .m));
+        e = set (s .e) (laneOf i) (toZ w64 (ofZ w64 (toZ w64 (ofZ w64 (eOf s (laneOf i))) +ℤ toZ w64 (ofZ w64 (p .e)))));
+        bad = s .bad || p .bad;
+      }) (splitStep i s x)
   unfolding splitStep
   split-lane i =
       let j = laneOf i in
       ap (λ (z : ℤ). record { m = set (s .m) j (mul binary64 (mOf s j) (p .m)); e = set (s .e) j z; bad = s .bad || p .bad }) (added-is j)
       ∙ ap (λ (q : Split). record { m = set (s .m) j (mul binary64 (mOf s j) (q .m)); e = set (s .e) j (eOf s j +ℤ split x .e); bad = s .bad || q .bad }) e
-      ∙ ap (λ (y : Float). record { m = set (s .m) j y; e = set (s .e) j (eOf s j +ℤ split x .e); bad = s .bad || split x .bad }) (mul-binary64 (mOf s j) (split x .m))
+      ∙ ap (λ (y : Float). record { m = set (s .m) j y; e = set (s .e) j (eOf s j +ℤ split x .e); bad = s .bad || split x .bad })
+      (mul-binary64 (mOf s j) (split x .m))
 
 -- lane j, brought back
 pub renorm-one : (s : Lanes) (h : SmallLanes (2 ^ 61) s) (j : ℕ) (p : Split) (e : p ≡ split (mOf s j))
-    → _≡_ {A = Lanes} (record { m = set (s .m) j (p .m); e = set (s .e) j (toZ w64 (ofZ w64 (toZ w64 (ofZ w64 (eOf s j)) +ℤ toZ w64 (ofZ w64 (p .e))))); bad = s .bad }) (renormLane j s)
+    → _≡_ {A = Lanes}
+    (record { m = set (s .m) j (p .m); e = set (s .e) j (toZ w64 (ofZ w64 (toZ w64 (ofZ w64 (eOf s j)) +ℤ toZ w64 (ofZ w64 (p .e))))); bad = s .bad })
+    (renormLane j s)
 unfolding renormLane
 renorm-one s h j p e =
     ap (λ (z : ℤ). record { m = set (s .m) j (p .m); e = set (s .e) j z; bad = s .bad }) (added-is s h (mOf s j) p e j)

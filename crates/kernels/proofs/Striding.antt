@@ -1,40 +1,55 @@
--- The loop of stepped lanes over a slice: what is held after i values. Assumes nothing.
+-- Values a stride apart: their places in the slice, and the loop of stepped lanes over them. Assumes nothing.
 use Prim.Native.Nat.{ℕ, zero, suc, _+_, _-_, _*_, _^_, _≤_, _<_}
 use mathlib.Core.Path.{_≡_, refl, sym, ap, _∙_, subst}
-use mathlib.Core.List.{List, _∷_}
+use mathlib.Core.List.{List, _∷_, _++_}
 use native.Mathlib.Numerals.{add-one}
 use native.Mathlib.Omega.{arith}
 use lib.ListN.{length, getD, set, take, drop, replicate}
 use lib.Seq.{drop-cons, take-all}
-use native.Mathlib.Nat.{le-refl}
+use native.Mathlib.Nat.{le-refl, zero-add}
 use lib.IntN.{ℤ, pos, negsuc, natAbs, _+ℤ_, _*ℤ_}
 use lib.Dec.{T, ltb→lt}
 use lib.Signed.{nonNeg, _≤ℤ_, _<ℤ_}
-use lib.Ieee.{Float, nan}
-use mir.Val.{SFits}
+use lib.Ieee.{Float, nan, binary64, fits}
+use mir.Val.{SFits, toZ, ofZ}
+use mir.ValLaws.{toZ-ofZ}
 use mir.Syntax.{w64}
 use Rattle.integers.proofs.Difference.{ints, atoms}
 use Rattle.accumulator.specs.declared.StableProductFloatAcc.{StableProductFloatAcc}
 use Rattle.accumulator.specs.Joining.{identityAcc, combined}
-use Rattle.kernels.specs.Lanes.{feed, laneOf}
+use Rattle.kernels.specs.Lanes.{Each, none, more, feed, laneOf}
 use Rattle.kernels.specs.InnerStrided.{strided, PlacesInside}
 use Rattle.kernels.specs.Stepped.{rateAcc, accAt, laneJoined, steppedLanes}
 use Rattle.kernels.specs.InnerStepped.{SmallAccs}
+use Rattle.kernels.proofs.Blocking.{Value}
 use Rattle.kernels.proofs.Sizes.{accs-le}
 use Rattle.kernels.proofs.Bounded.{Joined, joined-small, joined-start, joined-more, joined-all}
 
 -- ---- places
-inside-next : (len : ℕ) (at stride : ℤ) (n : ℕ) → PlacesInside len at stride (suc n) → PlacesInside len (at +ℤ stride) stride n
-inside-next len at stride n h = record {
-  least = λ i l. low i (h .least (suc i) (omega arith));
-  most = λ i l. high i (h .most (suc i) (omega arith));
+pub place-first : (s t : ℤ) → s ≡ s +ℤ t *ℤ pos 0
+place-first s t = simp ints (simp atoms (omega arith))
+
+-- fewer places, and those from place a on
+pub inside-less : (len : ℕ) (s d : ℤ) (n m : ℕ) → PlacesInside len s d n → m ≤ n → PlacesInside len s d m
+inside-less len s d n m h l = record { least = λ i b. h .least i (omega arith); most = λ i b. h .most i (omega arith) }
+
+pub inside-part : (len : ℕ) (s t : ℤ) (n a b : ℕ) → PlacesInside len s t n → a + b ≤ n → PlacesInside len (s +ℤ t *ℤ pos a) t b
+inside-part len s t n a b h l = record {
+  least = λ i m. low i (h .least (a + i) (omega arith));
+  most = λ i m. high i (h .most (a + i) (omega arith));
 }
   where
-    low : (i : ℕ) → pos 0 ≤ℤ (at +ℤ stride *ℤ pos (suc i)) → pos 0 ≤ℤ (at +ℤ stride +ℤ stride *ℤ pos i)
+    low : (i : ℕ) → pos 0 ≤ℤ (s +ℤ t *ℤ pos (a + i)) → pos 0 ≤ℤ (s +ℤ t *ℤ pos a +ℤ t *ℤ pos i)
     low i = simp ints (simp atoms (omega arith))
 
-    high : (i : ℕ) → (at +ℤ stride *ℤ pos (suc i)) <ℤ pos len → (at +ℤ stride +ℤ stride *ℤ pos i) <ℤ pos len
+    high : (i : ℕ) → (s +ℤ t *ℤ pos (a + i)) <ℤ pos len → (s +ℤ t *ℤ pos a +ℤ t *ℤ pos i) <ℤ pos len
     high i = simp ints (simp atoms (omega arith))
+
+inside-next : (len : ℕ) (at stride : ℤ) (n : ℕ) → PlacesInside len at stride (suc n) → PlacesInside len (at +ℤ stride) stride n
+inside-next len at stride n h = subst (λ (z : ℤ). PlacesInside len z stride n) place-one (inside-part len at stride (suc n) 1 n h (omega arith))
+  where
+    place-one : at +ℤ stride *ℤ pos 1 ≡ at +ℤ stride
+    place-one = simp ints (simp atoms (omega arith))
 
 inside-none : (len : ℕ) (at stride : ℤ) → PlacesInside len at stride 0
 inside-none len at stride = record { least = λ i l. absurd (omega arith); most = λ i l. absurd (omega arith) }
@@ -79,6 +94,27 @@ unfolding strided
 length-strided xs start stride zero = refl
 length-strided xs start stride (suc n) = ap suc (length-strided xs (start +ℤ stride) stride n)
 
+-- the first a values, and the rest, which begin a strides further
+pub strided-append : (xs : List Float) (s t : ℤ) (a b : ℕ) → strided xs s t (a + b) ≡ strided xs s t a ++ strided xs (s +ℤ t *ℤ pos a) t b
+unfolding strided
+strided-append xs s t zero b = ap (strided xs s t) (zero-add b) ∙ ap (λ (z : ℤ). strided xs z t b) (place-first s t)
+strided-append xs s t (suc a) b =
+    ap (strided xs s t) one
+    ∙ ap (λ (l : List Float). getD xs (natAbs s) nan ∷ l)
+    (strided-append xs (s +ℤ t) t a b ∙ ap (λ (z : ℤ). strided xs (s +ℤ t) t a ++ strided xs z t b) further)
+  where
+    one : suc a + b ≡ suc (a + b)
+    one = omega arith
+
+    further : s +ℤ t +ℤ t *ℤ pos a ≡ s +ℤ t *ℤ pos (suc a)
+    further = simp ints (simp atoms (omega arith))
+
+-- the values of a slice of f64 are values of binary64, and so are those that lie a stride apart
+pub strided-values : (xs : List Float) → ((i : ℕ) → T (fits binary64 (getD xs i nan))) → (s d : ℤ) (n : ℕ) → Each Value (strided xs s d n)
+unfolding strided
+strided-values xs v s d zero = none
+strided-values xs v s d (suc n) = more (v (natAbs s)) (strided-values xs v (s +ℤ d) d n)
+
 -- ---- at stride 1 the values lie side by side
 pub strided-window : (xs : List Float) (at n : ℕ) → at + n ≤ length xs → take n (drop at xs) ≡ strided xs (pos at) (pos 1) n
 unfolding strided
@@ -116,11 +152,37 @@ module _ (len at : ℕ) (z : ℤ) (n : ℕ) (i : PlacesInside len z (pos 1) n) (
       go : (pos at +ℤ pos 1 *ℤ pos (n - 1)) <ℤ pos len → 1 ≤ n → at + n ≤ len
       go = simp ints (simp atoms (omega arith))
 
+-- n values at stride 1 from z on, by the index that the code has for z
+pub record Beside (xs : List Float) (z d : ℤ) (n : ℕ) : Type 0 where
+  pub natural : T (nonNeg (toZ w64 (ofZ w64 z)))
+  pub ends : natAbs (toZ w64 (ofZ w64 z)) + n ≤ length xs
+  pub same : take n (drop (natAbs (toZ w64 (ofZ w64 z))) xs) ≡ strided xs z d n
+
+pub beside : (xs : List Float) (z d : ℤ) (n : ℕ) → SFits w64 z → d ≡ pos 1 → PlacesInside (length xs) z d n → 1 ≤ n → Beside xs z d n
+beside xs z d n f e i some = record {
+  natural = subst (λ (y : ℤ). T (nonNeg y)) (sym (toZ-ofZ w64 z f)) (first-natural (length xs) z (pos 1) n i' some);
+  ends = ends;
+  same =
+      strided-window xs (natAbs (toZ w64 (ofZ w64 z))) n ends
+      ∙ ap (λ (y : ℤ). strided xs y (pos 1) n) (sym (at-first (length xs) (natAbs (toZ w64 (ofZ w64 z))) z n i' some is))
+      ∙ ap (λ (y : ℤ). strided xs z y n) (sym e);
+}
+  where
+    is : natAbs z ≡ natAbs (toZ w64 (ofZ w64 z))
+    is = sym (ap natAbs (toZ-ofZ w64 z f))
+
+    i' : PlacesInside (length xs) z (pos 1) n
+    i' = subst (λ (y : ℤ). PlacesInside (length xs) z y n) e i
+
+    ends : natAbs (toZ w64 (ofZ w64 z)) + n ≤ length xs
+    ends = at-last (length xs) (natAbs (toZ w64 (ofZ w64 z))) z n i' some is
+
 -- the lanes of at most 2^40 values are far from the ends of i64
 pub strided-small : (xs : List Float) (start stride : ℤ) (n : ℕ) → n ≤ 2 ^ 40 → SmallAccs (2 ^ 52) (steppedLanes (strided xs start stride n))
 strided-small xs start stride n h =
     let ys = strided xs start stride n in
-    accs-le (1025 * length ys) (2 ^ 52) (steppedLanes ys) (rw (length-strided xs start stride n) (omega arith)) (joined-small (length ys) (steppedLanes ys) (joined-all ys))
+    accs-le (1025 * length ys) (2 ^ 52) (steppedLanes ys) (rw (length-strided xs start stride n) (omega arith))
+    (joined-small (length ys) (steppedLanes ys) (joined-all ys))
 
 -- ---- the loop: i values are in the lanes ls, and the next is at `at`
 pub record PlacesPassed (xs : List Float) (start stride : ℤ) (n : ℕ) (ls : List StableProductFloatAcc) (at : ℤ) (i : ℕ) : Type 0 where
@@ -130,12 +192,15 @@ pub record PlacesPassed (xs : List Float) (start stride : ℤ) (n : ℕ) (ls : L
   pub joined : Joined i ls
 
 module _ (xs : List Float) (start stride : ℤ) (n : ℕ) where
-  pub passed-none : (ls : List StableProductFloatAcc) → ls ≡ replicate 8 identityAcc → PlacesInside (length xs) start stride n → PlacesPassed xs start stride n ls start 0
+  pub passed-none : (ls : List StableProductFloatAcc) → ls ≡ replicate 8 identityAcc → PlacesInside (length xs) start stride n
+      → PlacesPassed xs start stride n ls start 0
   unfolding steppedLanes
   passed-none ls e h = record {
     short = omega arith;
     inside = subst (PlacesInside (length xs) start stride) (sym all) h;
-    same = ap (λ (k : ℕ). feed laneJoined 0 ls (strided xs start stride k)) all ∙ ap (λ (l : List StableProductFloatAcc). feed laneJoined 0 l (strided xs start stride n)) e;
+    same =
+        ap (λ (k : ℕ). feed laneJoined 0 ls (strided xs start stride k)) all
+        ∙ ap (λ (l : List StableProductFloatAcc). feed laneJoined 0 l (strided xs start stride n)) e;
     joined = subst (Joined 0) (sym e) joined-start;
   }
     where
@@ -147,7 +212,8 @@ module _ (xs : List Float) (start stride : ℤ) (n : ℕ) where
     unfolding feed strided
     passed-all h = sym (ap (λ (k : ℕ). feed laneJoined i ls (strided xs at stride k)) (let z : n - i ≡ 0 = omega arith in z)) ∙ p .same
 
-    module _ (us : List StableProductFloatAcc) (l : i < n) (e : us ≡ set ls (laneOf i) (combined (accAt ls (laneOf i)) (rateAcc (getD xs (natAbs at) nan)))) where
+    module _ (us : List StableProductFloatAcc) (l : i < n)
+        (e : us ≡ set ls (laneOf i) (combined (accAt ls (laneOf i)) (rateAcc (getD xs (natAbs at) nan)))) where
       one-less : n - i ≡ suc (n - (i + 1))
       one-less = omega arith
 
@@ -162,10 +228,18 @@ module _ (xs : List Float) (start stride : ℤ) (n : ℕ) where
 
       longer : Joined (i + 1) us
       unfolding laneJoined
-      longer = subst (Joined (i + 1)) (sym e) (subst (λ (k : ℕ). Joined k (laneJoined i ls (getD xs (natAbs at) nan))) (sym (add-one i)) (joined-more i ls (getD xs (natAbs at) nan) (p .joined)))
+      longer =
+          subst (Joined (i + 1)) (sym e)
+          (subst (λ (k : ℕ). Joined k (laneJoined i ls (getD xs (natAbs at) nan))) (sym (add-one i))
+          (joined-more i ls (getD xs (natAbs at) nan) (p .joined)))
 
       pub passed-more : i + 1 < n → PlacesPassed xs start stride n us (at +ℤ stride) (i + 1)
-      passed-more h = record { short = omega arith; inside = inside-next (length xs) at stride (n - (i + 1)) (subst (PlacesInside (length xs) at stride) one-less (p .inside)); same = turned; joined = longer }
+      passed-more h = record {
+        short = omega arith;
+        inside = inside-next (length xs) at stride (n - (i + 1)) (subst (PlacesInside (length xs) at stride) one-less (p .inside));
+        same = turned;
+        joined = longer;
+      }
 
       -- the last value: no further place is formed
       pub passed-last : n ≤ i + 1 → PlacesPassed xs start stride n us at (i + 1)
@@ -173,7 +247,10 @@ module _ (xs : List Float) (start stride : ℤ) (n : ℕ) where
       passed-last h = record {
         short = omega arith;
         inside = subst (PlacesInside (length xs) at stride) (sym none) (inside-none (length xs) at stride);
-        same = ap (λ (k : ℕ). feed laneJoined (i + 1) us (strided xs at stride k)) none ∙ sym (ap (λ (k : ℕ). feed laneJoined (i + 1) us (strided xs (at +ℤ stride) stride k)) none) ∙ turned;
+        same =
+            ap (λ (k : ℕ). feed laneJoined (i + 1) us (strided xs at stride k)) none
+            ∙ sym (ap (λ (k : ℕ). feed laneJoined (i + 1) us (strided xs (at +ℤ stride) stride k)) none)
+            ∙ turned;
         joined = longer;
       }
         where

@@ -3,8 +3,8 @@ use Prim.Native.Nat.{ℕ, _≤_, _<_}
 use mathlib.Core.List.{List, map}
 use mathlib.Core.Bool.{_||_}
 use lib.ListN.{length, getD, take, drop}
-use lib.IntN.{ℤ, natAbs, _+ℤ_}
-use lib.Ieee.{Float}
+use lib.IntN.{ℤ, pos, natAbs, _+ℤ_}
+use lib.Ieee.{Float, nan}
 use mathlib.Core.Path.{_≡_}
 use Rattle.floats.specs.Splitting.{isBad, rateFactor}
 use Rattle.kernels.specs.declared.lanes.Lanes.{Lanes}
@@ -12,7 +12,7 @@ use Rattle.kernels.specs.Lanes.{feed, some}
 use Rattle.floats.specs.Factor.{Factor, Normalised, unit, floatOf}
 use Rattle.floats.specs.Magnitude.{withExponent}
 use Rattle.kernels.specs.InnerPlain.{laneTimes}
-use Rattle.kernels.specs.Blocks.{mOf, eOf}
+use Rattle.kernels.specs.Blocks.{eOf}
 
 -- no lane's exponent is past n, either way
 pub record SmallLanes (n : ℕ) (s : Lanes) : Type 0 where
@@ -30,14 +30,26 @@ pub record Represents (B : ℕ) (m : Float) (e : ℤ) (f : Factor) : Type 0 wher
   pub e-is : f .exp ≡ e +ℤ off
   pub normal : Normalised 52 f
 
--- eight lanes stand for eight factors, lane k within b k of [1, 2)
-pub record LanesRepresent (b : ℕ → ℕ) (s : Lanes) (fs : List Factor) : Type 0 where
-  pub m-long : length (s .m) ≡ 8
-  pub e-long : length (s .e) ≡ 8
+-- eight floats and exponents beside eight factors, those of lane k related within b k
+pub record LanesAre (R : ℕ → Float → ℤ → Factor → Type 0) (b : ℕ → ℕ) (ms : List Float) (es : List ℤ) (fs : List Factor) : Type 0 where
+  pub m-long : length ms ≡ 8
+  pub e-long : length es ≡ 8
   pub f-long : length fs ≡ 8
-  pub at : (k : ℕ) → k < 8 → Represents (b k) (mOf s k) (eOf s k) (getD fs k (unit 52))
+  pub at : (k : ℕ) → k < 8 → R (b k) (getD ms k nan) (getD es k (pos 0)) (getD fs k (unit 52))
 
--- r is what lanes s in [1, 2) become by the values xs, in whatever way: the factors are the plain lanes', in [1, 2) again, and the mark is set by every bad value
+-- eight lanes stand for eight factors, lane k within b k of [1, 2)
+abbrev pub LanesRepresent : (ℕ → ℕ) → Lanes → List Factor → Type 0
+LanesRepresent b s fs = LanesAre Represents b (s .m) (s .e) fs
+
+-- the bound of lanes in [1, 2)
+abbrev pub zeros : ℕ → ℕ
+zeros k = 0
+
+-- what the rates xs make of the factors of eight plain lanes
+abbrev pub plainAfter : List Factor → List Float → List Factor
+plainAfter fs xs = feed (laneTimes 52) 0 fs (map rateFactor xs)
+
+-- r is what lanes s in [1, 2) become by the values xs, in whatever way: the factors are the plain lanes', in [1, 2) again, and every bad value sets the mark
 pub record LanesAfter (s : Lanes) (xs : List Float) (r : Lanes) : Type 0 where
-  pub represent : (fs : List Factor) → LanesRepresent (λ (k : ℕ). 0) s fs → LanesRepresent (λ (k : ℕ). 0) r (feed (laneTimes 52) 0 fs (map rateFactor xs))
-  pub mark : (fs : List Factor) → LanesRepresent (λ (k : ℕ). 0) s fs → r .bad ≡ (s .bad || some isBad xs)
+  pub represent : (fs : List Factor) → LanesRepresent zeros s fs → LanesRepresent zeros r (plainAfter fs xs)
+  pub mark : (fs : List Factor) → LanesRepresent zeros s fs → r .bad ≡ (s .bad || some isBad xs)

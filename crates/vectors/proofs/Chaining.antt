@@ -1,6 +1,6 @@
 -- Lanes multiplied in lane order, unsplit. Assumes nothing.
 use Prim.Native.Nat.{ℕ, zero, suc, _+_, _*_, _≤_, _<_}
-use mathlib.Core.Path.{_≡_, refl, sym, ap, _∙_, subst}
+use mathlib.Core.Path.{_≡_, refl, subst}
 use mathlib.Core.Bool.{Bool, true, false}
 use mathlib.Core.List.{List}
 use mathlib.Core.Logic.{_⊎_, inl, inr}
@@ -17,21 +17,22 @@ use Rattle.floats.proofs.Overflow.{isLost, lost-product, lost-factor}
 use Rattle.kernels.specs.declared.lanes.Lanes.{Lanes}
 use Rattle.kernels.specs.Lanes.{inOrder}
 use Rattle.kernels.specs.Blocks.{mOf, eOf}
-use Rattle.kernels.specs.InnerLanes.{Represents, LanesRepresent}
+use Rattle.kernels.specs.InnerLanes.{Represents, LanesRepresent, zeros}
 use Rattle.kernels.proofs.Standing.{represents-times, represents-one, represents-more}
 use Rattle.vectors.specs.InnerWaiting.{one, chained, exponentsOf}
-use Rattle.vectors.proofs.Waits.{Waits, waits-more, waits-times, represents-waits}
-use Rattle.vectors.proofs.Waiting.{WaitLanes, LostLane}
+use Rattle.vectors.proofs.Waits.{Waits, WaitLanes, waits-more, waits-times, represents-waits}
+use Rattle.vectors.proofs.Waiting.{LostLane}
 
-abbrev times-in : List Factor → ℕ → Factor → Factor
+abbrev pub times-in : List Factor → ℕ → Factor → Factor
 times-in fs k p = times 52 p (getD fs k (unit 52))
 
 abbrev product-in : List Float → ℕ → Float → Float
 product-in ms k p = productOf 11 52 p (getD ms k nan)
 
 -- ---- lanes in [1, 2): the product is below 2^9
-module _ (s : Lanes) (fs : List Factor) (H : LanesRepresent (λ (k : ℕ). 0) s fs) where
-  upto : (n : ℕ) → n ≤ 8 → Represents n (inOrder (product-in (s .m)) n one) (inOrder (λ (k : ℕ) (e : ℤ). e +ℤ eOf s k) n (pos 0)) (inOrder (times-in fs) n (unit 52))
+module _ (s : Lanes) (fs : List Factor) (H : LanesRepresent zeros s fs) where
+  upto : (n : ℕ) → n ≤ 8
+      → Represents n (inOrder (product-in (s .m)) n one) (inOrder (λ (k : ℕ) (e : ℤ). e +ℤ eOf s k) n (pos 0)) (inOrder (times-in fs) n (unit 52))
   unfolding inOrder
   upto zero h = represents-one
   upto (suc n) h =
@@ -47,8 +48,9 @@ module _ (s : Lanes) (fs : List Factor) (H : LanesRepresent (λ (k : ℕ). 0) s 
   chain-represents = upto 8 (le-refl 8)
 
 -- ---- lanes that wait, each at most 120 deep and with the exponent 0
-module _ (ms : List Float) (fs : List Factor) (es : List ℤ) (zeros : (k : ℕ) → getD es k (pos 0) ≡ pos 0) (W : WaitLanes (λ (k : ℕ). 120) ms es fs) where
-  on : (n : ℕ) → n ≤ 8 → Waits (120 * n) (inOrder (product-in ms) n one) (pos 0) (inOrder (times-in fs) n (unit 52)) ⊎ (isLost (inOrder (product-in ms) n one) ≡ true)
+module _ (ms : List Float) (fs : List Factor) (es : List ℤ) (none : (k : ℕ) → getD es k (pos 0) ≡ pos 0) (W : WaitLanes (λ (k : ℕ). 120) ms es fs) where
+  on : (n : ℕ) → n ≤ 8
+      → Waits (120 * n) (inOrder (product-in ms) n one) (pos 0) (inOrder (times-in fs) n (unit 52)) ⊎ (isLost (inOrder (product-in ms) n one) ≡ true)
   unfolding inOrder
   on zero h = inl (represents-waits one (pos 0) (unit 52) represents-one)
   on (suc n) h = go (on n (le-of-lt h))
@@ -60,14 +62,19 @@ module _ (ms : List Float) (fs : List Factor) (es : List ℤ) (zeros : (k : ℕ)
       f = inOrder (times-in fs) n (unit 52)
 
       lane : Waits 120 (getD ms n nan) (pos 0) (getD fs n (unit 52))
-      lane = subst (λ (e : ℤ). Waits 120 (getD ms n nan) e (getD fs n (unit 52))) (zeros n) (W .at n h)
+      lane = subst (λ (e : ℤ). Waits 120 (getD ms n nan) e (getD fs n (unit 52))) (none n) (W .at n h)
 
-      deeper : Waits (120 * n + 120) (productOf 11 52 p (getD ms n nan)) (pos 0) (times 52 f (getD fs n (unit 52))) ⊎ (isLost (productOf 11 52 p (getD ms n nan)) ≡ true)
-          → Waits (120 * suc n) (productOf 11 52 p (getD ms n nan)) (pos 0) (times 52 f (getD fs n (unit 52))) ⊎ (isLost (productOf 11 52 p (getD ms n nan)) ≡ true)
-      deeper (inl w) = inl (waits-more (120 * n + 120) (120 * suc n) (productOf 11 52 p (getD ms n nan)) (pos 0) (times 52 f (getD fs n (unit 52))) (omega arith) w)
+      deeper : Waits (120 * n + 120) (productOf 11 52 p (getD ms n nan)) (pos 0) (times 52 f (getD fs n (unit 52)))
+          ⊎ (isLost (productOf 11 52 p (getD ms n nan)) ≡ true)
+          → Waits (120 * suc n) (productOf 11 52 p (getD ms n nan)) (pos 0) (times 52 f (getD fs n (unit 52)))
+          ⊎ (isLost (productOf 11 52 p (getD ms n nan)) ≡ true)
+      deeper (inl w) =
+          inl (waits-more (120 * n + 120) (120 * suc n) (productOf 11 52 p (getD ms n nan)) (pos 0) (times 52 f (getD fs n (unit 52))) (omega arith) w)
       deeper (inr e) = inr e
 
-      go : Waits (120 * n) p (pos 0) f ⊎ (isLost p ≡ true) → Waits (120 * suc n) (productOf 11 52 p (getD ms n nan)) (pos 0) (times 52 f (getD fs n (unit 52))) ⊎ (isLost (productOf 11 52 p (getD ms n nan)) ≡ true)
+      go : Waits (120 * n) p (pos 0) f ⊎ (isLost p ≡ true)
+          → Waits (120 * suc n) (productOf 11 52 p (getD ms n nan)) (pos 0) (times 52 f (getD fs n (unit 52)))
+          ⊎ (isLost (productOf 11 52 p (getD ms n nan)) ≡ true)
       go (inl w) = deeper (waits-times (120 * n) 120 p (getD ms n nan) (pos 0) (pos 0) f (getD fs n (unit 52)) w lane (omega arith))
       go (inr e) = inr (lost-product p (getD ms n nan) e)
 

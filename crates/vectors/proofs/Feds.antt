@@ -1,70 +1,49 @@
 -- What values make of lanes: one list after another, whole vectors, and the product at the end. Assumes nothing.
-use Prim.Native.Nat.{ℕ, zero, suc, _+_, _-_, _*_, _%_, _^_, _≤_, _<_, zero-le}
+use Prim.Native.Nat.{ℕ, zero, suc, _+_, _*_, _^_, _≤_, _<_, zero-le}
 use mathlib.Core.Path.{_≡_, refl, sym, ap, _∙_, subst}
 use mathlib.Core.Bool.{Bool, true, false, _||_}
 use mathlib.Core.List.{List, [], _∷_, _++_, map, map-append}
-use mathlib.Core.Logic.{_⊎_, inl, inr}
-use native.Mathlib.Nat.{le-trans, zero-add}
+use native.Mathlib.Nat.{le-trans}
 use native.Mathlib.Omega.{arith}
-use lib.ListN.{length, getD, set, replicate, length-map, length-append, length-replicate}
+use lib.ListN.{length, getD, set, replicate, length-map, List·getD-eq-default}
 use lib.Seq.{set-getD}
-use lib.IntN.{ℤ, pos, natAbs, _+ℤ_, _*ℤ_}
-use lib.Dec.{T, ltb, lit≤}
+use lib.IntN.{ℤ, pos, natAbs, _+ℤ_}
+use lib.Dec.{ltb, lit≤}
 use borrow.Author.Tests.{ltb-true, ltb-false}
-use lib.Ieee.{Float, nan, fin, binary64, fits, isNan, toBits, size, odd}
+use lib.Ieee.{Float, toBits, size, odd}
 use Rattle.floats.specs.Factor.{Factor, Normalised, unit, times}
 use Rattle.floats.specs.Splitting.{isBad, rateFactor, split}
 use Rattle.floats.proofs.Factor.{times-unit-right}
 use Rattle.floats.proofs.Splitting.{rate-normal}
 use Rattle.accumulator.specs.declared.StableProductFloatAcc.{StableProductFloatAcc}
 use Rattle.kernels.specs.declared.lanes.Lanes.{Lanes}
-use Rattle.kernels.specs.Lanes.{Each, none, more, feed, laneOf, inOrder, every, some}
+use Rattle.kernels.specs.Lanes.{Each, none, more, feed, laneOf, some}
 use Rattle.kernels.specs.InnerPlain.{laneTimes, lanes, pieceProduct}
 use Rattle.kernels.specs.Pieces.{GoodRate, accOf}
 use Rattle.kernels.specs.Blocks.{startLanes, mOf, eOf, contiguous}
-use Rattle.kernels.specs.InnerLanes.{SmallLanes, Represents, LanesRepresent, LanesAfter}
+use Rattle.kernels.specs.InnerLanes.{SmallLanes, LanesRepresent, LanesAfter, zeros, plainAfter}
 use Rattle.kernels.specs.Stepped.{stepped}
 use Rattle.kernels.specs.InnerStrided.{strided}
-use Rattle.kernels.proofs.Feeding.{feed-append, feed-eights, each-map, each-of, some-append, some-none, or-none, or-assoc}
-use Rattle.kernels.proofs.Factors.{NormalLanes, lane-normal, lane-lt, times-again}
+use Rattle.kernels.proofs.Feeding.{feed-append, some-append, or-none, or-assoc}
+use Rattle.kernels.proofs.Factors.{NormalLanes, lane-normal, lane-lt}
 use Rattle.kernels.proofs.Standing.{represents-split, represents-acc}
 use Rattle.kernels.proofs.Stepping.{stepped-agrees}
-use Rattle.kernels.proofs.Blocking.{Value, each-rate, represent-start, contiguous-is, contiguous-mark, contiguous-agrees}
+use Rattle.kernels.proofs.Blocking.{Value, each-rate, lanes-append, represent-start, contiguous-is, contiguous-mark, contiguous-agrees}
 use Rattle.kernels.proofs.Striding.{length-strided}
 use Rattle.kernels.proofs.Bounded.{Short, lane-size, rate-short}
-use Rattle.vectors.specs.declared.vector.Waiting.{Waiting}
-use Rattle.vectors.specs.InnerWaiting.{one, padded, waitStep, notBelow, notPast, startWaiting, chained, exponentsOf, lanesProduct}
-use Rattle.vectors.proofs.Vectorwise.{strided-append}
+use Rattle.vectors.specs.InnerWaiting.{one, chained, exponentsOf, lanesProduct}
 use Rattle.vectors.proofs.Chaining.{chain-represents}
-
-getD-past : {A : Type 0} (l : List A) (k : ℕ) (d : A) → length l ≤ k → getD l k d ≡ d
-getD-past [] k d h = refl
-getD-past (x ∷ l) zero d h = absurd (omega arith)
-getD-past (x ∷ l) (suc k) d h = getD-past l k d (omega arith)
-
-abbrev zeros : ℕ → ℕ
-zeros k = 0
 
 -- ---- one list after another
 pub fed-append : (s r q : Lanes) (xs ys : List Float) (n : ℕ) → length xs ≡ 8 * n → LanesAfter s xs r → LanesAfter r ys q → LanesAfter s (xs ++ ys) q
 fed-append s r q xs ys n l F G = record {
-  represent = λ fs H. subst (LanesRepresent zeros q) (sym (whole fs)) (G .represent (feed (laneTimes 52) 0 fs (map rateFactor xs)) (F .represent fs H));
+  represent = λ fs H. subst (LanesRepresent zeros q) (sym (lanes-append n fs xs ys l)) (G .represent (plainAfter fs xs) (F .represent fs H));
   mark = λ fs H.
-      G .mark (feed (laneTimes 52) 0 fs (map rateFactor xs)) (F .represent fs H)
+      G .mark (plainAfter fs xs) (F .represent fs H)
       ∙ ap (λ (b : Bool). b || some isBad ys) (F .mark fs H)
       ∙ or-assoc (s .bad) (some isBad xs) (some isBad ys)
       ∙ ap (λ (b : Bool). s .bad || b) (sym (some-append isBad xs ys));
 }
-  where
-    eights : 0 + length (map rateFactor xs) ≡ 8 * n
-    eights = zero-add (length (map rateFactor xs)) ∙ length-map xs rateFactor ∙ l
-
-    whole : (fs : List Factor) → feed (laneTimes 52) 0 fs (map rateFactor (xs ++ ys)) ≡ feed (laneTimes 52) 0 (feed (laneTimes 52) 0 fs (map rateFactor xs)) (map rateFactor ys)
-    whole fs =
-        ap (feed (laneTimes 52) 0 fs) (map-append rateFactor xs ys)
-        ∙ feed-append (laneTimes 52) 0 fs (map rateFactor xs) (map rateFactor ys)
-        ∙ ap (λ (k : ℕ). feed (laneTimes 52) k (feed (laneTimes 52) 0 fs (map rateFactor xs)) (map rateFactor ys)) eights
-        ∙ feed-eights (laneTimes 52) (times-again 52) n (feed (laneTimes 52) 0 fs (map rateFactor xs)) (map rateFactor ys)
 
 -- no value changes nothing
 pub fed-none : (s : Lanes) → LanesAfter s [] s
@@ -80,7 +59,8 @@ one-good : isBad one ≡ false
 unfolding isBad toBits size odd
 one-good = refl
 
-ones-times : (n i : ℕ) (gs : List Factor) → ((k : ℕ) → k < 8 → Normalised 52 (getD gs k (unit 52))) → feed (laneTimes 52) i gs (map rateFactor (replicate n one)) ≡ gs
+ones-times : (n i : ℕ) (gs : List Factor) → ((k : ℕ) → k < 8 → Normalised 52 (getD gs k (unit 52)))
+    → feed (laneTimes 52) i gs (map rateFactor (replicate n one)) ≡ gs
 unfolding feed
 ones-times zero i gs N = refl
 ones-times (suc n) i gs N =
@@ -97,12 +77,12 @@ ones-good zero = refl
 ones-good (suc n) = ap (λ (b : Bool). b || some isBad (replicate n one)) one-good ∙ ones-good n
 
 -- the plain lanes of values with 1.0 after them
-pub ones-after : (fs : List Factor) (xs : List Float) (n : ℕ) → ((k : ℕ) → k < 8 → Normalised 52 (getD (feed (laneTimes 52) 0 fs (map rateFactor xs)) k (unit 52)))
-    → feed (laneTimes 52) 0 fs (map rateFactor (xs ++ replicate n one)) ≡ feed (laneTimes 52) 0 fs (map rateFactor xs)
+pub ones-after : (fs : List Factor) (xs : List Float) (n : ℕ) → ((k : ℕ) → k < 8 → Normalised 52 (getD (plainAfter fs xs) k (unit 52)))
+    → plainAfter fs (xs ++ replicate n one) ≡ plainAfter fs xs
 ones-after fs xs n N =
     ap (feed (laneTimes 52) 0 fs) (map-append rateFactor xs (replicate n one))
     ∙ feed-append (laneTimes 52) 0 fs (map rateFactor xs) (map rateFactor (replicate n one))
-    ∙ ones-times n (0 + length (map rateFactor xs)) (feed (laneTimes 52) 0 fs (map rateFactor xs)) N
+    ∙ ones-times n (0 + length (map rateFactor xs)) (plainAfter fs xs) N
 
 pub fed-normal : (i : ℕ) (fs : List Factor) (xs : List Float) → NormalLanes 52 fs → NormalLanes 52 (feed (laneTimes 52) i fs (map rateFactor xs))
 unfolding feed
@@ -134,7 +114,9 @@ module _ (xs : List Float) (r : Lanes) (F : LanesAfter startLanes xs r) where
 
   -- a lane's exponent is its factor's
   lane-exponent : (k : ℕ) → k < 8 → eOf r k ≡ getD (lanes 52 (map rateFactor xs)) k (unit 52) .exp
-  lane-exponent k i = let s = represent .at k i in ap (λ (a : StableProductFloatAcc). a .e) (represents-acc (mOf r k) (eOf r k) (getD (lanes 52 (map rateFactor xs)) k (unit 52)) s)
+  lane-exponent k i =
+      let s = represent .at k i in
+      ap (λ (a : StableProductFloatAcc). a .e) (represents-acc (mOf r k) (eOf r k) (getD (lanes 52 (map rateFactor xs)) k (unit 52)) s)
 
   short-rates : (ys : List Float) → Each (Short 52 1024) (map rateFactor ys)
   short-rates [] = none
@@ -144,7 +126,7 @@ module _ (xs : List Float) (r : Lanes) (F : LanesAfter startLanes xs r) where
   fed-small n h = record { at = λ k. go k (ltb k 8) refl }
     where
       far : (k : ℕ) → 8 ≤ k → eOf r k ≡ pos 0
-      far k l = getD-past (r .e) k (pos 0) (subst (λ (m : ℕ). m ≤ k) (sym (represent .e-long)) l)
+      far k l = List·getD-eq-default (r .e) (pos 0) (subst (λ (m : ℕ). m ≤ k) (sym (represent .e-long)) l)
 
       go : (k : ℕ) (b : Bool) → ltb k 8 ≡ b → natAbs (eOf r k) ≤ n
       go k true e =
@@ -157,8 +139,10 @@ module _ (xs : List Float) (r : Lanes) (F : LanesAfter startLanes xs r) where
   unfolding lanesProduct pieceProduct
   fed-contiguous v =
       let p = chained (r .m) in
-      let S = represents-split 8 p (exponentsOf r) (pieceProduct 52 (map rateFactor xs)) (lit≤ tt) (chain-represents r (lanes 52 (map rateFactor xs)) represent) in
-      ap (λ (a : StableProductFloatAcc). record { m = a .m; e = a .e; bad = r .bad }) (represents-acc (split p .m) (exponentsOf r +ℤ split p .e) (pieceProduct 52 (map rateFactor xs)) S)
+      let S = represents-split 8 p (exponentsOf r) (pieceProduct 52 (map rateFactor xs)) (lit≤ tt)
+      (chain-represents r (lanes 52 (map rateFactor xs)) represent) in
+      ap (λ (a : StableProductFloatAcc). record { m = a .m; e = a .e; bad = r .bad })
+      (represents-acc (split p .m) (exponentsOf r +ℤ split p .e) (pieceProduct 52 (map rateFactor xs)) S)
       ∙ ap (λ (b : Bool). record { m = accOf (pieceProduct 52 (map rateFactor xs)) .m; e = pieceProduct 52 (map rateFactor xs) .exp; bad = b }) mark
       ∙ sym (contiguous-is v)
 
@@ -168,12 +152,6 @@ unmarked-stepped xs v e = contiguous-agrees rates ∙ sym (stepped-agrees rates)
   where
     rates : Each GoodRate xs
     rates = each-rate v (sym (contiguous-mark xs v) ∙ e)
-
--- ---- the values of a slice of f64 are values of binary64, and so are those that lie a stride apart
-pub strided-values : (xs : List Float) → ((i : ℕ) → T (fits binary64 (getD xs i nan))) → (s d : ℤ) (n : ℕ) → Each Value (strided xs s d n)
-unfolding strided
-strided-values xs v s d zero = none
-strided-values xs v s d (suc n) = more (v (natAbs s)) (strided-values xs v (s +ℤ d) d n)
 
 -- the lanes of at most 2^40 values are far from the ends of i64
 pub vectors-small : (xs : List Float) (b d : ℤ) (n : ℕ) (s : Lanes) → n ≤ 2 ^ 40 → LanesAfter startLanes (strided xs b d n) s → SmallLanes (2 ^ 56) s

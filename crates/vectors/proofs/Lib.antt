@@ -6,6 +6,7 @@ pub mod Waits
 pub mod Waiting
 pub mod Chaining
 pub mod Guarding
+pub mod Lows
 pub mod Mixed
 pub mod Feds
 pub mod Shorts

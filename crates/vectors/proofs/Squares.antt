@@ -65,17 +65,20 @@ thirty-less : T (not (le (fin false 1 (negsuc 28)) (fin false 1 (negsuc 29))))
 unfolding le
 thirty-less = tt
 
-pub square-least : (x : Float) → T (fits binary64 x) → notBelow (square x) ≡ true → (isLost x ≡ true) ⊎ ((isBad x ≡ false) × (leZ (negsuc 14) (rateFactor x .exp) ≡ true))
+pub square-least : (x : Float) → T (fits binary64 x) → notBelow (square x) ≡ true
+    → (isLost x ≡ true) ⊎ ((isBad x ≡ false) × (leZ (negsuc 14) (rateFactor x .exp) ≡ true))
 square-least nan f h = inl refl
 square-least (inf s) f h = inl refl
 square-least (fin s m e) f h = go (leb (down e) (m * up e * 2 ^ 15)) refl
   where
-    go : (b : Bool) → leb (down e) (m * up e * 2 ^ 15) ≡ b → (isLost (fin s m e) ≡ true) ⊎ ((isBad (fin s m e) ≡ false) × (leZ (negsuc 14) (rateFactor (fin s m e) .exp) ≡ true))
+    go : (b : Bool) → leb (down e) (m * up e * 2 ^ 15) ≡ b
+        → (isLost (fin s m e) ≡ true) ⊎ ((isBad (fin s m e) ≡ false) × (leZ (negsuc 14) (rateFactor (fin s m e) .exp) ≡ true))
     go true k = let g = reaching-good 15 (lit≤ tt) (fin s m e) f k in inr (g, reaching-exponent 14 (fin s m e) f g k)
     go false k =
         absurd
         (apart LEAST (square (fin s m e)) (fin false 1 (negsuc 29)) tt tt (truly h)
-        (subst (λ (y : Float). T (le (square (fin s m e)) y)) thirty (small s m e (2 ^ 15) (lit< tt) (le-of-lt (leb-false (down e) (m * up e * 2 ^ 15) k)))) thirty-less)
+        (subst (λ (y : Float). T (le (square (fin s m e)) y)) thirty
+        (small s m e (2 ^ 15) (lit< tt) (le-of-lt (leb-false (down e) (m * up e * 2 ^ 15) k)))) thirty-less)
 
 -- only a NaN has a NaN for its square
 pub square-nan : (x : Float) → isNan (square x) ≡ true → isLost x ≡ true

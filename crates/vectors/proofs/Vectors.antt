@@ -1,14 +1,15 @@
 -- Vectors of eight values, one after another: a step that goes by the number mod 8 may begin anew with each vector. Assumes nothing.
-use Prim.Native.Nat.{ℕ, suc, _+_, _-_, _*_, _/_, _%_, _^_, _≤_, zero-le}
+use Prim.Native.Nat.{ℕ, _+_, _-_, _*_, _/_, _%_, _^_, _≤_, zero-le}
 use mathlib.Core.Path.{_≡_, refl, sym, ap, _∙_, subst}
 use mathlib.Core.List.{List, [], _∷_, _++_, append-nil, append-assoc}
-use native.Mathlib.Nat.{zero-add, le-trans, add-le-add}
+use native.Mathlib.Nat.{le-trans, add-le-add}
 use native.Mathlib.Omega.{arith}
 use lib.ListN.{length, getD, set, replicate, length-set, length-replicate}
 use lib.IntN.{ℤ, pos, natAbs, _+ℤ_, _*ℤ_}
 use lib.Dec.{lit≤}
 use lib.Ieee.{Float, nan}
 use mir.Val.{SFits, toZ, ofZ}
+use mir.ValLaws.{toZ-ofZ}
 use mir.Syntax.{w64}
 use Rattle.integers.proofs.Difference.{ints, atoms}
 use Rattle.floats.specs.declared.Split.{Split}
@@ -18,17 +19,17 @@ use Rattle.floats.proofs.Factor.{add-size}
 use Rattle.accumulator.specs.declared.StableProductFloatAcc.{StableProductFloatAcc}
 use Rattle.accumulator.proofs.Exponents.{exact, sum-fits, sum-exact}
 use Rattle.kernels.specs.declared.lanes.Lanes.{Lanes}
-use Rattle.kernels.specs.Lanes.{feed, laneOf, inOrder}
+use Rattle.kernels.specs.Lanes.{feed, inOrder}
 use Rattle.kernels.specs.Blocks.{eOf}
-use Rattle.kernels.specs.InnerLanes.{SmallLanes}
-use Rattle.kernels.specs.InnerStrided.{strided, PlacesInside}
+use Rattle.kernels.specs.InnerLanes.{window, SmallLanes}
+use Rattle.kernels.specs.InnerStrided.{strided}
 use Rattle.kernels.proofs.Factors.{lane-again}
-use Rattle.kernels.proofs.Feeding.{feed-append, feed-eights, order-keeps}
+use Rattle.kernels.proofs.Feeding.{feed-holds, feed-vectors, order-keeps}
+use Rattle.kernels.proofs.Windows.{window-length, window-append}
 use Rattle.kernels.proofs.Sizes.{split-size}
-use Rattle.kernels.proofs.Striding.{length-strided}
+use Rattle.kernels.proofs.Striding.{length-strided, strided-append}
 use Rattle.vectors.specs.declared.vector.Waiting.{Waiting}
 use Rattle.vectors.specs.InnerWaiting.{square, one, put, vectorOf, lesser, waitStep, chained, exponentsOf, lanesProduct, padded}
-use Rattle.vectors.proofs.Vectorwise.{strided-append}
 
 -- ---- a vector
 -- the values, and 1.0 in the lanes that are left
@@ -54,33 +55,35 @@ vector-whole xs s d = vector-full (strided xs s d 8) (length-strided xs s d 8)
 
 -- eight lanes, whatever is put there
 pub vector-long : (xs : List Float) → length (vectorOf xs) ≡ 8
-unfolding vectorOf feed
-vector-long xs = go 0 (replicate 8 one) xs ∙ length-replicate 8 one
-  where
-    go : (k : ℕ) (vector xs : List Float) → length (feed put k vector xs) ≡ length vector
-    go k vector [] = refl
-    go k vector (x ∷ xs) = go (suc k) (set vector k x) xs ∙ length-set vector k x
+unfolding vectorOf
+vector-long xs =
+    feed-holds put (λ (vector : List Float). length vector ≡ 8) (λ k vector x h. length-set vector k x ∙ h) 0 (replicate 8 one) xs (length-replicate 8 one)
 
 -- ---- places
-pub place-vector : (s d : ℤ) (i : ℕ) → s +ℤ d *ℤ pos (8 * i) +ℤ d *ℤ pos 8 ≡ s +ℤ d *ℤ pos (8 * (i + 1))
+place-vector : (s d : ℤ) (i : ℕ) → s +ℤ d *ℤ pos (8 * i) +ℤ d *ℤ pos 8 ≡ s +ℤ d *ℤ pos (8 * (i + 1))
 place-vector s d i = simp ints (simp atoms (omega arith))
 
-pub inside-less : (len : ℕ) (s d : ℤ) (n m : ℕ) → PlacesInside len s d n → m ≤ n → PlacesInside len s d m
-inside-less len s d n m h l = record { least = λ i b. h .least i (omega arith); most = λ i b. h .most i (omega arith) }
+-- the place a vector further, on the machine
+pub place-on : (s d at : ℤ) (i : ℕ) → SFits w64 (d *ℤ pos 8) → at ≡ s +ℤ d *ℤ pos (8 * i) → at +ℤ toZ w64 (ofZ w64 (d *ℤ pos 8)) ≡ s +ℤ d *ℤ pos (8 * (i + 1))
+place-on s d at i f e = ap (λ (z : ℤ). at +ℤ z) (toZ-ofZ w64 (d *ℤ pos 8) f) ∙ ap (λ (z : ℤ). z +ℤ d *ℤ pos 8) e ∙ place-vector s d i
 
 -- ---- steps that go by the number mod 8
 module _ {S : Type 0} (step : ℕ → S → Float → S) (again : (i : ℕ) (s : S) (x : Float) → step (i + 8) s x ≡ step i s x) (w t u : S) where
   -- more values after i vectors
   pub vectors-then : (xs ys : List Float) (i : ℕ) → length xs ≡ 8 * i → t ≡ feed step 0 w xs → u ≡ feed step 0 t ys → u ≡ feed step 0 w (xs ++ ys)
-  vectors-then xs ys i h p q =
-      q
-      ∙ ap (λ (v : S). feed step 0 v ys) p
-      ∙ sym (feed-eights step again i (feed step 0 w xs) ys)
-      ∙ ap (λ (n : ℕ). feed step n (feed step 0 w xs) ys) (sym (zero-add (length xs) ∙ h))
-      ∙ sym (feed-append step 0 w xs ys)
+  vectors-then xs ys i h p q = q ∙ ap (λ (v : S). feed step 0 v ys) p ∙ sym (feed-vectors step again i w xs ys h)
+
+  -- one vector more of values side by side
+  pub vectors-beside : (xs : List Float) (at i : ℕ) → at + 8 * i ≤ length xs → t ≡ feed step 0 w (window xs at (8 * i))
+      → u ≡ feed step 0 t (window xs (at + i * 8) 8) → u ≡ feed step 0 w (window xs at (8 * (i + 1)))
+  vectors-beside xs at i h p q =
+      vectors-then (window xs at (8 * i)) (window xs (at + i * 8) 8) i (window-length xs at (8 * i) h) p q
+      ∙ ap (λ (n : ℕ). feed step 0 w (window xs at (8 * i) ++ window xs (at + n) 8)) (let e : i * 8 ≡ 8 * i = omega arith in e)
+      ∙ ap (feed step 0 w) (sym (window-append xs at (8 * i) 8) ∙ ap (window xs at) (let e : 8 * i + 8 ≡ 8 * (i + 1) = omega arith in e))
 
   -- one vector more of values a stride apart
-  pub vectors-more : (xs : List Float) (s d : ℤ) (i : ℕ) → t ≡ feed step 0 w (strided xs s d (8 * i)) → u ≡ feed step 0 t (strided xs (s +ℤ d *ℤ pos (8 * i)) d 8) → u ≡ feed step 0 w (strided xs s d (8 * (i + 1)))
+  pub vectors-more : (xs : List Float) (s d : ℤ) (i : ℕ) → t ≡ feed step 0 w (strided xs s d (8 * i))
+      → u ≡ feed step 0 t (strided xs (s +ℤ d *ℤ pos (8 * i)) d 8) → u ≡ feed step 0 w (strided xs s d (8 * (i + 1)))
   vectors-more xs s d i p q =
       vectors-then (strided xs s d (8 * i)) (strided xs (s +ℤ d *ℤ pos (8 * i)) d 8) i (length-strided xs s d (8 * i)) p q
       ∙ ap (feed step 0 w) (sym (strided-append xs s d (8 * i) 8) ∙ ap (strided xs s d) (let e : 8 * i + 8 ≡ 8 * (i + 1) = omega arith in e))
@@ -88,17 +91,17 @@ module _ {S : Type 0} (step : ℕ → S → Float → S) (again : (i : ℕ) (s :
 -- ---- lanes that wait
 pub wait-again : (i : ℕ) (w : Waiting) (x : Float) → waitStep (i + 8) w x ≡ waitStep i w x
 unfolding waitStep
-wait-again i w x = ap (λ (k : ℕ). record { m = set (w .m) k (productOf 11 52 (getD (w .m) k nan) x); least = set (w .least) k (lesser (square x) (getD (w .least) k nan)) }) (lane-again i)
+wait-again i w x =
+    ap (λ (k : ℕ). record { m = set (w .m) k (productOf 11 52 (getD (w .m) k nan) x); least = set (w .least) k (lesser (square x) (getD (w .least) k nan)) })
+    (lane-again i)
 
 pub wait-m-long : (i : ℕ) (w : Waiting) (xs : List Float) → length (feed waitStep i w xs .m) ≡ length (w .m)
-unfolding feed waitStep
-wait-m-long i w [] = refl
-wait-m-long i w (x ∷ xs) = wait-m-long (suc i) (waitStep i w x) xs ∙ length-set (w .m) (laneOf i) (productOf 11 52 (getD (w .m) (laneOf i) nan) x)
+unfolding waitStep
+wait-m-long i w xs = feed-holds waitStep (λ (t : Waiting). length (t .m) ≡ length (w .m)) (λ i t x h. simp length-set h) i w xs refl
 
 pub wait-least-long : (i : ℕ) (w : Waiting) (xs : List Float) → length (feed waitStep i w xs .least) ≡ length (w .least)
-unfolding feed waitStep
-wait-least-long i w [] = refl
-wait-least-long i w (x ∷ xs) = wait-least-long (suc i) (waitStep i w x) xs ∙ length-set (w .least) (laneOf i) (lesser (square x) (getD (w .least) (laneOf i) nan))
+unfolding waitStep
+wait-least-long i w xs = feed-holds waitStep (λ (t : Waiting). length (t .least) ≡ length (w .least)) (λ i t x h. simp length-set h) i w xs refl
 
 -- ---- a piece that is vectors and then fewer than eight values
 module _ (xs : List Float) (s d : ℤ) (n : ℕ) where
@@ -106,15 +109,21 @@ module _ (xs : List Float) (s d : ℤ) (n : ℕ) where
   pub vectors-padded : n % 8 ≡ 0 → strided xs s d (8 * (n / 8)) ≡ padded (strided xs s d n)
   vectors-padded h =
       ap (strided xs s d) (let e : 8 * (n / 8) ≡ n = omega arith in e)
-      ∙ sym (ap (λ (k : ℕ). strided xs s d n ++ replicate k one) (ap (λ (k : ℕ). 7 - (k + 7) % 8) (length-strided xs s d n) ∙ (let e : 7 - (n + 7) % 8 ≡ 0 = omega arith in e)) ∙ append-nil (strided xs s d n))
+      ∙ sym
+      (ap (λ (k : ℕ). strided xs s d n ++ replicate k one)
+      (ap (λ (k : ℕ). 7 - (k + 7) % 8) (length-strided xs s d n) ∙ (let e : 7 - (n + 7) % 8 ≡ 0 = omega arith in e)) ∙ append-nil (strided xs s d n))
 
   -- the values that are left are a vector by themselves
   pub rest-padded : (n % 8 ≡ 0 → ⊥) → strided xs s d (8 * (n / 8)) ++ vectorOf (strided xs (s +ℤ d *ℤ pos (8 * (n / 8))) d (n % 8)) ≡ padded (strided xs s d n)
   rest-padded h =
       ap (λ (l : List Float). A ++ l) (vector-padded B (rw (length-strided xs (s +ℤ d *ℤ pos (8 * (n / 8))) d (n % 8)) (omega arith)))
       ∙ sym (append-assoc A B (replicate (8 - length B) one))
-      ∙ ap (λ (l : List Float). l ++ replicate (8 - length B) one) (sym (strided-append xs s d (8 * (n / 8)) (n % 8)) ∙ ap (strided xs s d) (let e : 8 * (n / 8) + n % 8 ≡ n = omega arith in e))
-      ∙ ap (λ (k : ℕ). strided xs s d n ++ replicate k one) (ap (λ (k : ℕ). 8 - k) (length-strided xs (s +ℤ d *ℤ pos (8 * (n / 8))) d (n % 8)) ∙ (let e : 8 - n % 8 ≡ 7 - (n + 7) % 8 = omega (arith, h) in e) ∙ ap (λ (k : ℕ). 7 - (k + 7) % 8) (sym (length-strided xs s d n)))
+      ∙ ap (λ (l : List Float). l ++ replicate (8 - length B) one)
+      (sym (strided-append xs s d (8 * (n / 8)) (n % 8)) ∙ ap (strided xs s d) (let e : 8 * (n / 8) + n % 8 ≡ n = omega arith in e))
+      ∙ ap (λ (k : ℕ). strided xs s d n ++ replicate k one)
+      (ap (λ (k : ℕ). 8 - k) (length-strided xs (s +ℤ d *ℤ pos (8 * (n / 8))) d (n % 8))
+      ∙ (let e : 8 - n % 8 ≡ 7 - (n + 7) % 8 = omega (arith, h) in e)
+      ∙ ap (λ (k : ℕ). 7 - (k + 7) % 8) (sym (length-strided xs s d n)))
     where
       A : List Float
       A = strided xs s d (8 * (n / 8))
@@ -130,21 +139,22 @@ plus s k e = e +ℤ eOf s k
 module _ (n : ℕ) (s : Lanes) (h : SmallLanes n s) where
   pub some-exponents-size : (k : ℕ) → natAbs (inOrder (plus s) k (pos 0)) ≤ n * k
   some-exponents-size k =
-      order-keeps (plus s) (λ (k : ℕ) (z : ℤ). natAbs z ≤ n * k) k (λ j z l r. le-trans (add-size z (eOf s j)) (le-trans (add-le-add r (h .at j)) (omega arith))) (pos 0) zero-le
+      order-keeps (plus s) (λ (k : ℕ) (z : ℤ). natAbs z ≤ n * k) k
+      (λ j z l r. le-trans (add-size z (eOf s j)) (le-trans (add-le-add r (h .at j)) (omega arith))) (pos 0) zero-le
 
   pub exponents-size : natAbs (exponentsOf s) ≤ n * 8
   unfolding exponentsOf
   exponents-size = some-exponents-size 8
 
--- y added, on the machine, to what is x there
-module _ (x y z : ℤ) (e : z ≡ x) (hx : natAbs x ≤ 2 ^ 61) (hy : natAbs y ≤ 2 ^ 61) where
-  same : z ≡ toZ w64 (ofZ w64 x)
-  same = e ∙ sym (exact x y hx hy x hx)
+-- y added, on the machine, to what is there
+module _ (x y : ℤ) (hx : natAbs x ≤ 2 ^ 61) (hy : natAbs y ≤ 2 ^ 61) where
+  same : x ≡ toZ w64 (ofZ w64 x)
+  same = sym (exact x y hx hy x hx)
 
-  pub next-sum-fits : SFits w64 (z +ℤ toZ w64 (ofZ w64 y))
+  pub next-sum-fits : SFits w64 (x +ℤ toZ w64 (ofZ w64 y))
   next-sum-fits = subst (λ (v : ℤ). SFits w64 (v +ℤ toZ w64 (ofZ w64 y))) (sym same) (sum-fits x y hx hy)
 
-  pub next-sum-exact : toZ w64 (ofZ w64 (z +ℤ toZ w64 (ofZ w64 y))) ≡ x +ℤ y
+  pub next-sum-exact : toZ w64 (ofZ w64 (x +ℤ toZ w64 (ofZ w64 y))) ≡ x +ℤ y
   next-sum-exact = ap (λ (v : ℤ). toZ w64 (ofZ w64 (v +ℤ toZ w64 (ofZ w64 y)))) same ∙ sum-exact x y hx hy
 
 -- ---- the lanes multiplied in order, from what the code has: the exponents z, and p, the split of the product q
@@ -158,7 +168,8 @@ module _ (s : Lanes) (h : SmallLanes (2 ^ 56) s) (z : ℤ) (p : Split) (q : Floa
   pub product-fits : SFits w64 (toZ w64 (ofZ w64 z) +ℤ toZ w64 (ofZ w64 (p .e)))
   product-fits = sum-fits z (p .e) sum-small split-small
 
-  pub product-is : _≡_ {A = StableProductFloatAcc} (record { m = p .m; e = toZ w64 (ofZ w64 (toZ w64 (ofZ w64 z) +ℤ toZ w64 (ofZ w64 (p .e)))); bad = s .bad }) (lanesProduct s)
+  pub product-is : _≡_ {A = StableProductFloatAcc} (record { m = p .m; e = toZ w64 (ofZ w64 (toZ w64 (ofZ w64 z) +ℤ toZ w64 (ofZ w64 (p .e)))); bad = s .bad })
+      (lanesProduct s)
   unfolding lanesProduct
   product-is =
       ap (λ (v : ℤ). record { m = p .m; e = v; bad = s .bad }) (sum-exact z (p .e) sum-small split-small)

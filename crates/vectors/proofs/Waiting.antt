@@ -1,77 +1,61 @@
--- Lanes that wait: after at most 512 values whose squares passed the test of the least, either every lane waits for its factor and no value was bad, or a lane is an
+-- Lanes that wait: after at most 512 values that are split, or whose squares passed the test of the least, every lane waits for its factor, or one is lost: an
 -- infinity or a NaN, which it stays. Assumes nothing.
-use Prim.Native.Nat.{ℕ, zero, suc, _+_, _-_, _*_, _/_, _≤_, _<_}
+use Prim.Native.Nat.{ℕ, zero, suc, _+_, _≤_, _<_}
 use mathlib.Core.Path.{_≡_, refl, sym, ap, _∙_, subst}
-use mathlib.Core.Bool.{Bool, true, false, cond, _&&_, true≢false}
+use mathlib.Core.Bool.{Bool, true, false, _&&_, true≢false}
 use mathlib.Core.List.{List, [], _∷_, map}
 use mathlib.Core.Logic.{_⊎_, inl, inr}
-use native.Mathlib.Nat.{le-refl, mul-le-mul-left}
 use native.Mathlib.Omega.{arith}
 use lib.ListN.{length, getD, set, length-set}
-use lib.IntN.{ℤ, pos, negsuc, _+ℤ_, +ℤ-idr}
+use lib.IntN.{ℤ, pos, negsuc, _+ℤ_}
 use lib.Signed.{leZ}
 use lib.Dec.{T, lit≤}
 use lib.Ieee.{Float, nan, inf, fin, binary64, fits, isNan, le, neg}
-use Rattle.floats.specs.Product.{product, productOf}
+use Rattle.floats.specs.Product.{productOf}
 use Rattle.floats.specs.Factor.{Factor, unit, times}
 use Rattle.floats.specs.Splitting.{isBad, rateFactor}
 use Rattle.floats.proofs.Overflow.{isLost, lost-product, lost-factor}
 use Rattle.kernels.specs.Lanes.{Each, none, more, feed, laneOf, every}
 use Rattle.kernels.specs.InnerPlain.{laneTimes}
 use Rattle.kernels.specs.Pieces.{GoodRate}
-use Rattle.kernels.proofs.Feeding.{and-both}
+use Rattle.kernels.proofs.Feeding.{and-both, feed-holds, feed-related}
 use Rattle.kernels.proofs.Factors.{lane-lt, set-cases}
-use Rattle.kernels.proofs.Blocking.{count}
+use Rattle.kernels.proofs.Lanewise.{depth, turn-small, lanes-turn, exponents-same}
 use Rattle.kernels.proofs.Least.{least-lesser}
 use Rattle.vectors.specs.declared.vector.Waiting.{Waiting}
 use Rattle.vectors.specs.InnerWaiting.{square, lesser, waitStep, notBelow, notPast}
 use Rattle.vectors.proofs.Squares.{square-least, square-nan}
-use Rattle.vectors.proofs.Waits.{Waits, waits-more, waits-times, waits-rate}
+use Rattle.vectors.proofs.Waits.{Waits, WaitLanes, waits-more, waits-times, waits-rate}
 
--- ---- lanes
-pub record WaitLanes (b : ℕ → ℕ) (ms : List Float) (es : List ℤ) (fs : List Factor) : Type 0 where
-  pub m-long : length ms ≡ 8
-  pub f-long : length fs ≡ 8
-  pub at : (k : ℕ) → k < 8 → Waits (b k) (getD ms k nan) (getD es k (pos 0)) (getD fs k (unit 52))
-
--- a lane is an infinity or a NaN
+-- ---- lost lanes: one is an infinity or a NaN
 pub record LostLane (ms : List Float) : Type 0 where
   pub m-long : length ms ≡ 8
   pub lane : ℕ
   pub below : lane < 8
   pub lost : isLost (getD ms lane nan) ≡ true
 
--- lane j gets a new m and a new factor
-waits-set : (b b' : ℕ → ℕ) (ms : List Float) (es : List ℤ) (fs : List Factor) (j : ℕ) (m' : Float) (g : Factor) → WaitLanes b ms es fs → j < 8 → Waits (b' j) m' (getD es j (pos 0)) g
-    → ((k : ℕ) → k < 8 → (k ≡ j → ⊥) → b k ≤ b' k) → WaitLanes b' (set ms j m') es (set fs j g)
-waits-set b b' ms es fs j m' g h J W l = record {
-  m-long = length-set ms j m' ∙ h .m-long;
-  f-long = length-set fs j g ∙ h .f-long;
-  at = λ k i.
-      set-cases (λ (x : Float). Waits (b' k) x (getD es k (pos 0)) (getD (set fs j g) k (unit 52))) ms j k m' nan (subst (λ (n : ℕ). j < n) (sym (h .m-long)) J)
-      (λ p. set-cases (λ (f : Factor). Waits (b' k) m' (getD es k (pos 0)) f) fs j k g (unit 52) (subst (λ (n : ℕ). j < n) (sym (h .f-long)) J) (λ q. subst (λ (x : ℕ). Waits (b' x) m' (getD es x (pos 0)) g) (sym p) W) (λ n. absurd (n p)))
-      (λ n. set-cases (λ (f : Factor). Waits (b' k) (getD ms k nan) (getD es k (pos 0)) f) fs j k g (unit 52) (subst (λ (n : ℕ). j < n) (sym (h .f-long)) J) (λ p. absurd (n p))
-      (λ q. waits-more (b k) (b' k) (getD ms k nan) (getD es k (pos 0)) (getD fs k (unit 52)) (l k i n) (h .at k i)));
-}
+module _ (ms : List Float) (j : ℕ) (J : j < 8) where
+  in-m : length ms ≡ 8 → j < length ms
+  in-m l = subst (λ (n : ℕ). j < n) (sym l) J
 
--- ---- a lost lane stays lost
-lost-step : (i : ℕ) (w : Waiting) (x : Float) → LostLane (w .m) → LostLane (waitStep i w x .m)
-unfolding waitStep
-lost-step i w x h =
-    let j = laneOf i in
-    let y = productOf 11 52 (getD (w .m) j nan) x in
-    record {
-      m-long = length-set (w .m) j y ∙ h .m-long;
-      lane = h .lane;
-      below = h .below;
-      lost = set-cases (λ (z : Float). isLost z ≡ true) (w .m) j (h .lane) y nan (subst (λ (n : ℕ). j < n) (sym (h .m-long)) (lane-lt i))
-          (λ p. lost-product (getD (w .m) j nan) x (subst (λ (k : ℕ). isLost (getD (w .m) k nan) ≡ true) p (h .lost))) (λ n. h .lost);
-    }
+  pub lost-here : (y : Float) → length ms ≡ 8 → isLost y ≡ true → LostLane (set ms j y)
+  lost-here y l e = record {
+    m-long = length-set ms j y ∙ l;
+    lane = j;
+    below = J;
+    lost = set-cases (λ (z : Float). isLost z ≡ true) ms j j y nan (in-m l) (λ p. e) (λ n. absurd (n refl));
+  }
 
-pub lost-feed : (i : ℕ) (w : Waiting) (xs : List Float) → LostLane (w .m) → LostLane (feed waitStep i w xs .m)
-unfolding feed
-lost-feed i w [] h = h
-lost-feed i w (x ∷ xs) h = lost-feed (suc i) (waitStep i w x) xs (lost-step i w x h)
+  pub lost-stays : (x : Float) → LostLane ms → LostLane (set ms j (productOf 11 52 (getD ms j nan) x))
+  lost-stays x h =
+      let y = productOf 11 52 (getD ms j nan) x in
+      record {
+        m-long = length-set ms j y ∙ h .m-long;
+        lane = h .lane;
+        below = h .below;
+        lost = set-cases (λ (z : Float). isLost z ≡ true) ms j (h .lane) y nan (in-m (h .m-long))
+            (λ p. lost-product (getD ms j nan) x (subst (λ (k : ℕ). isLost (getD ms k nan) ≡ true) p (h .lost))) (λ n. h .lost);
+      }
 
 -- ---- one value
 -- its square is not below 2^-29, or a NaN
@@ -80,93 +64,100 @@ pub record Guarded (x : Float) : Type 0 where
   pub from : (notBelow (square x) ≡ true) ⊎ (isNan (square x) ≡ true)
 
 -- a NaN and an infinity are lost; any other is a rate that waits
-pub guard-cases : (x : Float) → Guarded x → (GoodRate x × Waits 15 x (pos 0) (rateFactor x)) ⊎ (isLost x ≡ true)
+abbrev Good : Float → Type 0
+Good x = GoodRate x × Waits 15 x (pos 0) (rateFactor x)
+
+guard-cases : (x : Float) → Guarded x → Good x ⊎ (isLost x ≡ true)
 guard-cases x g = go (g .from)
   where
-    good : (isLost x ≡ true) ⊎ ((isBad x ≡ false) × (leZ (negsuc 14) (rateFactor x .exp) ≡ true)) → (GoodRate x × Waits 15 x (pos 0) (rateFactor x)) ⊎ (isLost x ≡ true)
+    good : (isLost x ≡ true) ⊎ ((isBad x ≡ false) × (leZ (negsuc 14) (rateFactor x .exp) ≡ true)) → Good x ⊎ (isLost x ≡ true)
     good (inl e) = inr e
     good (inr p) = inl (record { value = g .value; good = p .0 }, waits-rate 14 x (g .value) (p .0) (p .1))
 
-    go : (notBelow (square x) ≡ true) ⊎ (isNan (square x) ≡ true) → (GoodRate x × Waits 15 x (pos 0) (rateFactor x)) ⊎ (isLost x ≡ true)
+    go : (notBelow (square x) ≡ true) ⊎ (isNan (square x) ≡ true) → Good x ⊎ (isLost x ≡ true)
     go (inl h) = good (square-least x (g .value) h)
     go (inr h) = inr (square-nan x h)
 
-turn-room : (i : ℕ) → 15 * count (laneOf i) i + 15 ≡ 15 * count (laneOf i) (suc i)
-turn-room i = omega arith
+-- the lanes after i values
+abbrev pub Out : ℕ → List Float → List ℤ → List Factor → Type 0
+Out i ms es fs = WaitLanes (depth 15 i) ms es fs ⊎ LostLane ms
 
-turn-small : (i : ℕ) → i < 512 → 15 * count (laneOf i) i + 15 ≤ 1022
-turn-small i h = omega arith
+-- a value y with an exponent d that wait for a factor g: lane i mod 8 then waits for its product with g, or is lost
+pub value-out : (i : ℕ) (ms : List Float) (es : List ℤ) (fs : List Factor) (y : Float) (d : ℤ) (g : Factor) → i < 512 → Waits 15 y d g
+    → WaitLanes (depth 15 i) ms es fs
+    → Out (suc i) (set ms (laneOf i) (productOf 11 52 (getD ms (laneOf i) nan) y)) (set es (laneOf i) (getD es (laneOf i) (pos 0) +ℤ d)) (laneTimes 52 i fs g)
+value-out i ms es fs y d g l G h =
+    go
+    (waits-times (depth 15 i j) 15 (getD ms j nan) y (getD es j (pos 0)) d (getD fs j (unit 52)) g (h .at j (lane-lt i)) G (turn-small 15 64 i (lit≤ tt) l))
+  where
+    j : ℕ
+    j = laneOf i
 
-turn-other : (i k : ℕ) → 15 * count k i ≤ 15 * count k (suc i)
-turn-other i k = omega arith
+    p : Float
+    p = productOf 11 52 (getD ms j nan) y
 
-abbrev depth : ℕ → ℕ → ℕ
-depth i k = 15 * count k i
+    f : Factor
+    f = times 52 (getD fs j (unit 52)) g
 
-module _ (es : List ℤ) where
-  value-in : (i : ℕ) (w : Waiting) (fs : List Factor) (x : Float) → i < 512 → Guarded x → WaitLanes (depth i) (w .m) es fs
-      → (WaitLanes (depth (suc i)) (waitStep i w x .m) es (laneTimes 52 i fs (rateFactor x)) × GoodRate x) ⊎ LostLane (waitStep i w x .m)
-  unfolding waitStep
-  value-in i w fs x l g h = go (guard-cases x g)
-    where
-      j : ℕ
-      j = laneOf i
+    go : Waits (depth 15 i j + 15) p (getD es j (pos 0) +ℤ d) f ⊎ (isLost p ≡ true) → Out (suc i) (set ms j p) (set es j (getD es j (pos 0) +ℤ d)) (set fs j f)
+    go (inl W) = inl (lanes-turn Waits waits-more ms es fs 15 i p (getD es j (pos 0) +ℤ d) f h W)
+    go (inr e) = inr (lost-here ms j (lane-lt i) p (h .m-long) e)
 
-      y : Float
-      y = productOf 11 52 (getD (w .m) j nan) x
+-- ---- a step that multiplies value i, as it is, into lane i mod 8
+module _ {S : Type 0} (step : ℕ → S → Float → S) (m : S → List Float) (e : S → List ℤ)
+    (m-is : (i : ℕ) (s : S) (x : Float) → m (step i s x) ≡ set (m s) (laneOf i) (productOf 11 52 (getD (m s) (laneOf i) nan) x))
+    (e-is : (i : ℕ) (s : S) (x : Float) → e (step i s x) ≡ e s) where
+  step-long : (i : ℕ) (s : S) (x : Float) → length (m s) ≡ 8 → length (m (step i s x)) ≡ 8
+  step-long i s x l = ap length (m-is i s x) ∙ length-set (m s) (laneOf i) (productOf 11 52 (getD (m s) (laneOf i) nan) x) ∙ l
 
-      f : Factor
-      f = getD fs j (unit 52)
+  step-lost : (i : ℕ) (s : S) (x : Float) → LostLane (m s) → LostLane (m (step i s x))
+  step-lost i s x h = subst LostLane (sym (m-is i s x)) (lost-stays (m s) (laneOf i) (lane-lt i) x h)
 
-      lost : isLost y ≡ true → LostLane (set (w .m) j y)
-      lost e = record {
-        m-long = length-set (w .m) j y ∙ h .m-long;
-        lane = j;
-        below = lane-lt i;
-        lost = set-cases (λ (z : Float). isLost z ≡ true) (w .m) j j y nan (subst (λ (n : ℕ). j < n) (sym (h .m-long)) (lane-lt i)) (λ p. e) (λ n. absurd (n refl));
-      }
+  -- a value that is lost takes its lane with it
+  value-lost : (i : ℕ) (s : S) (x : Float) → length (m s) ≡ 8 → isLost x ≡ true → LostLane (m (step i s x))
+  value-lost i s x l h = subst LostLane (sym (m-is i s x)) (lost-here (m s) (laneOf i) (lane-lt i) _ l (lost-factor (getD (m s) (laneOf i) nan) x h))
 
-      kept : Waits (depth i j + 15) y (getD es j (pos 0) +ℤ pos 0) (times 52 f (rateFactor x)) → WaitLanes (depth (suc i)) (set (w .m) j y) es (set fs j (times 52 f (rateFactor x)))
-      kept W =
-          waits-set (depth i) (depth (suc i)) (w .m) es fs j y (times 52 f (rateFactor x)) h (lane-lt i)
-          (subst (λ (n : ℕ). Waits n y (getD es j (pos 0)) (times 52 f (rateFactor x))) (turn-room i) (subst (λ (e : ℤ). Waits (depth i j + 15) y e (times 52 f (rateFactor x))) (+ℤ-idr (getD es j (pos 0))) W))
-          (λ k a n. turn-other i k)
+  pub fed-lost : (i : ℕ) (s : S) (xs : List Float) → LostLane (m s) → LostLane (m (feed step i s xs))
+  fed-lost = feed-holds step (λ (s : S). LostLane (m s)) step-lost
 
-      joined : GoodRate x → Waits (depth i j + 15) y (getD es j (pos 0) +ℤ pos 0) (times 52 f (rateFactor x)) ⊎ (isLost y ≡ true)
-          → (WaitLanes (depth (suc i)) (set (w .m) j y) es (set fs j (times 52 f (rateFactor x))) × GoodRate x) ⊎ LostLane (set (w .m) j y)
-      joined r (inl W) = inl (kept W, r)
-      joined r (inr e) = inr (lost e)
-
-      go : (GoodRate x × Waits 15 x (pos 0) (rateFactor x)) ⊎ (isLost x ≡ true) → (WaitLanes (depth (suc i)) (set (w .m) j y) es (set fs j (times 52 f (rateFactor x))) × GoodRate x) ⊎ LostLane (set (w .m) j y)
-      go (inl p) = joined (p .0) (waits-times (depth i j) 15 (getD (w .m) j nan) x (getD es j (pos 0)) (pos 0) f (rateFactor x) (h .at j (lane-lt i)) (p .1) (turn-small i l))
-      go (inr e) = inr (lost (lost-factor (getD (w .m) j nan) x e))
-
-  -- ---- all values
-  pub waited : (i : ℕ) (w : Waiting) (fs : List Factor) {xs : List Float} → Each Guarded xs → i + length xs ≤ 512 → WaitLanes (depth i) (w .m) es fs
-      → (WaitLanes (depth (i + length xs)) (feed waitStep i w xs .m) es (feed (laneTimes 52) i fs (map rateFactor xs)) × Each GoodRate xs) ⊎ LostLane (feed waitStep i w xs .m)
+  pub hit-lost : (i : ℕ) (s : S) (xs : List Float) (k : ℕ) → length (m s) ≡ 8 → k < length xs → isLost (getD xs k nan) ≡ true → LostLane (m (feed step i s xs))
   unfolding feed
-  waited i w fs none l h = inl (subst (λ (n : ℕ). WaitLanes (depth n) (w .m) es fs) (let e : i ≡ i + 0 = omega arith in e) h, none)
-  waited i w fs (more {x = x} {xs = xs} g gs) l h =
-      go (value-in i w fs x (omega arith) g h) (λ k. waited (suc i) (waitStep i w x) (laneTimes 52 i fs (rateFactor x)) gs (omega arith) k)
+  hit-lost i s [] k l h b = absurd (omega arith)
+  hit-lost i s (x ∷ xs) zero l h b = fed-lost (suc i) (step i s x) xs (value-lost i s x l b)
+  hit-lost i s (x ∷ xs) (suc k) l h b = hit-lost (suc i) (step i s x) xs k (step-long i s x l) (omega arith) b
+
+  -- no value is bad, or a lane is lost
+  pub fed-good : (i : ℕ) (s : S) {xs : List Float} → length (m s) ≡ 8 → Each Guarded xs → Each GoodRate xs ⊎ LostLane (m (feed step i s xs))
+  unfolding feed
+  fed-good i s l none = inl none
+  fed-good i s l (more {x = x} {xs = xs} g gs) = go (guard-cases x g) (fed-good (suc i) (step i s x) (step-long i s x l) gs)
     where
-      next : i + suc (length xs) ≡ suc i + length xs
-      next = omega arith
+      go : Good x ⊎ (isLost x ≡ true) → Each GoodRate xs ⊎ LostLane (m (feed step (suc i) (step i s x) xs))
+          → Each GoodRate (x ∷ xs) ⊎ LostLane (m (feed step (suc i) (step i s x) xs))
+      go (inl p) (inl r) = inl (more (p .0) r)
+      go (inl p) (inr r) = inr r
+      go (inr b) r = inr (fed-lost (suc i) (step i s x) xs (value-lost i s x l b))
 
-      rest : GoodRate x
-          → (WaitLanes (depth (suc i + length xs)) (feed waitStep (suc i) (waitStep i w x) xs .m) es (feed (laneTimes 52) (suc i) (laneTimes 52 i fs (rateFactor x)) (map rateFactor xs)) × Each GoodRate xs) ⊎ LostLane (feed waitStep (suc i) (waitStep i w x) xs .m)
-          → (WaitLanes (depth (i + suc (length xs))) (feed waitStep (suc i) (waitStep i w x) xs .m) es (feed (laneTimes 52) (suc i) (laneTimes 52 i fs (rateFactor x)) (map rateFactor xs)) × Each GoodRate (x ∷ xs)) ⊎ LostLane (feed waitStep (suc i) (waitStep i w x) xs .m)
-      rest r (inl p) = inl (subst (λ (n : ℕ). WaitLanes (depth n) (feed waitStep (suc i) (waitStep i w x) xs .m) es (feed (laneTimes 52) (suc i) (laneTimes 52 i fs (rateFactor x)) (map rateFactor xs))) (sym next) (p .0), more r (p .1))
-      rest r (inr p) = inr p
+  step-out : (i : ℕ) (s : S) (fs : List Factor) (x : Float) → i < 512 → Guarded x → Out i (m s) (e s) fs
+      → Out (suc i) (m (step i s x)) (e (step i s x)) (laneTimes 52 i fs (rateFactor x))
+  step-out i s fs x l g (inr p) = inr (step-lost i s x p)
+  step-out i s fs x l g (inl h) = go (guard-cases x g)
+    where
+      go : Good x ⊎ (isLost x ≡ true) → Out (suc i) (m (step i s x)) (e (step i s x)) (laneTimes 52 i fs (rateFactor x))
+      go (inr b) = inr (value-lost i s x (h .m-long) b)
+      go (inl p) =
+          subst (λ (es : List ℤ). Out (suc i) (m (step i s x)) es (laneTimes 52 i fs (rateFactor x))) (sym (e-is i s x))
+          (subst (λ (ms : List Float). Out (suc i) ms (e s) (laneTimes 52 i fs (rateFactor x))) (sym (m-is i s x))
+          (subst (λ (es : List ℤ). Out (suc i) (set (m s) (laneOf i) (productOf 11 52 (getD (m s) (laneOf i) nan) x)) es (laneTimes 52 i fs (rateFactor x)))
+          (exponents-same (e s) (laneOf i)) (value-out i (m s) (e s) fs x (pos 0) (rateFactor x) l (p .1) h)))
 
-      go : (WaitLanes (depth (suc i)) (waitStep i w x .m) es (laneTimes 52 i fs (rateFactor x)) × GoodRate x) ⊎ LostLane (waitStep i w x .m)
-          → (WaitLanes (depth (suc i)) (waitStep i w x .m) es (laneTimes 52 i fs (rateFactor x))
-          → (WaitLanes (depth (suc i + length xs)) (feed waitStep (suc i) (waitStep i w x) xs .m) es (feed (laneTimes 52) (suc i) (laneTimes 52 i fs (rateFactor x)) (map rateFactor xs)) × Each GoodRate xs) ⊎ LostLane (feed waitStep (suc i) (waitStep i w x) xs .m))
-          → (WaitLanes (depth (i + suc (length xs))) (feed waitStep (suc i) (waitStep i w x) xs .m) es (feed (laneTimes 52) (suc i) (laneTimes 52 i fs (rateFactor x)) (map rateFactor xs)) × Each GoodRate (x ∷ xs)) ⊎ LostLane (feed waitStep (suc i) (waitStep i w x) xs .m)
-      go (inl p) f = rest (p .1) (f (p .0))
-      go (inr p) f = inr (lost-feed (suc i) (waitStep i w x) xs p)
+  pub fed-out : (i : ℕ) (s : S) (fs : List Factor) {xs : List Float} → Each Guarded xs → i + length xs ≤ 512 → Out i (m s) (e s) fs
+      → Out (i + length xs) (m (feed step i s xs)) (e (feed step i s xs)) (feed (laneTimes 52) i fs (map rateFactor xs))
+  fed-out = feed-related step (laneTimes 52) rateFactor Guarded (λ (i : ℕ) (s : S). Out i (m s) (e s)) 512 step-out
 
 -- ---- the tests
-every-set : {A : Type 0} (p : A → Bool) (l : List A) (k : ℕ) (y d : A) → k < length l → every p (set l k y) ≡ true → (p y ≡ true) × (p (getD l k d) ≡ true → every p l ≡ true)
+every-set : {A : Type 0} (p : A → Bool) (l : List A) (k : ℕ) (y d : A) → k < length l → every p (set l k y) ≡ true
+    → (p y ≡ true) × (p (getD l k d) ≡ true → every p l ≡ true)
 unfolding every
 every-set p [] k y d h e = absurd (omega arith)
 every-set p (x ∷ l) zero y d h e = let b = and-both (p y) (every p l) e in (b .0, λ q. ap (λ (t : Bool). t && every p l) q ∙ b .1)
@@ -175,14 +166,15 @@ every-set p (x ∷ l) (suc k) y d h e =
     let r = every-set p l k y d (omega arith) (b .1) in
     (r .0, λ q. ap (λ (t : Bool). t && every p l) (b .0) ∙ r .1 q)
 
-pub every-at : {A : Type 0} (p : A → Bool) (l : List A) (k : ℕ) (d : A) → k < length l → every p l ≡ true → p (getD l k d) ≡ true
+every-at : {A : Type 0} (p : A → Bool) (l : List A) (k : ℕ) (d : A) → k < length l → every p l ≡ true → p (getD l k d) ≡ true
 unfolding every
 every-at p [] k d h e = absurd (omega arith)
 every-at p (x ∷ l) zero d h e = and-both (p x) (every p l) e .0
 every-at p (x ∷ l) (suc k) d h e = every-at p l k d (omega arith) (and-both (p x) (every p l) e .1)
 
 -- if no lane's least is below 2^-29 at the end, each square passed, and none was below at the start
-pub guards : (i : ℕ) (w : Waiting) {xs : List Float} → Each (λ (x : Float). T (fits binary64 x)) xs → length (w .least) ≡ 8 → every notBelow (feed waitStep i w xs .least) ≡ true → (every notBelow (w .least) ≡ true) × Each Guarded xs
+pub guards : (i : ℕ) (w : Waiting) {xs : List Float} → Each (λ (x : Float). T (fits binary64 x)) xs → length (w .least) ≡ 8
+    → every notBelow (feed waitStep i w xs .least) ≡ true → (every notBelow (w .least) ≡ true) × Each Guarded xs
 unfolding feed waitStep
 guards i w none h e = (e, none)
 guards i w (more {x = x} {xs = xs} v vs) h e =
@@ -200,3 +192,7 @@ past-lost nan h e = true≢false (sym h)
 past-lost (inf true) h e = true≢false (sym h)
 past-lost (inf false) h e = true≢false (sym h)
 past-lost (fin s m d) h e = true≢false (sym e)
+
+pub none-lost : (ms : List Float) → every notPast ms ≡ true → LostLane ms → ⊥
+none-lost ms p k =
+    past-lost (getD ms (k .lane) nan) (every-at notPast ms (k .lane) nan (subst (λ (n : ℕ). k .lane < n) (sym (k .m-long)) (k .below)) p) (k .lost)

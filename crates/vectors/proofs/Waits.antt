@@ -1,15 +1,16 @@
 -- A float that waits for a factor: it is the factor's float at an exponent that may have fallen by n, and has not passed the largest. The product of two such
 -- floats waits for the product of their factors, or is an infinity. Assumes nothing.
-use Prim.Native.Nat.{ℕ, suc, _+_, _-_, _*_, _≤_, _<_}
-use mathlib.Core.Path.{_≡_, refl, sym, ap, _∙_, subst}
+use Prim.Native.Nat.{ℕ, suc, _+_, _-_, _*_, _≤_, _<_, zero-le}
+use mathlib.Core.Path.{_≡_, refl, sym, ap, _∙_}
 use mathlib.Core.Bool.{Bool, true, false}
+use mathlib.Core.List.{List}
 use mathlib.Core.Logic.{_⊎_, inl, inr}
 use native.Mathlib.Nat.{le-trans}
 use native.Mathlib.Omega.{arith}
-use lib.IntN.{ℤ, pos, negsuc, natAbs, _+ℤ_, +ℤ-idr, +ℤ-idl}
+use lib.IntN.{ℤ, pos, negsuc, natAbs, _+ℤ_, +ℤ-idl}
 use lib.Dec.{T, ltb}
 use lib.Signed.{leZ, ltZ}
-use lib.Ieee.{Float, inf, binary64, fits}
+use lib.Ieee.{Float, binary64, fits}
 use borrow.Author.Tests.{ltb-true, ltb-false}
 use Rattle.integers.proofs.Difference.{ints, atoms}
 use Rattle.floats.specs.Product.{productOf}
@@ -21,8 +22,10 @@ use Rattle.floats.proofs.Bridge.{product-times}
 use Rattle.floats.proofs.Magnitude.{moved-normal}
 use Rattle.floats.proofs.Overflow.{isLost, product-above}
 use Rattle.floats.proofs.Splitting.{rate-normal, rate-range, rate-float}
-use Rattle.kernels.specs.InnerLanes.{Represents}
-use Rattle.kernels.proofs.Standing.{near-in, range-split}
+use Rattle.kernels.specs.declared.lanes.Lanes.{Lanes}
+use Rattle.kernels.specs.InnerLanes.{Represents, LanesAre, LanesRepresent, zeros}
+use Rattle.kernels.proofs.Lanewise.{lanes-map}
+use Rattle.kernels.proofs.Standing.{near-in, exponents, range-split}
 
 pub record Waits (n : ℕ) (m : Float) (e : ℤ) (f : Factor) : Type 0 where
   pub off : ℤ
@@ -35,15 +38,16 @@ pub record Waits (n : ℕ) (m : Float) (e : ℤ) (f : Factor) : Type 0 where
 pub waits-more : (n l : ℕ) (m : Float) (e : ℤ) (f : Factor) → n ≤ l → Waits n m e f → Waits l m e f
 waits-more n l m e f h w = record { off = w .off; range = w .range; low = let z = w .low in omega arith; m-is = w .m-is; e-is = w .e-is; normal = w .normal }
 
+-- eight lanes that wait
+abbrev pub WaitLanes : (ℕ → ℕ) → List Float → List ℤ → List Factor → Type 0
+WaitLanes b ms es fs = LanesAre Waits b ms es fs
+
 -- ---- places
 place-of : (z y : ℤ) (p q c r : ℕ) → z +ℤ pos 1022 ≡ pos p → y +ℤ pos 1022 ≡ pos q → r + 1022 ≡ p + q + c → z +ℤ y +ℤ pos c +ℤ pos 1022 ≡ pos r
 place-of z y p q c r = simp ints (simp atoms (omega arith))
 
 past : (z : ℤ) (r : ℕ) → z +ℤ pos 1022 ≡ pos r → 2046 ≤ r → ltZ (pos 1023) z ≡ true
 past z r = simp ints (simp atoms (omega arith))
-
-exponents : (e d z y p q : ℤ) (c : ℕ) → p ≡ e +ℤ z → q ≡ d +ℤ y → p +ℤ q +ℤ pos c ≡ e +ℤ d +ℤ (z +ℤ y +ℤ pos c)
-exponents e d z y p q c = simp ints (simp atoms (omega arith))
 
 -- ---- the product
 module _ (n l : ℕ) (m x : Float) (e d : ℤ) (f g : Factor) (F : Waits n m e f) (G : Waits l x d g) (room : n + l ≤ 1022) where
@@ -86,7 +90,8 @@ module _ (n l : ℕ) (m x : Float) (e d : ℤ) (f g : Factor) (F : Waits n m e f
         low = let a = F .low in let b = G .low in omega (arith, sum);
         m-is =
             whole-is
-            ∙ product-times (withExponent f (F .off)) (withExponent g (G .off)) (moved-normal 52 f (F .off) (F .normal)) (moved-normal 52 g (G .off) (G .normal)) (F .range) (G .range) R;
+            ∙ product-times (withExponent f (F .off)) (withExponent g (G .off)) (moved-normal 52 f (F .off) (F .normal))
+            (moved-normal 52 g (G .off) (G .normal)) (F .range) (G .range) R;
         e-is = exponents e d (F .off) (G .off) (f .exp) (g .exp) c (F .e-is) (G .e-is);
         normal = times-normal 52 f g (F .normal) (G .normal);
       }
@@ -96,7 +101,8 @@ module _ (n l : ℕ) (m x : Float) (e d : ℤ) (f g : Factor) (F : Waits n m e f
   outside h =
       ap isLost
       (whole-is
-      ∙ product-above (withExponent f (F .off)) (withExponent g (G .off)) (moved-normal 52 f (F .off) (F .normal)) (moved-normal 52 g (G .off) (G .normal)) (F .range) (G .range)
+      ∙ product-above (withExponent f (F .off)) (withExponent g (G .off)) (moved-normal 52 f (F .off) (F .normal)) (moved-normal 52 g (G .off) (G .normal))
+      (F .range) (G .range)
       (ap (λ (u : Factor). ltZ (pos 1023) (u .exp)) product-is ∙ past z r at-r h))
 
   pub waits-times : Waits (n + l) (productOf 11 52 m x) (e +ℤ d) (times 52 f g) ⊎ (isLost (productOf 11 52 m x) ≡ true)
@@ -110,7 +116,8 @@ module _ (n l : ℕ) (m x : Float) (e d : ℤ) (f g : Factor) (F : Waits n m e f
 low-place : (e : ℤ) (p k : ℕ) → e +ℤ pos 1022 ≡ pos p → leZ (negsuc k) e ≡ true → 1022 ≤ p + suc k
 low-place e p k = simp ints (simp atoms (omega arith))
 
-pub waits-rate : (k : ℕ) (x : Float) → T (fits binary64 x) → isBad x ≡ false → leZ (negsuc k) (rateFactor x .exp) ≡ true → Waits (suc k) x (pos 0) (rateFactor x)
+pub waits-rate : (k : ℕ) (x : Float) → T (fits binary64 x) → isBad x ≡ false → leZ (negsuc k) (rateFactor x .exp) ≡ true
+    → Waits (suc k) x (pos 0) (rateFactor x)
 waits-rate k x v h l =
     let f = rateFactor x in
     let R = rate-range x h in
@@ -135,6 +142,9 @@ represents-waits m e f s =
     at-0 : (y : ℤ) (p : ℕ) → natAbs y ≤ 0 → y +ℤ pos 1022 ≡ pos p → 1022 ≤ p + 0
     at-0 (pos k) p h a = place k p a
     at-0 (negsuc k) p h a = absurd (omega arith)
+
+pub lanes-wait : (b : ℕ → ℕ) (s : Lanes) (fs : List Factor) → LanesRepresent zeros s fs → WaitLanes b (s .m) (s .e) fs
+lanes-wait b s fs = lanes-map Represents Waits zeros b (λ k i m e f S. waits-more 0 (b k) m e f zero-le (represents-waits m e f S))
 
 pub waits-split : (n : ℕ) (m : Float) (e : ℤ) (f : Factor) → Waits n m e f → Represents 0 (split m .m) (e +ℤ split m .e) f
 waits-split n m e f w = range-split m e f (w .off) (w .range) (w .m-is) (w .e-is) (w .normal)

@@ -28,8 +28,9 @@ element-copy-out-t c = search needs
 
 add-t : tie.Need-add-t
 add-t c =
-    let s = c .before .before .before .before .before in
-    added-fits (s .args .s) (s .pre .1) (mOf (s .args .s) (s .args .k)) (c .before .before .before .split-f64 .result) (c .before .before .before .split-f64 .ensures) (s .args .k)
+    let p = c .before .before .before in
+    let s = p .before .before in
+    added-fits (s .args .s) (s .pre .1) (mOf (s .args .s) (s .args .k)) (p .split-f64 .result) (p .split-f64 .ensures) (s .args .k)
 
 mul-t15 : tie.Need-mul-t15
 mul-t15 c = search needs
@@ -39,8 +40,9 @@ element-set-from-t c = search needs
 
 returns : tie.Need-returns
 returns c =
-    let s = c .before .before .before .before .before in
-    renorm-one (s .args .s) (s .pre .1) (s .args .k) (c .before .before .before .split-f64 .result) (c .before .before .before .split-f64 .ensures)
+    let p = c .before .before .before in
+    let s = p .before .before in
+    renorm-one (s .args .s) (s .pre .1) (s .args .k) (p .split-f64 .result) (p .split-f64 .ensures)
 
 pub renorm-lane-spec : {M : Type 1} → statement M
 renorm-lane-spec =

@@ -3,6 +3,7 @@ use Prim.Native.Nat.{_^_}
 use lib.Dec.{lit≤}
 use borrow.Author.Needs.{needs}
 use Rattle.kernels.specs.Lanes.{laneOf}
+use Rattle.kernels.specs.InnerLanes.{SmallLanes}
 use Rattle.kernels.proofs.LaneSizes.{lanes-le}
 use Rattle.kernels.proofs.Stepwise.{added-fits, split-lane}
 use Rattle.kernels.proofs.lanes.split_step.Statement.{statement}
@@ -29,10 +30,18 @@ mul-t-3 c = search needs
 element-copy-out-t-2 : tie.Need-element-copy-out-t-2
 element-copy-out-t-2 c = search needs
 
+-- the split of the value
+abbrev splitting : tie.After-struct-told → tie.After-split-f64
+splitting c = let t = c .before .before .before in t .before .before
+
+small : (p : tie.After-split-f64) → SmallLanes (2 ^ 61) (p .before .args .s)
+small p = lanes-le (2 ^ 60) (2 ^ 61) (p .before .args .s) (lit≤ tt) (p .before .pre)
+
 add-t : tie.Need-add-t
 add-t c =
-    let s = c .before .before .before .before .before .before in
-    added-fits (s .args .s) (lanes-le (2 ^ 60) (2 ^ 61) (s .args .s) (lit≤ tt) (s .pre)) (s .args .value) (c .before .before .before .before .before .split-f64 .result) (c .before .before .before .before .before .split-f64 .ensures) (laneOf (s .args .i))
+    let p = splitting c in
+    let s = p .before .args in
+    added-fits (s .s) (small p) (s .value) (p .split-f64 .result) (p .split-f64 .ensures) (laneOf (s .i))
 
 mul-t12 : tie.Need-mul-t12
 mul-t12 c = search needs
@@ -42,8 +51,9 @@ element-set-from-t c = search needs
 
 returns : tie.Need-returns
 returns c =
-    let s = c .before .before .before .before .before .before .before in
-    split-lane (s .args .s) (lanes-le (2 ^ 60) (2 ^ 61) (s .args .s) (lit≤ tt) (s .pre)) (s .args .value) (c .before .before .before .before .before .before .split-f64 .result) (c .before .before .before .before .before .before .split-f64 .ensures) (s .args .i)
+    let p = splitting (c .before) in
+    let s = p .before .args in
+    split-lane (s .s) (small p) (s .value) (p .split-f64 .result) (p .split-f64 .ensures) (s .i)
 
 pub split-step-spec : {M : Type 1} → statement M
 split-step-spec =

@@ -1,31 +1,33 @@
 -- `kernels::lanes::stable_renorm` meets its contract. The loop's invariant: k lanes are brought back. Assumes nothing.
-use Prim.Native.Nat.{_+_, _-_, _*_, _^_, _≤_}
-use mathlib.Core.Path.{_≡_, refl, sym, subst}
+use Prim.Native.Nat.{_+_, _-_, _*_, _^_}
+use mathlib.Core.Path.{refl, sym, subst}
 use native.Mathlib.Omega.{arith}
 use Rattle.kernels.specs.Lanes.{inOrder}
 use Rattle.kernels.specs.Blocks.{renormLane, renorm}
 use Rattle.kernels.specs.InnerLanes.{SmallLanes}
-use Rattle.kernels.proofs.Feeding.{order-more, order-all}
+use Rattle.kernels.proofs.Feeding.{Worked, worked-none, worked-more, worked-all}
 use Rattle.kernels.proofs.LaneSizes.{lanes-le, renormed-small}
 use Rattle.kernels.proofs.lanes.stable_renorm.Statement.{statement}
 use Rattle.kernels.proofs.lanes.stable_renorm.Tie as tie
 
 abbrev Inv-loop : tie.InvT-loop
-Inv-loop t₀ k₀ t k = (k ≤ 8) × (t ≡ inOrder renormLane k t₀)
+Inv-loop t₀ k₀ t k = Worked renormLane 8 t₀ t k
 
 abbrev μ-loop : tie.MeasureT-loop
 μ-loop t₀ k₀ t k = 8 - k
 
 loop-holds : tie.Need-loop-holds Inv-loop μ-loop
-unfolding inOrder
-loop-holds c =
-    (omega arith, refl)
+loop-holds c = worked-none refl
 
 renorm-lane-requires : tie.Need-renorm-lane-requires Inv-loop μ-loop
 renorm-lane-requires c κs =
     let t = c .before in
-    let s = t .before in
-    (c .loop-test .taken, subst (SmallLanes (2 ^ 61)) (sym (t .loop .inv .1)) (lanes-le (2 ^ 60 + 1024 * t .loop .k) (2 ^ 61) (inOrder renormLane (t .loop .k) (s .args .s)) (omega arith) (renormed-small (2 ^ 60) (t .loop .k) (s .args .s) (s .pre))))
+    let s = t .before in (
+      c .loop-test .taken,
+      subst (SmallLanes (2 ^ 61)) (sym (t .loop .inv .is))
+          (lanes-le (2 ^ 60 + 1024 * t .loop .k) (2 ^ 61) (inOrder renormLane (t .loop .k) (s .args .s)) (omega arith)
+          (renormed-small (2 ^ 60) (t .loop .k) (s .args .s) (s .pre))),
+    )
 
 add-k : tie.Need-add-k Inv-loop μ-loop
 add-k c = omega arith
@@ -36,13 +38,11 @@ loop-less c = omega arith
 loop-again : tie.Need-loop-again Inv-loop μ-loop
 loop-again c =
     let t = c .before .before in
-    (omega arith, order-more renormLane (t .before .args .s) (t .loop .t) (c .renorm-lane .result) (t .loop .k) (t .loop .inv .1) (c .renorm-lane .ensures))
+    worked-more (t .loop .inv) (c .before .loop-test .taken) (c .renorm-lane .ensures)
 
 returns : tie.Need-returns Inv-loop μ-loop
 unfolding renorm
-returns c =
-    let t = c .before in
-    order-all renormLane 8 (t .before .args .s) (t .loop .t) (t .loop .k) (t .loop .inv .0) (c .loop-test .left) (t .loop .inv .1)
+returns c = worked-all (c .before .loop .inv) (c .loop-test .left)
 
 pub stable-renorm-spec : {M : Type 1} → statement M
 stable-renorm-spec =

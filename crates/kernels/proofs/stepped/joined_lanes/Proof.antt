@@ -1,6 +1,6 @@
 -- `kernels::stepped::joined_lanes` meets its contract. The loop's invariant: k lanes are joined. Assumes nothing.
 use Prim.Native.Nat.{ℕ, _-_, _^_, _≤_}
-use mathlib.Core.Path.{_≡_, sym, subst}
+use mathlib.Core.Path.{sym, subst}
 use mathlib.Core.List.{List}
 use native.Mathlib.Nat.{le-trans}
 use native.Mathlib.Omega.{arith}
@@ -9,10 +9,9 @@ use lib.Dec.{lit≤}
 use borrow.Author.Needs.{needs}
 use Rattle.accumulator.specs.declared.StableProductFloatAcc.{StableProductFloatAcc}
 use Rattle.accumulator.specs.Joining.{identityAcc, combined}
-use Rattle.kernels.specs.Lanes.{inOrder}
 use Rattle.kernels.specs.Stepped.{accAt, lanesJoined}
 use Rattle.kernels.specs.InnerStepped.{Sound}
-use Rattle.kernels.proofs.Feeding.{order-more, order-all}
+use Rattle.kernels.proofs.Feeding.{Worked, worked-none, worked-more, worked-all}
 use Rattle.kernels.proofs.Sizes.{joined-size}
 use Rattle.kernels.proofs.Bounded.{order-sound}
 use Rattle.kernels.proofs.stepped.joined_lanes.Statement.{statement}
@@ -23,7 +22,7 @@ abbrev step : List StableProductFloatAcc → ℕ → StableProductFloatAcc → S
 step ls j b = combined b (accAt ls j)
 
 abbrev Inv-loop : tie.InvT-loop
-Inv-loop t a₀ k₀ a k = (k ≤ 8) × (a ≡ inOrder (step (t .lanes)) k identityAcc)
+Inv-loop t a₀ k₀ a k = Worked (step (t .lanes)) 8 identityAcc a k
 
 abbrev μ-loop : tie.MeasureT-loop
 μ-loop t a₀ k₀ a k = 8 - k
@@ -32,8 +31,7 @@ identity-requires : tie.Need-identity-requires Inv-loop μ-loop
 identity-requires c κs = search needs
 
 loop-holds : tie.Need-loop-holds Inv-loop μ-loop
-unfolding inOrder
-loop-holds c = (omega arith, c .identity .ensures)
+loop-holds c = worked-none (c .identity .ensures)
 
 mul-b : tie.Need-mul-b Inv-loop μ-loop
 mul-b c = search needs
@@ -47,10 +45,10 @@ combine-units-requires c κs =
     let s = t .before .before in
     let ls = s .args .t1 .lanes in
     let k = t .loop .k in
-    let is = sym (t .loop .inv .1) in (
-      subst (λ (a : StableProductFloatAcc). natAbs (a .e) ≤ 2 ^ 61) is (le-trans (joined-size (2 ^ 52) ls k (s .pre .0)) (omega (arith, t .loop .inv .0))),
+    let is = sym (t .loop .inv .is) in (
+      subst (λ (a : StableProductFloatAcc). natAbs (a .e) ≤ 2 ^ 61) is (le-trans (joined-size (2 ^ 52) ls k (s .pre .0)) (omega (arith, t .loop .inv .upto))),
       le-trans (s .pre .0 .at k) (lit≤ tt),
-      subst Sound is (order-sound ls k (t .loop .inv .0) (s .pre .1)) .in-unit,
+      subst Sound is (order-sound ls k (t .loop .inv .upto) (s .pre .1)) .in-unit,
       s .pre .1 .at k (c .before .loop-test .taken) .in-unit,
     )
 
@@ -63,13 +61,12 @@ loop-less c = omega arith
 loop-again : tie.Need-loop-again Inv-loop μ-loop
 loop-again c =
     let t = c .before .before .before in
-    (omega arith, order-more (step (t .before .before .args .t1 .lanes)) identityAcc (t .loop .a) (c .combine-units .result) (t .loop .k) (t .loop .inv .1) (c .combine-units .ensures))
+    worked-more (t .loop .inv) (c .before .before .loop-test .taken) (c .combine-units .ensures)
 
 returns : tie.Need-returns Inv-loop μ-loop
 unfolding lanesJoined
-returns c =
-    let t = c .before in
-    order-all (step (t .before .before .args .t1 .lanes)) 8 identityAcc (t .loop .a) (t .loop .k) (t .loop .inv .0) (c .loop-test .left) (t .loop .inv .1)
+returns c = worked-all (c .before .loop .inv) (c .loop-test .left)
 
 pub joined-lanes-spec : {M : Type 1} → statement M
-joined-lanes-spec = tie.close (tie.spec Inv-loop μ-loop identity-requires loop-holds mul-b element-copy-out-b combine-units-requires add-k loop-less loop-again returns)
+joined-lanes-spec =
+    tie.close (tie.spec Inv-loop μ-loop identity-requires loop-holds mul-b element-copy-out-b combine-units-requires add-k loop-less loop-again returns)

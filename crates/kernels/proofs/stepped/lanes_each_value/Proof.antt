@@ -18,7 +18,9 @@ stepped-lanes-requires c κs =
 
 -- the lanes are those of the piece
 represent : (c : tie.After-stepped-lanes)
-    → c .stepped-lanes .result .lanes ≡ steppedLanes (strided (c .before .before .args .values .now) (c .before .before .args .start) (c .before .before .args .stride) (c .before .before .args .len))
+    → c .stepped-lanes .result .lanes
+    ≡ steppedLanes
+    (strided (c .before .before .args .values .now) (c .before .before .args .start) (c .before .before .args .stride) (c .before .before .args .len))
 represent c =
     let s = c .before .before in
     simp (toZ-ofZ w64 (s .args .start) (s .fits .start), toZ-ofZ w64 (s .args .stride) (s .fits .stride)) at (c .stepped-lanes .ensures)

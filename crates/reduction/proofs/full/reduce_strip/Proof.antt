@@ -17,7 +17,7 @@ use Rattle.kernels.specs.InnerStrided.{strided, PlacesInside}
 use Rattle.kernels.specs.InnerStepped.{Sound}
 use Rattle.kernels.proofs.Sizes.{combined-size}
 use Rattle.kernels.proofs.Bounded.{combined-sound, worked-sound}
-use Rattle.vectors.proofs.Feds.{strided-values}
+use Rattle.kernels.proofs.Striding.{strided-values}
 use Rattle.reduction.specs.InnerStrips.{strip}
 use Rattle.reduction.proofs.Pieces.{strided-near}
 use Rattle.reduction.proofs.Strips.{place-zero, place-next, place-fits, strip-first, strip-next}

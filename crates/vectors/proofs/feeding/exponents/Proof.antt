@@ -1,29 +1,27 @@
 -- `vectors::feeding::exponents` meets its contract. The loop's invariant: the exponents of k lanes are added. Assumes nothing.
 use Prim.Native.Nat.{_-_, _^_, _≤_}
-use mathlib.Core.Path.{_≡_, refl}
+use mathlib.Core.Path.{refl, sym, subst}
 use native.Mathlib.Nat.{le-trans}
 use native.Mathlib.Omega.{arith}
-use lib.IntN.{pos, natAbs}
+use lib.IntN.{ℤ, pos, natAbs}
 use lib.Dec.{lit≤}
 use mir.Val.{toZ}
 use mir.Syntax.{w64}
-use Rattle.kernels.specs.Lanes.{inOrder}
 use Rattle.kernels.specs.Blocks.{eOf}
-use Rattle.kernels.proofs.Feeding.{order-more, order-all}
+use Rattle.kernels.proofs.Feeding.{Worked, worked-none, worked-more, worked-all}
 use Rattle.vectors.specs.InnerWaiting.{exponentsOf}
 use Rattle.vectors.proofs.Vectors.{plus, some-exponents-size, next-sum-fits, next-sum-exact}
 use Rattle.vectors.proofs.feeding.exponents.Statement.{statement}
 use Rattle.vectors.proofs.feeding.exponents.Tie as tie
 
 abbrev Inv-loop : tie.InvT-loop
-Inv-loop s e₀ k₀ e k = (k ≤ 8) × (toZ w64 e ≡ inOrder (plus s) k (pos 0))
+Inv-loop s e₀ k₀ e k = Worked (plus s) 8 (pos 0) (toZ w64 e) k
 
 abbrev μ-loop : tie.MeasureT-loop
 μ-loop s e₀ k₀ e k = 8 - k
 
 loop-holds : tie.Need-loop-holds Inv-loop μ-loop
-unfolding inOrder
-loop-holds c = (omega arith, refl)
+loop-holds c = worked-none refl
 
 mul-e : tie.Need-mul-e Inv-loop μ-loop
 mul-e c = omega arith
@@ -32,8 +30,11 @@ element-copy-out-e : tie.Need-element-copy-out-e Inv-loop μ-loop
 element-copy-out-e c = omega arith
 
 -- the exponents so far, and the next, are far from the ends of i64
-so-far : (c : tie.After-e Inv-loop μ-loop) → let t = c .before .before in natAbs (inOrder (plus (t .before .args .t1)) (t .loop .k) (pos 0)) ≤ 2 ^ 61
-so-far c = let t = c .before .before in le-trans (some-exponents-size (2 ^ 56) (t .before .args .t1) (t .before .pre) (t .loop .k)) (omega arith)
+so-far : (c : tie.After-e Inv-loop μ-loop) → let t = c .before .before in natAbs (toZ w64 (t .loop .e)) ≤ 2 ^ 61
+so-far c =
+    let t = c .before .before in
+    subst (λ (z : ℤ). natAbs z ≤ 2 ^ 61) (sym (t .loop .inv .is))
+    (le-trans (some-exponents-size (2 ^ 56) (t .before .args .t1) (t .before .pre) (t .loop .k)) (omega arith))
 
 next : (c : tie.After-e Inv-loop μ-loop) → let t = c .before .before in natAbs (eOf (t .before .args .t1) (t .loop .k)) ≤ 2 ^ 61
 next c = let t = c .before .before in le-trans (t .before .pre .at (t .loop .k)) (lit≤ tt)
@@ -41,8 +42,7 @@ next c = let t = c .before .before in le-trans (t .before .pre .at (t .loop .k))
 add-e : tie.Need-add-e Inv-loop μ-loop
 add-e c =
     let t = c .before .before in
-    let s = t .before .args .t1 in
-    next-sum-fits (inOrder (plus s) (t .loop .k) (pos 0)) (eOf s (t .loop .k)) (toZ w64 (t .loop .e)) (t .loop .inv .1) (so-far c) (next c)
+    next-sum-fits (toZ w64 (t .loop .e)) (eOf (t .before .args .t1) (t .loop .k)) (so-far c) (next c)
 
 add-k : tie.Need-add-k Inv-loop μ-loop
 add-k c = omega arith
@@ -53,15 +53,12 @@ loop-less c = omega arith
 loop-again : tie.Need-loop-again Inv-loop μ-loop
 loop-again c =
     let t = c .before .before in
-    let s = t .before .args .t1 in
-    let z = inOrder (plus s) (t .loop .k) (pos 0) in
-    (omega arith, order-more (plus s) (pos 0) z _ (t .loop .k) refl (next-sum-exact z (eOf s (t .loop .k)) (toZ w64 (t .loop .e)) (t .loop .inv .1) (so-far c) (next c)))
+    worked-more (t .loop .inv) (c .before .loop-test .taken)
+    (next-sum-exact (toZ w64 (t .loop .e)) (eOf (t .before .args .t1) (t .loop .k)) (so-far c) (next c))
 
 returns : tie.Need-returns Inv-loop μ-loop
 unfolding exponentsOf
-returns c =
-    let t = c .before in
-    order-all (plus (t .before .args .t1)) 8 (pos 0) (toZ w64 (t .loop .e)) (t .loop .k) (t .loop .inv .0) (c .loop-test .left) (t .loop .inv .1)
+returns c = worked-all (c .before .loop .inv) (c .loop-test .left)
 
 pub exponents-spec : {M : Type 1} → statement M
 exponents-spec =

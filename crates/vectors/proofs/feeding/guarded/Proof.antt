@@ -1,5 +1,5 @@
 -- `vectors::feeding::guarded` meets its contract. The loop's invariant: after the last turn the lanes are right. Assumes nothing.
-use Prim.Native.Nat.{ℕ, _+_, _-_, _≤_}
+use Prim.Native.Nat.{ℕ, _-_, _≤_}
 use mathlib.Core.Path.{_≡_, refl, sym, ap, _∙_}
 use mathlib.Core.Bool.{Bool, true, false, _||_}
 use native.Mathlib.Omega.{arith}
@@ -32,7 +32,8 @@ loop-holds : tie.Need-loop-holds Inv-loop μ-loop
 loop-holds c = (omega arith, λ e. absurd (omega (arith, e)))
 
 vectors-in-requires : tie.Need-vectors-in-requires Inv-loop μ-loop
-vectors-in-requires c κs = let s = c .before .before .before in simp (toZ-ofZ w64 (s .args .start) (s .fits .start), toZ-ofZ w64 (s .args .stride) (s .fits .stride)) (s .pre)
+vectors-in-requires c κs =
+    let s = c .before .before .before in simp (toZ-ofZ w64 (s .args .start) (s .fits .start), toZ-ofZ w64 (s .args .stride) (s .fits .stride)) (s .pre)
 
 add-turn : tie.Need-add-turn Inv-loop μ-loop
 add-turn c = omega arith
@@ -46,8 +47,11 @@ loop-less c = omega arith
 loop-again : tie.Need-loop-again Inv-loop μ-loop
 loop-again c =
     let p = c .before in
-    let r = p .before .before in
-    (omega arith, λ e. r .vectors-in .ensures .0 (either (eqb (r .before .before .loop .turn) 1) (every notPast (r .vectors-in .result .m)) (sym (p .none-past .ensures) ∙ c .if1 .taken)))
+    let r = p .before .before in (
+      omega arith,
+      λ e. r .vectors-in .ensures .0
+          (either (eqb (r .before .before .loop .turn) 1) (every notPast (r .vectors-in .result .m)) (sym (p .none-past .ensures) ∙ c .if1 .taken)),
+    )
 
 loop-less-2 : tie.Need-loop-less-2 Inv-loop μ-loop
 loop-less-2 c = omega arith

@@ -18,14 +18,16 @@ add-t7 c =
     let x = c .before .before in
     let p = x .before in
     let s = p .before .before .before in
-    product-fits (s .args .s) (s .pre .0) (x .exponents .result) (p .split-f64 .result) (p .before .chain .result) (x .exponents .ensures) (p .before .chain .ensures) (p .split-f64 .ensures)
+    product-fits (s .args .s) (s .pre .0) (x .exponents .result) (p .split-f64 .result) (p .before .chain .result) (x .exponents .ensures)
+    (p .before .chain .ensures) (p .split-f64 .ensures)
 
 returns : tie.Need-returns
 returns c =
     let x = c .before .before in
     let p = x .before in
     let s = p .before .before .before in
-    product-is (s .args .s) (s .pre .0) (x .exponents .result) (p .split-f64 .result) (p .before .chain .result) (x .exponents .ensures) (p .before .chain .ensures) (p .split-f64 .ensures)
+    product-is (s .args .s) (s .pre .0) (x .exponents .result) (p .split-f64 .result) (p .before .chain .result) (x .exponents .ensures)
+    (p .before .chain .ensures) (p .split-f64 .ensures)
 
 pub lanes-product-spec : {M : Type 1} → statement M
 lanes-product-spec =

@@ -1,19 +1,17 @@
 -- `vectors::feeding::next_step` meets its contract. Assumes nothing.
-use Prim.Native.Nat.{ℕ, _-_, _*_, _/_, _%_, _^_, _≤_, _<_, min}
-use mathlib.Core.Path.{_≡_, refl, sym, ap, _∙_, subst}
+use Prim.Native.Nat.{ℕ, _*_, _/_, _%_, _≤_, _<_, min}
+use mathlib.Core.Path.{_≡_, refl, ap}
 use mathlib.Core.Logic.{_⊎_, inl, inr}
 use native.Mathlib.Omega.{arith}
 use mathlib.Core.Bool.{Bool, true, false}
 use lib.Dec.{ltb}
 use borrow.Author.Tests.{ltb-true, ltb-false}
 use lib.ListN.{length}
-use lib.IntN.{ℤ}
 use mir.ValLaws.{toZ-ofZ}
 use mir.Syntax.{w64}
 use borrow.Author.Needs.{needs}
-use Rattle.kernels.specs.InnerStrided.{strided, PlacesInside}
-use Rattle.vectors.specs.InnerSteps.{NotYetNormalised, Progress}
-use Rattle.vectors.proofs.Vectors.{inside-less}
+use Rattle.kernels.proofs.Striding.{inside-less}
+use Rattle.vectors.specs.InnerSteps.{Progress}
 use Rattle.vectors.proofs.feeding.next_step.Statement.{statement}
 use Rattle.vectors.proofs.feeding.next_step.Tie as tie
 
@@ -47,8 +45,12 @@ tried-requires c κs =
     let s = c .before .before .before .before in
     let e = c .min-usize .ensures in
     let h = c .before .if2 .taken in
-    simp (toZ-ofZ w64 (s .args .at) (s .fits .at), toZ-ofZ w64 (s .args .stride) (s .fits .stride))
-    (s .pre .0, s .pre .1, vectors-few _ _ e, inside-less (length (s .args .values .now)) (s .args .at) (s .args .stride) (s .args .left) (8 * c .min-usize .result) (s .pre .3) (vectors-inside _ _ e))
+    simp (toZ-ofZ w64 (s .args .at) (s .fits .at), toZ-ofZ w64 (s .args .stride) (s .fits .stride)) (
+      s .pre .0,
+      s .pre .1,
+      vectors-few _ _ e,
+      inside-less (length (s .args .values .now)) (s .args .at) (s .args .stride) (s .args .left) (8 * c .min-usize .result) (s .pre .3) (vectors-inside _ _ e),
+    )
   where
     vectors-few : (n l : ℕ) → n ≡ min 64 (l / 8) → n ≤ 64
     vectors-few n l e = omega arith
@@ -61,7 +63,8 @@ returns c =
     let q = c .before in
     let s = q .before .before .before .before in (
       simp (toZ-ofZ w64 (s .args .at) (s .fits .at), toZ-ofZ w64 (s .args .stride) (s .fits .stride)) at (c .tried .ensures .0),
-      tried-progress (s .args .left) (s .args .hold) (q .min-usize .result) (c .tried .result .done) (q .min-usize .ensures) (q .before .before .if1 .taken) (q .before .if2 .taken) (c .tried .ensures .1),
+      tried-progress (s .args .left) (s .args .hold) (q .min-usize .result) (c .tried .result .done) (q .min-usize .ensures) (q .before .before .if1 .taken)
+          (q .before .if2 .taken) (c .tried .ensures .1),
     )
 
 min-usize-requires-2 : tie.Need-min-usize-requires-2
@@ -71,8 +74,12 @@ guarded-requires : tie.Need-guarded-requires
 guarded-requires c κs =
     let s = c .before .before .before in
     let e = c .min-usize2 .ensures in
-    simp (toZ-ofZ w64 (s .args .at) (s .fits .at), toZ-ofZ w64 (s .args .stride) (s .fits .stride))
-    (s .pre .0, s .pre .1, few _ _ e, inside-less (length (s .args .values .now)) (s .args .at) (s .args .stride) (s .args .left) (c .min-usize2 .result) (s .pre .3) (within _ _ e))
+    simp (toZ-ofZ w64 (s .args .at) (s .fits .at), toZ-ofZ w64 (s .args .stride) (s .fits .stride)) (
+      s .pre .0,
+      s .pre .1,
+      few _ _ e,
+      inside-less (length (s .args .values .now)) (s .args .at) (s .args .stride) (s .args .left) (c .min-usize2 .result) (s .pre .3) (within _ _ e),
+    )
   where
     few : (n l : ℕ) → n ≡ min 256 l → n ≤ 256
     few n l e = omega arith
@@ -83,8 +90,10 @@ guarded-requires c κs =
 returns-2 : tie.Need-returns-2
 returns-2 c =
     let q = c .before in
-    let s = q .before .before .before in
-    (simp (toZ-ofZ w64 (s .args .at) (s .fits .at), toZ-ofZ w64 (s .args .stride) (s .fits .stride)) at (c .guarded .ensures), guarded-progress (s .args .left) (s .args .hold) (q .min-usize2 .result) (q .min-usize2 .ensures))
+    let s = q .before .before .before in (
+      simp (toZ-ofZ w64 (s .args .at) (s .fits .at), toZ-ofZ w64 (s .args .stride) (s .fits .stride)) at (c .guarded .ensures),
+      guarded-progress (s .args .left) (s .args .hold) (q .min-usize2 .result) (q .min-usize2 .ensures),
+    )
 
 pub next-step-spec : {M : Type 1} → statement M
 next-step-spec =

@@ -9,10 +9,11 @@ use mir.Syntax.{w64}
 use mir.ValLaws.{toZ-ofZ}
 use Rattle.kernels.specs.Lanes.{feed}
 use Rattle.kernels.specs.InnerStrided.{strided, PlacesInside}
+use Rattle.kernels.proofs.Striding.{place-first, inside-part}
 use Rattle.vectors.specs.declared.vector.Waiting.{Waiting}
 use Rattle.vectors.specs.InnerWaiting.{waitStep}
-use Rattle.vectors.proofs.Vectorwise.{place-first, inside-part, place-fits, step-fits}
-use Rattle.vectors.proofs.Vectors.{vector-whole, vector-long, place-vector, vectors-more, wait-again, wait-m-long, wait-least-long}
+use Rattle.vectors.proofs.Vectorwise.{place-fits, step-fits}
+use Rattle.vectors.proofs.Vectors.{vector-whole, vector-long, place-on, vectors-more, wait-again, wait-m-long, wait-least-long}
 use Rattle.vectors.proofs.feeding.wait_apart.Statement.{statement}
 use Rattle.vectors.proofs.feeding.wait_apart.Tie as tie
 
@@ -29,24 +30,39 @@ loop-holds : tie.Need-loop-holds Inv-loop μ-loop
 unfolding feed strided
 loop-holds c = (omega arith, refl, λ h. place-first (toZ w64 (ofZ w64 (c .before .args .start))) (toZ w64 (ofZ w64 (c .before .args .stride))))
 
+-- a turn of the loop, as it is entered: the entry, and its numbers as the code holds them
+abbrev entry : tie.At-loop Inv-loop μ-loop → tie.Start Inv-loop μ-loop
+entry t = t .before .before
+
+abbrev size : tie.At-loop Inv-loop μ-loop → ℕ
+size t = length (entry t .args .values .now)
+
+abbrev first : tie.At-loop Inv-loop μ-loop → ℤ
+first t = toZ w64 (ofZ w64 (entry t .args .start))
+
+abbrev apart : tie.At-loop Inv-loop μ-loop → ℤ
+apart t = toZ w64 (ofZ w64 (entry t .args .stride))
+
+abbrev turn : tie.Then1 Inv-loop μ-loop → tie.In-loop Inv-loop μ-loop
+turn c = c .before .before .before
+
 -- what is required, of the numbers as the code holds them
-inside : (c : tie.In-loop Inv-loop μ-loop) → let s = c .before .before .before in PlacesInside (length (s .args .values .now)) (toZ w64 (ofZ w64 (s .args .start))) (toZ w64 (ofZ w64 (s .args .stride))) (8 * s .args .vectors)
-inside c = let s = c .before .before .before in simp (toZ-ofZ w64 (s .args .start) (s .fits .start), toZ-ofZ w64 (s .args .stride) (s .fits .stride)) (s .pre .3)
+inside : (t : tie.At-loop Inv-loop μ-loop) → PlacesInside (size t) (first t) (apart t) (8 * entry t .args .vectors)
+inside t = let s = entry t in simp (toZ-ofZ w64 (s .args .start) (s .fits .start), toZ-ofZ w64 (s .args .stride) (s .fits .stride)) (s .pre .3)
 
 -- the next vector
 vector-of-requires : tie.Need-vector-of-requires Inv-loop μ-loop
 vector-of-requires c κs =
-    let s = c .before .before .before in
-    let i = c .before .loop .i in (
+    let t = c .before in (
       omega arith,
-      subst (λ (z : ℤ). PlacesInside (length (s .args .values .now)) z (toZ w64 (ofZ w64 (s .args .stride))) 8) (sym (c .before .loop .inv .2 (c .loop-test .taken)))
-          (inside-part (length (s .args .values .now)) (toZ w64 (ofZ w64 (s .args .start))) (toZ w64 (ofZ w64 (s .args .stride))) (8 * s .args .vectors) (8 * i) 8 (inside c) (omega (arith, c .loop-test .taken))),
+      subst (λ (z : ℤ). PlacesInside (size t) z (apart t) 8) (sym (t .loop .inv .2 (c .loop-test .taken)))
+          (inside-part (size t) (first t) (apart t) (8 * entry t .args .vectors) (8 * t .loop .i) 8 (inside t) (omega (arith, c .loop-test .taken))),
     )
 
 wait-vector-requires : tie.Need-wait-vector-requires Inv-loop μ-loop
 wait-vector-requires c κs =
     let t = c .before .before in
-    let s = t .before .before in (
+    let s = entry t in (
       ap (λ (w : Waiting). length (w .m)) (t .loop .inv .1) ∙ wait-m-long 0 (s .args .w) _ ∙ s .pre .0,
       ap (λ (w : Waiting). length (w .least)) (t .loop .inv .1) ∙ wait-least-long 0 (s .args .w) _ ∙ s .pre .1,
       ap length (c .vector-of .ensures) ∙ vector-long _,
@@ -57,48 +73,42 @@ add-i c = omega arith
 
 mul-at : tie.Need-mul-at Inv-loop μ-loop
 mul-at c =
-    let t = c .before .before .before .before in
-    let s = t .before .before in
-    step-fits (length (s .args .values .now)) (toZ w64 (ofZ w64 (s .args .start))) (toZ w64 (ofZ w64 (s .args .stride))) (8 * s .args .vectors) (inside (c .before .before .before)) 8 (omega (arith, c .if1 .taken)) (omega (arith, s .good .1 .1))
+    let t = turn c .before in
+    step-fits (size t) (first t) (apart t) (8 * entry t .args .vectors) (inside t) 8 (omega (arith, c .if1 .taken)) (omega (arith, entry t .good .1 .1))
 
 -- the place a vector further
-next : (c : tie.Then1 Inv-loop μ-loop) → let t = c .before .before .before .before in let s = t .before .before in toZ w64 (t .loop .at) +ℤ toZ w64 (ofZ w64 (toZ w64 (ofZ w64 (s .args .stride)) *ℤ pos 8)) ≡ toZ w64 (ofZ w64 (s .args .start)) +ℤ toZ w64 (ofZ w64 (s .args .stride)) *ℤ pos (8 * (t .loop .i + 1))
-next c =
-    let t = c .before .before .before .before in
-    let s = t .before .before in
-    let d = toZ w64 (ofZ w64 (s .args .stride)) in
-    ap (λ (z : ℤ). toZ w64 (t .loop .at) +ℤ z) (toZ-ofZ w64 (d *ℤ pos 8) (mul-at c))
-    ∙ ap (λ (z : ℤ). z +ℤ d *ℤ pos 8) (t .loop .inv .2 (c .before .before .before .loop-test .taken))
-    ∙ place-vector (toZ w64 (ofZ w64 (s .args .start))) d (t .loop .i)
+next : (c : tie.Then1 Inv-loop μ-loop)
+    → let t = turn c .before in toZ w64 (t .loop .at) +ℤ toZ w64 (ofZ w64 (apart t *ℤ pos 8)) ≡ first t +ℤ apart t *ℤ pos (8 * (t .loop .i + 1))
+next c = let t = turn c .before in place-on (first t) (apart t) (toZ w64 (t .loop .at)) (t .loop .i) (mul-at c) (t .loop .inv .2 (turn c .loop-test .taken))
 
 add-at : tie.Need-add-at Inv-loop μ-loop
 add-at c =
-    let t = c .before .before .before .before in
-    let s = t .before .before in
+    let t = turn c .before in
     subst (SFits w64) (sym (next c))
-    (place-fits (length (s .args .values .now)) (toZ w64 (ofZ w64 (s .args .start))) (toZ w64 (ofZ w64 (s .args .stride))) (8 * s .args .vectors) (inside (c .before .before .before)) (8 * (t .loop .i + 1)) (omega (arith, c .if1 .taken)) (omega (arith, s .good .1 .1)))
+    (place-fits (size t) (first t) (apart t) (8 * entry t .args .vectors) (inside t) (8 * (t .loop .i + 1)) (omega (arith, c .if1 .taken))
+    (omega (arith, entry t .good .1 .1)))
 
 -- the vector is in
-more : (c : tie.After-wait-vector Inv-loop μ-loop) → let t = c .before .before .before in let s = t .before .before in c .wait-vector .result ≡ feed waitStep 0 (s .args .w) (strided (s .args .values .now) (toZ w64 (ofZ w64 (s .args .start))) (toZ w64 (ofZ w64 (s .args .stride))) (8 * (t .loop .i + 1)))
+more : (c : tie.After-wait-vector Inv-loop μ-loop)
+    → let t = c .before .before .before in
+    c .wait-vector .result ≡ feed waitStep 0 (entry t .args .w) (strided (entry t .args .values .now) (first t) (apart t) (8 * (t .loop .i + 1)))
 more c =
-    let t = c .before .before .before in
-    let s = t .before .before in
+    let q = c .before .before in
+    let t = q .before in
+    let s = entry t in
     let xs = s .args .values .now in
-    let b = toZ w64 (ofZ w64 (s .args .start)) in
-    let d = toZ w64 (ofZ w64 (s .args .stride)) in
-    vectors-more waitStep wait-again (s .args .w) (t .loop .t) (c .wait-vector .result) xs b d (t .loop .i) (t .loop .inv .1)
+    vectors-more waitStep wait-again (s .args .w) (t .loop .t) (c .wait-vector .result) xs (first t) (apart t) (t .loop .i) (t .loop .inv .1)
     (c .wait-vector .ensures
-    ∙ ap (feed waitStep 0 (t .loop .t)) (c .before .vector-of .ensures ∙ vector-whole xs (toZ w64 (t .loop .at)) d)
-    ∙ ap (λ (z : ℤ). feed waitStep 0 (t .loop .t) (strided xs z d 8)) (t .loop .inv .2 (c .before .before .loop-test .taken)))
+    ∙ ap (feed waitStep 0 (t .loop .t)) (c .before .vector-of .ensures ∙ vector-whole xs (toZ w64 (t .loop .at)) (apart t))
+    ∙ ap (λ (z : ℤ). feed waitStep 0 (t .loop .t) (strided xs z (apart t) 8)) (t .loop .inv .2 (q .loop-test .taken)))
 
 loop-less : tie.Need-loop-less Inv-loop μ-loop
 loop-less c = omega arith
 
 loop-again : tie.Need-loop-again Inv-loop μ-loop
 loop-again c =
-    let t = c .before .before .before .before in
-    let s = t .before .before in
-    (omega arith, more (c .before), λ h. toZ-ofZ w64 (toZ w64 (t .loop .at) +ℤ toZ w64 (ofZ w64 (toZ w64 (ofZ w64 (s .args .stride)) *ℤ pos 8))) (add-at c) ∙ next c)
+    let t = turn c .before in
+    (omega arith, more (c .before), λ h. toZ-ofZ w64 (toZ w64 (t .loop .at) +ℤ toZ w64 (ofZ w64 (apart t *ℤ pos 8))) (add-at c) ∙ next c)
 
 loop-less-2 : tie.Need-loop-less-2 Inv-loop μ-loop
 loop-less-2 c = omega arith
@@ -109,8 +119,10 @@ loop-again-2 c = (omega arith, more (c .before), λ h. absurd (omega arith))
 
 returns : tie.Need-returns Inv-loop μ-loop
 returns c =
-    let s = c .before .before .before in
-    let e = c .before .loop .inv .1 ∙ ap (λ (i : ℕ). feed waitStep 0 (s .args .w) (strided (s .args .values .now) (toZ w64 (ofZ w64 (s .args .start))) (toZ w64 (ofZ w64 (s .args .stride))) (8 * i))) (let z : c .before .loop .i ≡ s .args .vectors = omega arith in z) in
+    let t = c .before in
+    let s = entry t in
+    let z : t .loop .i ≡ s .args .vectors = omega arith in
+    let e = t .loop .inv .1 ∙ ap (λ (i : ℕ). feed waitStep 0 (s .args .w) (strided (s .args .values .now) (first t) (apart t) (8 * i))) z in
     simp (toZ-ofZ w64 (s .args .start) (s .fits .start), toZ-ofZ w64 (s .args .stride) (s .fits .stride)) at e
 
 pub wait-apart-spec : {M : Type 1} → statement M

@@ -5,7 +5,8 @@ use mir.Syntax.{w64}
 use Rattle.accumulator.specs.declared.StableProductFloatAcc.{StableProductFloatAcc}
 use Rattle.kernels.specs.InnerStrided.{strided}
 use Rattle.kernels.specs.Blocks.{contiguous}
-use Rattle.vectors.proofs.Feds.{unmarked-stepped, strided-values}
+use Rattle.kernels.proofs.Striding.{strided-values}
+use Rattle.vectors.proofs.Feds.{unmarked-stepped}
 use Rattle.vectors.proofs.piece.lanes_strided.Statement.{statement}
 use Rattle.vectors.proofs.piece.lanes_strided.Tie as tie
 
@@ -15,7 +16,8 @@ worked-piece-requires c κs =
     simp (toZ-ofZ w64 (s .args .start) (s .fits .start), toZ-ofZ w64 (s .args .stride) (s .fits .stride)) (s .pre .1, s .pre .0)
 
 -- the piece in blocks of 64
-worked : (c : tie.After-worked-piece) → let s = c .before .before in c .worked-piece .result ≡ contiguous (strided (s .args .values .now) (s .args .start) (s .args .stride) (s .args .len))
+worked : (c : tie.After-worked-piece)
+    → let s = c .before .before in c .worked-piece .result ≡ contiguous (strided (s .args .values .now) (s .args .start) (s .args .stride) (s .args .len))
 worked c =
     let s = c .before .before in
     simp (toZ-ofZ w64 (s .args .start) (s .fits .start), toZ-ofZ w64 (s .args .stride) (s .fits .stride)) at (c .worked-piece .ensures)

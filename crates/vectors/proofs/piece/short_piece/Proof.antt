@@ -1,35 +1,25 @@
 -- `vectors::piece::short_piece` meets its contract. Assumes nothing.
-use Prim.Native.Nat.{ℕ, _+_, _-_, _%_, _≤_}
-use mathlib.Core.Path.{_≡_, refl, sym, ap, _∙_, subst}
-use mathlib.Core.Bool.{Bool, true, false}
+use Prim.Native.Nat.{ℕ, _≤_}
+use mathlib.Core.Path.{_≡_, sym, ap, _∙_, subst}
+use mathlib.Core.Bool.{false}
 use lib.ListN.{length, replicate}
 use lib.IntN.{ℤ}
-use lib.Ieee.{Float}
-use mir.Val.{toZ, ofZ, SFits}
+use mir.Val.{SFits}
 use mir.ValLaws.{toZ-ofZ}
 use mir.Syntax.{w64}
 use borrow.Author.Needs.{needs}
 use Rattle.floats.specs.declared.Split.{Split}
 use Rattle.floats.specs.Splitting.{split}
-use Rattle.accumulator.specs.declared.StableProductFloatAcc.{StableProductFloatAcc}
 use Rattle.kernels.specs.Lanes.{feed, every}
 use Rattle.kernels.specs.InnerStrided.{strided}
 use Rattle.kernels.proofs.Feeding.{and-both}
-use Rattle.kernels.proofs.Striding.{length-strided}
+use Rattle.kernels.proofs.Striding.{length-strided, strided-values}
 use Rattle.vectors.specs.declared.vector.Waiting.{Waiting}
 use Rattle.vectors.specs.InnerWaiting.{one, waitStep, padded, startWaiting, notBelow, notPast, chained}
 use Rattle.vectors.proofs.Vectors.{wait-m-long, wait-least-long}
-use Rattle.vectors.proofs.Feds.{strided-values}
 use Rattle.vectors.proofs.Shorts.{short-contiguous}
 use Rattle.vectors.proofs.piece.short_piece.Statement.{statement}
 use Rattle.vectors.proofs.piece.short_piece.Tie as tie
-use Rattle.vectors.proofs.piece.short_piece.Reads as reads
-use Rattle.vectors.proofs.piece.short_piece.Lts as lts
-use Rattle.floats.proofs.split_f64.Reads as split-f64-reads
-use Rattle.vectors.proofs.piece.short_lanes.Reads as short-lanes-reads
-use Rattle.vectors.proofs.vector.chain.Reads as chain-reads
-use Rattle.vectors.proofs.vector.none_below.Reads as none-below-reads
-use Rattle.vectors.proofs.vector.not_past.Reads as not-past-reads
 
 short-lanes-requires : tie.Need-short-lanes-requires
 short-lanes-requires c κs =
@@ -37,7 +27,10 @@ short-lanes-requires c κs =
     simp (toZ-ofZ w64 (s .args .start) (s .fits .start), toZ-ofZ w64 (s .args .stride) (s .fits .stride)) (s .pre .0, s .pre .1)
 
 -- the lanes of the piece
-waited : (c : tie.After-short-lanes) → let s = c .before .before in c .short-lanes .result ≡ feed waitStep 0 (startWaiting (replicate 8 one)) (padded (strided (s .args .values .now) (s .args .start) (s .args .stride) (s .args .len)))
+waited : (c : tie.After-short-lanes)
+    → let s = c .before .before in
+    c .short-lanes .result
+    ≡ feed waitStep 0 (startWaiting (replicate 8 one)) (padded (strided (s .args .values .now) (s .args .start) (s .args .stride) (s .args .len)))
 waited c =
     let s = c .before .before in
     simp (toZ-ofZ w64 (s .args .start) (s .fits .start), toZ-ofZ w64 (s .args .stride) (s .fits .stride)) at (c .short-lanes .ensures)

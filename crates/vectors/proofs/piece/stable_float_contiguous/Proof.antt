@@ -1,8 +1,6 @@
 -- `vectors::piece::stable_float_contiguous` meets its contract: side by side is a stride of 1. Assumes nothing.
-use mathlib.Core.Path.{_≡_, sym, ap, _∙_}
+use mathlib.Core.Path.{ap, _∙_}
 use lib.ListN.{length}
-use lib.IntN.{pos}
-use Rattle.kernels.specs.InnerStrided.{strided, PlacesInside}
 use Rattle.kernels.specs.Blocks.{contiguous}
 use Rattle.kernels.proofs.Striding.{strided-all, inside-all}
 use Rattle.vectors.proofs.piece.stable_float_contiguous.Statement.{statement}

@@ -1,11 +1,12 @@
 -- `vectors::piece::worked_piece` meets its contract. Assumes nothing.
-use mathlib.Core.Path.{_≡_, sym, ap, _∙_}
+use mathlib.Core.Path.{_∙_}
 use mir.ValLaws.{toZ-ofZ}
 use mir.Syntax.{w64}
 use Rattle.kernels.specs.InnerStrided.{strided}
 use Rattle.kernels.specs.Blocks.{startLanes}
 use Rattle.kernels.specs.InnerLanes.{LanesAfter}
-use Rattle.vectors.proofs.Feds.{fed-eight, fed-contiguous, vectors-small, strided-values}
+use Rattle.kernels.proofs.Striding.{strided-values}
+use Rattle.vectors.proofs.Feds.{fed-eight, fed-contiguous, vectors-small}
 use Rattle.vectors.proofs.piece.worked_piece.Statement.{statement}
 use Rattle.vectors.proofs.piece.worked_piece.Tie as tie
 
@@ -26,22 +27,27 @@ fed-lanes-requires c κs =
     simp (toZ-ofZ w64 (s .args .start) (s .fits .start), toZ-ofZ w64 (s .args .stride) (s .fits .stride)) (s .pre .0, s .pre .1)
 
 -- the lanes of the piece
-fed : (c : tie.After-fed-lanes) → let s = c .before .before .before in LanesAfter startLanes (strided (s .args .values .now) (s .args .start) (s .args .stride) (s .args .len)) (c .fed-lanes .result)
+fed : (c : tie.After-fed-lanes)
+    → let s = c .before .before .before in
+    LanesAfter startLanes (strided (s .args .values .now) (s .args .start) (s .args .stride) (s .args .len)) (c .fed-lanes .result)
 fed c =
     let s = c .before .before .before in
     simp (toZ-ofZ w64 (s .args .start) (s .fits .start), toZ-ofZ w64 (s .args .stride) (s .fits .stride)) at (c .fed-lanes .ensures)
 
 lanes-product-requires : tie.Need-lanes-product-requires
 lanes-product-requires c κs =
-    let s = c .before .before .before in
-    (vectors-small (s .args .values .now) (s .args .start) (s .args .stride) (s .args .len) (c .fed-lanes .result) (s .pre .0) (fed c), fed-eight _ (c .fed-lanes .result) (fed c))
+    let s = c .before .before .before in (
+      vectors-small (s .args .values .now) (s .args .start) (s .args .stride) (s .args .len) (c .fed-lanes .result) (s .pre .0) (fed c),
+      fed-eight _ (c .fed-lanes .result) (fed c),
+    )
 
 returns-2 : tie.Need-returns-2
 returns-2 c =
     let f = c .before in
     let s = f .before .before .before in
     c .lanes-product .ensures
-    ∙ fed-contiguous (strided (s .args .values .now) (s .args .start) (s .args .stride) (s .args .len)) (f .fed-lanes .result) (fed f) (strided-values (s .args .values .now) (f .before .before .shared-slice-known .given) (s .args .start) (s .args .stride) (s .args .len))
+    ∙ fed-contiguous (strided (s .args .values .now) (s .args .start) (s .args .stride) (s .args .len)) (f .fed-lanes .result) (fed f)
+    (strided-values (s .args .values .now) (f .before .before .shared-slice-known .given) (s .args .start) (s .args .stride) (s .args .len))
 
 pub worked-piece-spec : {M : Type 1} → statement M
 worked-piece-spec =

@@ -57,8 +57,10 @@ returns c =
     let e = d .before .before .before in
     let b = e .before .before .before in
     let a = b .before .before .before in
-    least-tree (a .before .before .before .args .t1 .v) (a .lesser-square .result) (b .lesser-square2 .result) (e .lesser-square3 .result) (d .lesser-square4 .result) (p .lesser .result) (q .lesser2 .result) (c .lesser3 .result)
-    (a .lesser-square .ensures) (b .lesser-square2 .ensures) (e .lesser-square3 .ensures) (d .lesser-square4 .ensures) (p .lesser .ensures) (q .lesser2 .ensures) (c .lesser3 .ensures)
+    least-tree (a .before .before .before .args .t1 .v) (a .lesser-square .result) (b .lesser-square2 .result) (e .lesser-square3 .result)
+    (d .lesser-square4 .result) (p .lesser .result) (q .lesser2 .result) (c .lesser3 .result)
+    (a .lesser-square .ensures) (b .lesser-square2 .ensures) (e .lesser-square3 .ensures) (d .lesser-square4 .ensures) (p .lesser .ensures)
+    (q .lesser2 .ensures) (c .lesser3 .ensures)
 
 pub least-square-spec : {M : Type 1} → statement M
 least-square-spec =

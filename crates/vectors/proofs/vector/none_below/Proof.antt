@@ -1,24 +1,24 @@
--- `vectors::vector::none_below` meets its contract. The loop's invariant: the test of the lanes from k on is left. Assumes nothing.
-use Prim.Native.Nat.{ℕ, _-_, _≤_, _<_}
-use mathlib.Core.Path.{_≡_, refl, sym, subst}
-use mathlib.Core.Bool.{_&&_}
+-- `vectors::vector::none_below` meets its contract. The loop's invariant: k lanes are tested. Assumes nothing.
+use Prim.Native.Nat.{_-_}
+use mathlib.Core.Path.{refl, ap}
+use mathlib.Core.Bool.{Bool, true, _&&_}
 use native.Mathlib.Omega.{arith}
-use lib.ListN.{drop, getD}
+use lib.ListN.{getD}
 use lib.Ieee.{nan}
-use Rattle.kernels.specs.Lanes.{every}
+use Rattle.kernels.proofs.Feeding.{Worked, worked-none, worked-more, over, tested, worked-tested}
 use Rattle.vectors.specs.InnerWaiting.{notBelow}
-use Rattle.vectors.proofs.Vectorwise.{below-test, test-more, test-all}
+use Rattle.vectors.proofs.Vectorwise.{below-test}
 use Rattle.vectors.proofs.vector.none_below.Statement.{statement}
 use Rattle.vectors.proofs.vector.none_below.Tie as tie
 
 abbrev Inv-loop : tie.InvT-loop
-Inv-loop w ok₀ k₀ ok k = (k ≤ 8) × ((ok && every notBelow (drop k (w .least))) ≡ every notBelow (w .least))
+Inv-loop w ok₀ k₀ ok k = Worked (over (tested notBelow) (w .least) nan) 8 true ok k
 
 abbrev μ-loop : tie.MeasureT-loop
 μ-loop w ok₀ k₀ ok k = 8 - k
 
 loop-holds : tie.Need-loop-holds Inv-loop μ-loop
-loop-holds c = (omega arith, refl)
+loop-holds c = worked-none refl
 
 mul-ok : tie.Need-mul-ok Inv-loop μ-loop
 mul-ok c = omega arith
@@ -35,13 +35,13 @@ loop-less c = omega arith
 loop-again : tie.Need-loop-again Inv-loop μ-loop
 loop-again c =
     let t = c .before .before in
-    let v = t .before .args .t1 .least in
-    (omega arith, test-more notBelow v (t .loop .ok) _ (t .loop .k) nan (subst (λ (n : ℕ). t .loop .k < n) (sym (t .before .pre)) (c .before .loop-test .taken)) (t .loop .inv .1) (below-test (getD v (t .loop .k) nan)))
+    worked-more (t .loop .inv) (c .before .loop-test .taken)
+    (ap (λ (b : Bool). t .loop .ok && b) (below-test (getD (t .before .args .t1 .least) (t .loop .k) nan)))
 
 returns : tie.Need-returns Inv-loop μ-loop
 returns c =
     let t = c .before in
-    test-all notBelow (t .before .args .t1 .least) (t .loop .ok) (t .loop .k) (subst (λ (n : ℕ). n ≤ t .loop .k) (sym (t .before .pre)) (c .loop-test .left)) (t .loop .inv .1)
+    worked-tested notBelow nan (t .before .args .t1 .least) (t .before .pre) (t .loop .inv) (c .loop-test .left)
 
 pub none-below-spec : {M : Type 1} → statement M
 none-below-spec =

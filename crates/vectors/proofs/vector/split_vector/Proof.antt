@@ -1,26 +1,25 @@
--- `vectors::vector::split_vector` meets its contract. The loop's invariant: the values from k on are left. Assumes nothing.
-use Prim.Native.Nat.{ℕ, _+_, _-_, _*_, _^_, _≤_, _<_}
-use mathlib.Core.Path.{_≡_, refl, sym, subst}
+-- `vectors::vector::split_vector` meets its contract. The loop's invariant: k values are in. Assumes nothing.
+use Prim.Native.Nat.{_+_, _-_, _*_, _^_}
+use mathlib.Core.Path.{refl, sym, subst}
 use native.Mathlib.Omega.{arith}
-use lib.ListN.{drop, getD}
+use lib.ListN.{getD}
 use lib.Ieee.{nan}
-use Rattle.kernels.specs.Lanes.{feed}
+use Rattle.kernels.proofs.Feeding.{Worked, worked-none, worked-more, over, worked-fed}
 use Rattle.kernels.specs.Blocks.{splitStep}
 use Rattle.kernels.specs.InnerLanes.{SmallLanes}
 use Rattle.kernels.proofs.LaneSizes.{lanes-le, step-small}
-use Rattle.vectors.proofs.Vectorwise.{lane-more, lane-all}
 use Rattle.vectors.proofs.vector.split_vector.Statement.{statement}
 use Rattle.vectors.proofs.vector.split_vector.Tie as tie
 
 abbrev Inv-loop : tie.InvT-loop
 Inv-loop vector t₀ k₀ t k =
-    (k ≤ 8) × (feed splitStep k t (drop k (vector .v)) ≡ feed splitStep 0 t₀ (vector .v)) × SmallLanes (2 ^ 59 + 1024 * k) t
+    Worked (over splitStep (vector .v) nan) 8 t₀ t k × SmallLanes (2 ^ 59 + 1024 * k) t
 
 abbrev μ-loop : tie.MeasureT-loop
 μ-loop vector t₀ k₀ t k = 8 - k
 
 loop-holds : tie.Need-loop-holds Inv-loop μ-loop
-loop-holds c = (omega arith, refl, lanes-le (2 ^ 59) (2 ^ 59 + 1024 * 0) (c .args .s) (omega arith) (c .pre .0))
+loop-holds c = (worked-none refl, lanes-le (2 ^ 59) (2 ^ 59 + 1024 * 0) (c .args .s) (omega arith) (c .pre .0))
 
 mul-split-step : tie.Need-mul-split-step Inv-loop μ-loop
 mul-split-step c = omega arith
@@ -29,7 +28,7 @@ element-copy-out-split-step : tie.Need-element-copy-out-split-step Inv-loop μ-l
 element-copy-out-split-step c = omega arith
 
 split-step-requires : tie.Need-split-step-requires Inv-loop μ-loop
-split-step-requires c κs = let t = c .before .before in lanes-le (2 ^ 59 + 1024 * t .loop .k) (2 ^ 60) (t .loop .t) (omega arith) (t .loop .inv .2)
+split-step-requires c κs = let t = c .before .before in lanes-le (2 ^ 59 + 1024 * t .loop .k) (2 ^ 60) (t .loop .t) (omega arith) (t .loop .inv .1)
 
 add-k : tie.Need-add-k Inv-loop μ-loop
 add-k c = omega arith
@@ -40,18 +39,18 @@ loop-less c = omega arith
 loop-again : tie.Need-loop-again Inv-loop μ-loop
 loop-again c =
     let t = c .before .before .before in
-    let v = t .before .args .t2 .v in
-    let x = getD v (t .loop .k) nan in (
-      omega arith,
-      lane-more splitStep (feed splitStep 0 (t .before .args .s) v) (t .loop .t) v (t .loop .k) (t .loop .inv .1) (c .split-step .result) nan (subst (λ (n : ℕ). t .loop .k < n) (sym (t .before .pre .1)) (c .before .before .loop-test .taken)) (c .split-step .ensures),
-      subst (SmallLanes (2 ^ 59 + 1024 * (t .loop .k + 1))) (sym (c .split-step .ensures)) (lanes-le (2 ^ 59 + 1024 * t .loop .k + 1024) (2 ^ 59 + 1024 * (t .loop .k + 1)) (splitStep (t .loop .k) (t .loop .t) x) (omega arith) (step-small (2 ^ 59 + 1024 * t .loop .k) (t .loop .t) (t .loop .inv .2) (t .loop .k) x)),
+    let k = t .loop .k in
+    let x = getD (t .before .args .t2 .v) k nan in (
+      worked-more (t .loop .inv .0) (c .before .before .loop-test .taken) (c .split-step .ensures),
+      subst (SmallLanes (2 ^ 59 + 1024 * (k + 1))) (sym (c .split-step .ensures))
+          (lanes-le (2 ^ 59 + 1024 * k + 1024) (2 ^ 59 + 1024 * (k + 1)) (splitStep k (t .loop .t) x) (omega arith)
+          (step-small (2 ^ 59 + 1024 * k) (t .loop .t) (t .loop .inv .1) k x)),
     )
 
 returns : tie.Need-returns Inv-loop μ-loop
 returns c =
     let t = c .before in
-    let v = t .before .args .t2 .v in
-    lane-all splitStep (feed splitStep 0 (t .before .args .s) v) (t .loop .t) v (t .loop .k) (t .loop .inv .1) (subst (λ (n : ℕ). n ≤ t .loop .k) (sym (t .before .pre .1)) (c .loop-test .left))
+    worked-fed splitStep nan (t .before .args .t2 .v) (t .before .pre .1) (t .loop .inv .0) (c .loop-test .left)
 
 pub split-vector-spec : {M : Type 1} → statement M
 split-vector-spec =

@@ -1,24 +1,24 @@
--- `vectors::vector::wait_vector` meets its contract. The loop's invariant: the values from k on are left. Assumes nothing.
-use Prim.Native.Nat.{ℕ, _-_, _≤_, _<_}
-use mathlib.Core.Path.{_≡_, refl, sym, subst}
+-- `vectors::vector::wait_vector` meets its contract. The loop's invariant: k values are in. Assumes nothing.
+use Prim.Native.Nat.{_-_}
+use mathlib.Core.Path.{refl}
 use native.Mathlib.Omega.{arith}
 use borrow.Author.Needs.{needs}
-use lib.ListN.{drop, getD}
+use lib.ListN.{getD}
 use lib.Ieee.{nan}
-use Rattle.kernels.specs.Lanes.{feed}
+use Rattle.kernels.proofs.Feeding.{Worked, worked-none, worked-more, over, worked-fed}
 use Rattle.vectors.specs.InnerWaiting.{waitStep}
-use Rattle.vectors.proofs.Vectorwise.{lane-more, lane-all, wait-lane}
+use Rattle.vectors.proofs.Vectorwise.{wait-lane}
 use Rattle.vectors.proofs.vector.wait_vector.Statement.{statement}
 use Rattle.vectors.proofs.vector.wait_vector.Tie as tie
 
 abbrev Inv-loop : tie.InvT-loop
-Inv-loop vector t₀ k₀ t k = (k ≤ 8) × (feed waitStep k t (drop k (vector .v)) ≡ feed waitStep 0 t₀ (vector .v))
+Inv-loop vector t₀ k₀ t k = Worked (over waitStep (vector .v) nan) 8 t₀ t k
 
 abbrev μ-loop : tie.MeasureT-loop
 μ-loop vector t₀ k₀ t k = 8 - k
 
 loop-holds : tie.Need-loop-holds Inv-loop μ-loop
-loop-holds c = (omega arith, refl)
+loop-holds c = worked-none refl
 
 mul-x : tie.Need-mul-x Inv-loop μ-loop
 mul-x c = omega arith
@@ -61,18 +61,16 @@ loop-less c = omega arith
 
 loop-again : tie.Need-loop-again Inv-loop μ-loop
 loop-again c =
-    let t = c .before .before .before .before .before in
-    let v = t .before .args .t2 .v in (
-      omega arith,
-      lane-more waitStep (feed waitStep 0 (t .before .args .w) v) (t .loop .t) v (t .loop .k) (t .loop .inv .1) _ nan (subst (λ (n : ℕ). t .loop .k < n) (sym (t .before .pre .2)) (c .before .before .before .before .loop-test .taken))
-          (wait-lane (t .loop .t) (t .loop .k) (getD v (t .loop .k) nan) (c .lesser .result) (omega arith) (c .lesser .ensures)),
-    )
+    let q = c .before .before .before .before in
+    let t = q .before in
+    let l = q .loop-test .taken in
+    worked-more (t .loop .inv) l
+    (wait-lane (t .loop .t) (t .loop .k) (getD (t .before .args .t2 .v) (t .loop .k) nan) (c .lesser .result) l (c .lesser .ensures))
 
 returns : tie.Need-returns Inv-loop μ-loop
 returns c =
     let t = c .before in
-    let v = t .before .args .t2 .v in
-    lane-all waitStep (feed waitStep 0 (t .before .args .w) v) (t .loop .t) v (t .loop .k) (t .loop .inv .1) (subst (λ (n : ℕ). n ≤ t .loop .k) (sym (t .before .pre .2)) (c .loop-test .left))
+    worked-fed waitStep nan (t .before .args .t2 .v) (t .before .pre .2) (t .loop .inv) (c .loop-test .left)
 
 pub wait-vector-spec : {M : Type 1} → statement M
 wait-vector-spec =
