@@ -1,20 +1,16 @@
 -- The cases of `joined`. Assumes nothing.
 use mathlib.Core.Path.{_≡_, refl, sym, ap, _∙_}
-use mathlib.Core.Bool.{Bool, true, false, not, cond, _&&_, _||_, true≢false}
+use mathlib.Core.Bool.{Bool, true, false, not, cond, _&&_, _||_, true≢false, and-false}
 use Prim.Native.Nat.{_^_, _≤_}
 use native.Mathlib.Nat.{le-trans}
 use lib.IntN.{natAbs}
 use lib.Dec.{lit≤}
 use borrow.Author.Tests.{leb-true}
+use Rattle.laws.proofs.Tests.{and-both}
 use Rattle.floats.specs.Magnitude.{inUnit}
 use Rattle.accumulator.specs.declared.StableProductFloatAcc.{StableProductFloatAcc}
 use Rattle.accumulator.specs.Joining.{combined, withinLimit, inLimits, Answer, accumulator, refusal, answered, joined}
 use Rattle.accumulator.proofs.Combining.{combined-bad}
-
-and-both : (p q : Bool) → (p && q) ≡ true → (p ≡ true) × (q ≡ true)
-and-both true true h = (refl, refl)
-and-both true false h = absurd (true≢false (sym h))
-and-both false q h = absurd (true≢false (sym h))
 
 -- ---- what it is to stand
 pub in-limits-unit : (a : StableProductFloatAcc) → inLimits a ≡ true → inUnit (a .m) ≡ true
@@ -42,20 +38,20 @@ module _ (a b : StableProductFloatAcc) where
 
   pub refused-right : inLimits a ≡ true → inLimits b ≡ false → refusal 9 ≡ joined a b
   unfolding joined
-  refused-right h k = ap (λ (t : Bool). cond (not (true && t)) (refusal 9) (answered a b)) (sym k) ∙ ap (λ (t : Bool). cond (not (t && inLimits b)) (refusal 9) (answered a b)) (sym h)
+  refused-right h k =
+      ap (λ (t : Bool). cond (not (true && t)) (refusal 9) (answered a b)) (sym k)
+      ∙ ap (λ (t : Bool). cond (not (t && inLimits b)) (refusal 9) (answered a b)) (sym h)
 
   given : inLimits a ≡ true → inLimits b ≡ true → answered a b ≡ joined a b
   unfolding joined
-  given h k = ap (λ (t : Bool). cond (not (true && t)) (refusal 9) (answered a b)) (sym k) ∙ ap (λ (t : Bool). cond (not (t && inLimits b)) (refusal 9) (answered a b)) (sym h)
-
-  and-no : (p : Bool) → (p && false) ≡ false
-  and-no true = refl
-  and-no false = refl
+  given h k =
+      ap (λ (t : Bool). cond (not (true && t)) (refusal 9) (answered a b)) (sym k)
+      ∙ ap (λ (t : Bool). cond (not (t && inLimits b)) (refusal 9) (answered a b)) (sym h)
 
   pub accepted : inLimits a ≡ true → inLimits b ≡ true → withinLimit (combined a b .e) ≡ true → whole ≡ joined a b
   unfolding answered
   accepted h k l =
-      ap (λ (t : Bool). cond t (refusal 10) whole) (sym (and-no (not (a .bad || b .bad))))
+      ap (λ (t : Bool). cond t (refusal 10) whole) (sym (and-false (not (a .bad || b .bad))))
       ∙ ap second (sym l)
       ∙ given h k
 

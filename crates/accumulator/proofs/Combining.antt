@@ -13,7 +13,8 @@ use Rattle.accumulator.specs.declared.StableProductFloatAcc.{StableProdu
 use Rattle.accumulator.specs.Joining.{half, multiplied, combined}
 use Rattle.accumulator.proofs.Exponents.{exact, sum, sum-exact, more-exact}
 
-pub acc-same : (m m' : Float) (e e' : ℤ) (q q' : Bool) → m ≡ m' → e ≡ e' → q ≡ q' → _≡_ {A = StableProductFloatAcc} (record { m = m; e = e; bad = q }) (record { m = m'; e = e'; bad = q' })
+pub acc-same : (m m' : Float) (e e' : ℤ) (q q' : Bool) → m ≡ m' → e ≡ e' → q ≡ q'
+    → _≡_ {A = StableProductFloatAcc} (record { m = m; e = e; bad = q }) (record { m = m'; e = e'; bad = q' })
 acc-same m m' e e' q q' a b c = cc
 
 -- ---- the cases of `combined`
@@ -43,9 +44,9 @@ module _ (a b : StableProductFloatAcc) where
   unfolding multiplied
   multiplied-less h = ap (λ (t : Bool). cond t halved whole) h
 
-half-is : ofBits binary64 4602678819172646912 ≡ half
+half-bits : ofBits binary64 4602678819172646912 ≡ half
 unfolding ofBits
-half-is = refl
+half-bits = refl
 
 -- ---- the three ways of the code
 module _ (a b : StableProductFloatAcc) (hx : natAbs (a .e) ≤ 2 ^ 61) (hy : natAbs (b .e) ≤ 2 ^ 61) where
@@ -60,11 +61,19 @@ module _ (a b : StableProductFloatAcc) (hx : natAbs (a .e) ≤ 2 ^ 61) (hy : nat
   raw-is = mul-binary64 (a .m) (b .m)
 
   pub code-two : (a .bad || b .bad) ≡ false → twoOrMore raw ≡ true
-      → _≡_ {A = StableProductFloatAcc} (record { m = mul binary64 raw (ofBits binary64 4602678819172646912); e = toZ w64 (ofZ w64 (toZ w64 (ofZ w64 (sum (a .e) (b .e) hx hy)) +ℤ pos 1)); bad = false }) (combined a b)
+      → _≡_ {A = StableProductFloatAcc}
+      (record {
+        m = mul binary64 raw (ofBits binary64 4602678819172646912);
+        e = toZ w64 (ofZ w64 (toZ w64 (ofZ w64 (sum (a .e) (b .e) hx hy)) +ℤ pos 1));
+        bad = false;
+      }) (combined a b)
   code-two h t =
       let m = productOf 11 52 (a .m) (b .m) in
-      acc-same (mul binary64 raw (ofBits binary64 4602678819172646912)) (productOf 11 52 m half) (toZ w64 (ofZ w64 (toZ w64 (ofZ w64 (sum (a .e) (b .e) hx hy)) +ℤ pos 1))) (a .e +ℤ b .e +ℤ pos 1) false false
-      (mul-binary64 raw (ofBits binary64 4602678819172646912) ∙ ap (λ (x : Float). productOf 11 52 x (ofBits binary64 4602678819172646912)) raw-is ∙ ap (productOf 11 52 m) half-is)
+      acc-same (mul binary64 raw (ofBits binary64 4602678819172646912)) (productOf 11 52 m half)
+      (toZ w64 (ofZ w64 (toZ w64 (ofZ w64 (sum (a .e) (b .e) hx hy)) +ℤ pos 1))) (a .e +ℤ b .e +ℤ pos 1) false false
+      (mul-binary64 raw (ofBits binary64 4602678819172646912)
+      ∙ ap (λ (x : Float). productOf 11 52 x (ofBits binary64 4602678819172646912)) raw-is
+      ∙ ap (productOf 11 52 m) half-bits)
       (more-exact (a .e) (b .e) hx hy)
       refl
       ∙ sym (combined-good a b h ∙ multiplied-two a b (subst (λ (x : Float). twoOrMore x ≡ true) raw-is t))
@@ -72,5 +81,6 @@ module _ (a b : StableProductFloatAcc) (hx : natAbs (a .e) ≤ 2 ^ 61) (hy : nat
   pub code-less : (a .bad || b .bad) ≡ false → twoOrMore raw ≡ false
       → _≡_ {A = StableProductFloatAcc} (record { m = raw; e = toZ w64 (ofZ w64 (sum (a .e) (b .e) hx hy)); bad = false }) (combined a b)
   code-less h t =
-      acc-same raw (productOf 11 52 (a .m) (b .m)) (toZ w64 (ofZ w64 (sum (a .e) (b .e) hx hy))) (a .e +ℤ b .e) false false raw-is (sum-exact (a .e) (b .e) hx hy) refl
+      acc-same raw (productOf 11 52 (a .m) (b .m)) (toZ w64 (ofZ w64 (sum (a .e) (b .e) hx hy))) (a .e +ℤ b .e) false false raw-is
+      (sum-exact (a .e) (b .e) hx hy) refl
       ∙ sym (combined-good a b h ∙ multiplied-less a b (subst (λ (x : Float). twoOrMore x ≡ false) raw-is t))

@@ -1,7 +1,7 @@
 -- Exponents of accumulators: far from the ends of i64, so that their sums are exact; and the test of |e| against the limit. Assumes nothing.
 use mathlib.Core.Path.{_≡_, refl, sym, ap, _∙_, subst}
-use mathlib.Core.Bool.{Bool, true, false, _&&_}
-use Prim.Native.Nat.{ℕ, suc, _+_, _^_, _≤_}
+use mathlib.Core.Bool.{Bool, true, false, _&&_, and-true}
+use Prim.Native.Nat.{ℕ, suc, _+_, _^_, _≤_, _-_}
 use native.Mathlib.Nat.{le-refl, le-trans, le-suc, lt-of-le-of-lt, add-le-add}
 use lib.IntN.{ℤ, pos, negsuc, natAbs, _+ℤ_}
 use lib.Dec.{leb, leb·suc-suc, lit<, lit≤}
@@ -60,15 +60,11 @@ module _ (x y : ℤ) (hx : natAbs x ≤ 2 ^ 61) (hy : natAbs y ≤ 2 ^ 61) where
 -- ---- -(k + 1) ≤ e ≤ k + 1
 pub limits : (k : ℕ) (e : ℤ) → (leZ (negsuc k) e && leZ e (pos (suc k))) ≡ leb (natAbs e) (suc k)
 limits k (pos n) = refl
-limits k (negsuc n) = both (leb n k) ∙ sym (leb·suc-suc n k)
-  where
-    both : (t : Bool) → (t && true) ≡ t
-    both true = refl
-    both false = refl
+limits k (negsuc n) = and-true (leb n k) ∙ sym (leb·suc-suc n k)
 
 -- the two ways of the code's test
-pub limit-taken : (e : ℤ) → leZ (negsuc 4503599627370495) e ≡ true → leZ e (pos 4503599627370496) ≡ withinLimit e
-limit-taken e h = ap (λ (t : Bool). t && leZ e (pos 4503599627370496)) (sym h) ∙ limits 4503599627370495 e
+pub limit-taken : (e : ℤ) → leZ (negsuc (2 ^ 52 - 1)) e ≡ true → leZ e (pos (2 ^ 52)) ≡ withinLimit e
+limit-taken e h = ap (λ (t : Bool). t && leZ e (pos (2 ^ 52))) (sym h) ∙ limits (2 ^ 52 - 1) e
 
-pub limit-left : (e : ℤ) → leZ (negsuc 4503599627370495) e ≡ false → leZ (negsuc 4503599627370495) e ≡ withinLimit e
-limit-left e h = h ∙ ap (λ (t : Bool). t && leZ e (pos 4503599627370496)) (sym h) ∙ limits 4503599627370495 e
+pub limit-left : (e : ℤ) → leZ (negsuc (2 ^ 52 - 1)) e ≡ false → leZ (negsuc (2 ^ 52 - 1)) e ≡ withinLimit e
+limit-left e h = h ∙ ap (λ (t : Bool). t && leZ e (pos (2 ^ 52))) (sym h) ∙ limits (2 ^ 52 - 1) e

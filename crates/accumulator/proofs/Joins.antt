@@ -27,7 +27,8 @@ pub record Settled (h : Factor) (c : ℕ) (e d : ℤ) (r : StableProductFloatAcc
   pub e-is : r .e ≡ e +ℤ d +ℤ pos c
   pub mark : r .bad ≡ false
 
-module _ (a b : StableProductFloatAcc) (fa : T (fits binary64 (a .m))) (fb : T (fits binary64 (b .m))) (ua : inUnit (a .m) ≡ true) (ub : inUnit (b .m) ≡ true) where
+module _ (a b : StableProductFloatAcc) (fa : T (fits binary64 (a .m))) (fb : T (fits binary64 (b .m))) (ua : inUnit (a .m) ≡ true)
+    (ub : inUnit (b .m) ≡ true) where
   N : Normalised 52 (both (a .m) (b .m) fa fb ua ub)
   N = both-normal (a .m) (b .m) fa fb ua ub
 
@@ -37,7 +38,8 @@ module _ (a b : StableProductFloatAcc) (fa : T (fits binary64 (a .m))) (fb : T (
       k : Factor
       k = both (a .m) (b .m) fa fb ua ub
 
-      two-is : (c : Bool) (z : ℤ) → productOf 11 52 (a .m) (b .m) ≡ floatOf 11 52 (withExponent k z) → twoOrMore (floatOf 11 52 (withExponent k z)) ≡ c → twoOrMore (productOf 11 52 (a .m) (b .m)) ≡ c
+      two-is : (c : Bool) (z : ℤ) → productOf 11 52 (a .m) (b .m) ≡ floatOf 11 52 (withExponent k z) → twoOrMore (floatOf 11 52 (withExponent k z)) ≡ c
+          → twoOrMore (productOf 11 52 (a .m) (b .m)) ≡ c
       two-is c z p q = ap twoOrMore p ∙ q
 
       go : (c : ℕ) → c ≤ 1 → productOf 11 52 (a .m) (b .m) ≡ floatOf 11 52 (withExponent k (pos c)) → Settled k c (a .e) (b .e) (multiplied a b)
@@ -61,7 +63,9 @@ module _ (a b : StableProductFloatAcc) (fa : T (fits binary64 (a .m))) (fb : T (
   multiplied-unit = ap inUnit (settled .m-is) ∙ unit-float binary64 11 52 refl refl (lit< tt) (both (a .m) (b .m) fa fb ua ub) N
 
   pub multiplied-fits : T (fits binary64 (multiplied a b .m))
-  multiplied-fits = subst (λ (x : Float). T (fits binary64 x)) (sym (settled .m-is)) (floatOf-fits binary64 11 52 refl refl (withExponent (both (a .m) (b .m) fa fb ua ub) (pos 0)))
+  multiplied-fits =
+      subst (λ (x : Float). T (fits binary64 x)) (sym (settled .m-is))
+      (floatOf-fits binary64 11 52 refl refl (withExponent (both (a .m) (b .m) fa fb ua ub) (pos 0)))
 
   -- the joined factor is `times` of the two
   pub multiplied-times : factorOfAcc (multiplied a b) ≡ times 52 (factorOfAcc a) (factorOfAcc b)
@@ -115,7 +119,8 @@ accepted-is a b m e q p = first (inLimits a) refl
     first true h = second h (inLimits b) refl
     first false h = absurd (refusal-no 9 m e q (refused-left a b h ∙ p))
 
-module _ (a b : StableProductFloatAcc) (fa : T (fits binary64 (a .m))) (fb : T (fits binary64 (b .m))) (m : Float) (e : ℤ) (q : Bool) (p : joined a b ≡ accumulator m e q) where
+module _ (a b : StableProductFloatAcc) (fa : T (fits binary64 (a .m))) (fb : T (fits binary64 (b .m))) (m : Float) (e : ℤ) (q : Bool)
+    (p : joined a b ≡ accumulator m e q) where
   A : Accepted a b m e q
   A = accepted-is a b m e q p
 
@@ -152,8 +157,8 @@ module _ (a b : StableProductFloatAcc) (fa : T (fits binary64 (a .m))) (fb : T (
       ∙ multiplied-times a b fa fb ua ub
 
   -- the mark is set exactly if one of the two is bad
-  pub joined-mark : q ≡ (a .bad || b .bad)
-  joined-mark = go (a .bad || b .bad) refl
+  pub joined-bad-mark : q ≡ (a .bad || b .bad)
+  joined-bad-mark = go (a .bad || b .bad) refl
     where
       go : (t : Bool) → (a .bad || b .bad) ≡ t → q ≡ (a .bad || b .bad)
       go true h = A .q-is ∙ ap (λ (r : StableProductFloatAcc). r .bad) (combined-bad a b h) ∙ sym h

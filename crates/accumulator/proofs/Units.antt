@@ -22,7 +22,8 @@ use Rattle.accumulator.proofs.Exponents.{sum, near-fits, near-exact}
 use Rattle.accumulator.proofs.Combining.{acc-same, combined-good}
 use Rattle.accumulator.proofs.Joins.{settled}
 
-module _ (a b : StableProductFloatAcc) (fa : T (fits binary64 (a .m))) (fb : T (fits binary64 (b .m))) (ua : inUnit (a .m) ≡ true) (ub : inUnit (b .m) ≡ true) where
+module _ (a b : StableProductFloatAcc) (fa : T (fits binary64 (a .m))) (fb : T (fits binary64 (b .m))) (ua : inUnit (a .m) ≡ true)
+    (ub : inUnit (b .m) ≡ true) where
   abbrev k : Factor
   k = both (a .m) (b .m) fa fb ua ub
 
@@ -39,12 +40,14 @@ module _ (a b : StableProductFloatAcc) (fa : T (fits binary64 (a .m))) (fb : T (
   raw-rate : rateFactor raw ≡ withExponent k (pos c)
   raw-rate =
       ap rateFactor (mul-binary64 (a .m) (b .m) ∙ unit-product (a .m) (b .m) fa fb ua ub)
-      ∙ float-rate (withExponent k (pos c)) (moved-normal 52 k (pos c) (both-normal (a .m) (b .m) fa fb ua ub)) (near-range binary64 11 52 refl refl (lit< tt) k c c-le)
+      ∙ float-rate (withExponent k (pos c)) (moved-normal 52 k (pos c) (both-normal (a .m) (b .m) fa fb ua ub))
+      (near-range binary64 11 52 refl refl (lit< tt) k c c-le)
 
   -- the code's way, from what it holds of the split
   module _ (p : Split) (is : p ≡ split raw) (hx : natAbs (a .e) ≤ 2 ^ 61) (hy : natAbs (b .e) ≤ 2 ^ 61) (pe : SFits w64 (p .e)) where
     m-is : p .m ≡ multiplied a b .m
-    m-is = ap (λ (s : Split). s .m) is ∙ split-m raw ∙ ap (λ (f : Factor). floatOf 11 52 (withExponent f (pos 0))) raw-rate ∙ sym (settled a b fa fb ua ub .m-is)
+    m-is =
+        ap (λ (s : Split). s .m) is ∙ split-m raw ∙ ap (λ (f : Factor). floatOf 11 52 (withExponent f (pos 0))) raw-rate ∙ sym (settled a b fa fb ua ub .m-is)
 
     e-is : toZ w64 (ofZ w64 (p .e)) ≡ pos c
     e-is = toZ-ofZ w64 (p .e) pe ∙ ap (λ (s : Split). s .e) is ∙ split-e raw ∙ ap (λ (f : Factor). f .exp) raw-rate
@@ -53,10 +56,12 @@ module _ (a b : StableProductFloatAcc) (fa : T (fits binary64 (a .m))) (fb : T (
     split-fits = near-fits (a .e) (b .e) hx hy c (toZ w64 (ofZ w64 (p .e))) c-le e-is
 
     pub code-split : (a .bad || b .bad) ≡ false
-        → _≡_ {A = StableProductFloatAcc} (record { m = p .m; e = toZ w64 (ofZ w64 (toZ w64 (ofZ w64 (sum (a .e) (b .e) hx hy)) +ℤ toZ w64 (ofZ w64 (p .e)))); bad = false }) (combined a b)
+        → _≡_ {A = StableProductFloatAcc}
+        (record { m = p .m; e = toZ w64 (ofZ w64 (toZ w64 (ofZ w64 (sum (a .e) (b .e) hx hy)) +ℤ toZ w64 (ofZ w64 (p .e)))); bad = false }) (combined a b)
     code-split h =
         let r = multiplied a b in
         let s = settled a b fa fb ua ub in
         let e = toZ w64 (ofZ w64 (toZ w64 (ofZ w64 (sum (a .e) (b .e) hx hy)) +ℤ toZ w64 (ofZ w64 (p .e)))) in
-        acc-same (p .m) (r .m) e (r .e) false (r .bad) m-is (near-exact (a .e) (b .e) hx hy c (toZ w64 (ofZ w64 (p .e))) c-le e-is ∙ sym (s .e-is)) (sym (s .mark))
+        acc-same (p .m) (r .m) e (r .e) false (r .bad) m-is (near-exact (a .e) (b .e) hx hy c (toZ w64 (ofZ w64 (p .e))) c-le e-is ∙ sym (s .e-is))
+        (sym (s .mark))
         ∙ sym (combined-good a b h)

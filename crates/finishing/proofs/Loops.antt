@@ -2,7 +2,7 @@
 -- Assumes nothing.
 use mathlib.Core.Path.{_≡_, refl, sym, ap, _∙_, subst}
 use mathlib.Core.Bool.{Bool, true, false, cond, _&&_, _||_, Bool·beq, true≢false}
-use Prim.Native.Nat.{ℕ, zero, suc, _+_, _-_, _*_, _/_, _%_, _^_, _≤_, _<_}
+use Prim.Native.Nat.{ℕ, zero, suc, _+_, _*_, _/_, _%_, _^_, _≤_, _<_, _-_}
 use native.Mathlib.Nat.{le-trans, lt-of-lt-of-le, mul-pos, mod-eq-of-lt, div-eq-of-lt}
 use native.Mathlib.Omega.{arith}
 use lib.IntN.{ℤ, pos, negsuc, natAbs, negℤ, _+ℤ_, _-ℤ_}
@@ -15,6 +15,7 @@ use lib.Ieee.Exact.{HasValue}
 use mir.Syntax.{w64}
 use mir.Val.{SFits}
 use borrow.Author.Tests.{lt-ltb, ne-eqb}
+use Rattle.laws.proofs.Tests.{and-both}
 use Rattle.integers.proofs.Difference.{ints, atoms}
 use Rattle.integers.proofs.Machine.{nonneg-pos}
 use Rattle.floats.specs.Rounding.{tiesToEven}
@@ -26,32 +27,26 @@ use Rattle.floats.proofs.Magnitude.{at-normal, float-at}
 use Rattle.floats.proofs.Overflow.{float-above}
 use Rattle.accumulator.specs.Joining.{withinLimit}
 use Rattle.accumulator.proofs.Exponents.{limits}
+use Rattle.accumulator.proofs.Comparing.{nought, nought-is}
 use Rattle.finishing.specs.Once.{counted, pastLargest, fromLeastNormal, roundedOnce}
 use Rattle.finishing.specs.InnerFinishing.{isInfinite}
 use Rattle.finishing.proofs.Once.{range, float-low, once-is}
-use Rattle.finishing.proofs.Scaling.{times-power}
+use Rattle.finishing.proofs.Scaling.{float-times-power}
 
 -- ---- the constants of the code
-abbrev pub most : Float
-most = ofBits binary64 9214364837600034816
+abbrev pub highest : Float
+highest = ofBits binary64 9214364837600034816
 
-abbrev pub least : Float
-least = ofBits binary64 4503599627370496
+abbrev pub lowest : Float
+lowest = ofBits binary64 (2 ^ 52)
 
-abbrev pub nought : Float
-nought = ofBits binary64 0
-
-most-is : most ≡ fin false 1 (pos 1023)
+highest-is : highest ≡ fin false 1 (pos 1023)
 unfolding ofBits
-most-is = refl
+highest-is = refl
 
-least-is : least ≡ fin false 1 (negsuc 1021)
+lowest-is : lowest ≡ fin false 1 (negsuc 1021)
 unfolding ofBits
-least-is = refl
-
-nought-is : nought ≡ fin false 0 (pos 0)
-unfolding ofBits
-nought-is = refl
+lowest-is = refl
 
 -- ---- numbers that are neither infinite nor zero
 value-finite : (x : Float) (s : Bool) (a c : ℕ) → HasValue x s a c → isInfinite x ≡ false
@@ -64,7 +59,8 @@ value-nonzero : (x : Float) (s : Bool) (a c : ℕ) → 0 < a → HasValue x s a 
 unfolding eq
 value-nonzero nan s a c A h = absurd h
 value-nonzero (inf u) s a c A h = absurd h
-value-nonzero (fin u m e) s a c A h = ap (λ (t : Bool). t && (Bool·beq u false || eqb (m * up e * 1) 0)) (ne-eqb (m * up e * 1) (0 * 1 * down e) (no (m * up e) (down e) (down-pos e) (h .1)))
+value-nonzero (fin u m e) s a c A h =
+    ap (λ (t : Bool). t && (Bool·beq u false || eqb (m * up e * 1) 0)) (ne-eqb (m * up e * 1) (0 * 1 * down e) (no (m * up e) (down e) (down-pos e) (h .1)))
   where
     no : (n d : ℕ) → 0 < d → n * c ≡ a * d → n * 1 ≡ 0 * 1 * d → ⊥
     no n d D e z =
@@ -82,9 +78,6 @@ unfolding eq
 zero-is true = refl
 zero-is false = refl
 
-clash : (t : Bool) → t ≡ true → t ≡ false → ⊥
-clash t h k = true≢false (sym h ∙ k)
-
 -- less than half of a unit is none
 ties-none : (S n : ℕ) → S < 2 ^ 53 → 54 ≤ n → tiesToEven S (2 ^ n) ≡ 0
 ties-none S n h l =
@@ -99,19 +92,14 @@ ties-none S n h l =
 
 -- ---- exponents
 pub record Limited (e : ℤ) : Type 0 where
-  pub low : leZ (negsuc 4503599627370495) e ≡ true
-  pub high : leZ e (pos 4503599627370496) ≡ true
+  pub low : leZ (negsuc (2 ^ 52 - 1)) e ≡ true
+  pub high : leZ e (pos (2 ^ 52)) ≡ true
 
 pub limited : (e : ℤ) → withinLimit e ≡ true → Limited e
 limited e h = record { low = both .0; high = both .1 }
   where
-    parts : (p q : Bool) → (p && q) ≡ true → (p ≡ true) × (q ≡ true)
-    parts true true h = (refl, refl)
-    parts true false h = absurd (true≢false (sym h))
-    parts false q h = absurd (true≢false (sym h))
-
-    both : (leZ (negsuc 4503599627370495) e ≡ true) × (leZ e (pos 4503599627370496) ≡ true)
-    both = parts (leZ (negsuc 4503599627370495) e) (leZ e (pos 4503599627370496)) (limits 4503599627370495 e ∙ h)
+    both : (leZ (negsuc (2 ^ 52 - 1)) e ≡ true) × (leZ e (pos (2 ^ 52)) ≡ true)
+    both = and-both (leZ (negsuc (2 ^ 52 - 1)) e) (leZ e (pos (2 ^ 52))) (limits (2 ^ 52 - 1) e ∙ h)
 
 -- e below -1076, where |m| × 2^e is less than half of the least positive number
 module _ (e : ℤ) where
@@ -158,13 +146,15 @@ module _ (k e : ℤ) where
   lowered-whole : k -ℤ pos 1022 ≡ e → negsuc 1021 +ℤ k ≡ e
   lowered-whole = simp ints (simp atoms (omega arith))
 
-  same-fits : leZ (negsuc 4503599627370495) e ≡ true → leZ e (pos 4503599627370496) ≡ true → k ≡ e → SFits w64 (k -ℤ pos 1023) × SFits w64 (k +ℤ pos 1022)
+  same-fits : leZ (negsuc (2 ^ 52 - 1)) e ≡ true → leZ e (pos (2 ^ 52)) ≡ true → k ≡ e → SFits w64 (k -ℤ pos 1023) × SFits w64 (k +ℤ pos 1022)
   same-fits = simp ints (simp atoms (omega arith))
 
-  raised-fits : leZ (negsuc 4503599627370495) e ≡ true → leZ e (pos 4503599627370496) ≡ true → k +ℤ pos 1023 ≡ e → SFits w64 (k -ℤ pos 1023) × SFits w64 (k +ℤ pos 1022)
+  raised-fits : leZ (negsuc (2 ^ 52 - 1)) e ≡ true → leZ e (pos (2 ^ 52)) ≡ true → k +ℤ pos 1023 ≡ e
+      → SFits w64 (k -ℤ pos 1023) × SFits w64 (k +ℤ pos 1022)
   raised-fits = simp ints (simp atoms (omega arith))
 
-  lowered-fits : leZ (negsuc 4503599627370495) e ≡ true → leZ e (pos 4503599627370496) ≡ true → k -ℤ pos 1022 ≡ e → SFits w64 (k -ℤ pos 1023) × SFits w64 (k +ℤ pos 1022)
+  lowered-fits : leZ (negsuc (2 ^ 52 - 1)) e ≡ true → leZ e (pos (2 ^ 52)) ≡ true → k -ℤ pos 1022 ≡ e
+      → SFits w64 (k -ℤ pos 1023) × SFits w64 (k +ℤ pos 1022)
   lowered-fits = simp ints (simp atoms (omega arith))
 
 -- ---- each step goes towards zero
@@ -237,7 +227,7 @@ module _ (m : Float) (fm : T (fits binary64 m)) (um : inUnit m ≡ true) where
   -- one more factor 2^z, of a normal number
   step : (d z : ℤ) → pastLargest d ≡ false → fromLeastNormal d ≡ true → mul binary64 (at m d) (fin false 1 z) ≡ at m (d +ℤ z)
   unfolding factorAt
-  step d z h k = mul-binary64 (at m d) (fin false 1 z) ∙ times-power (factorAt 52 m d) (N d) (range d 52 m h k) z
+  step d z h k = mul-binary64 (at m d) (fin false 1 z) ∙ float-times-power (factorAt 52 m d) (N d) (range d 52 m h k) z
 
   over : (d : ℤ) → pastLargest d ≡ true → at m d ≡ inf (isMinus m)
   unfolding factorAt
@@ -252,7 +242,8 @@ module _ (m : Float) (fm : T (fits binary64 m)) (um : inUnit m ≡ true) where
       float-low f (N d) (tiny-low d h)
       ∙ ap (λ (x : ℕ). counted (isMinus m) x 0) (ties-none (f .sig) n (N d .most) (tiny-digits d n (nonneg-pos (negsuc 1021 -ℤ d) (tiny-pos d h)) h))
 
-  normal-value : (d : ℤ) (h : pastLargest d ≡ false) (k : fromLeastNormal d ≡ true) → HasValue (at m d) (factorAt 52 m d .sign) (factorAt 52 m d .sig * 2 ^ range d 52 m h k .place) (2 ^ 1074)
+  normal-value : (d : ℤ) (h : pastLargest d ≡ false) (k : fromLeastNormal d ≡ true)
+      → HasValue (at m d) (factorAt 52 m d .sign) (factorAt 52 m d .sig * 2 ^ range d 52 m h k .place) (2 ^ 1074)
   normal-value d h k = floatOf-value binary64 11 52 refl refl (factorAt 52 m d) (N d) (range d 52 m h k)
 
   finite : (d : ℤ) → pastLargest d ≡ false → fromLeastNormal d ≡ true → isInfinite (at m d) ≡ false
@@ -266,35 +257,49 @@ module _ (m : Float) (fm : T (fits binary64 m)) (um : inUnit m ≡ true) where
 
   module _ (e : ℤ) (x : Float) (k : ℤ) where
     -- the product of the first loop, and of the second
-    rise : (d : ℤ) → x ≡ at m d → pastLargest d ≡ false → fromLeastNormal d ≡ true → mul binary64 x most ≡ at m (d +ℤ pos 1023)
-    rise d p h g = ap (λ (y : Float). mul binary64 y most) p ∙ ap (mul binary64 (at m d)) most-is ∙ step d (pos 1023) h g
+    rise : (d : ℤ) → x ≡ at m d → pastLargest d ≡ false → fromLeastNormal d ≡ true → mul binary64 x highest ≡ at m (d +ℤ pos 1023)
+    rise d p h g = ap (λ (y : Float). mul binary64 y highest) p ∙ ap (mul binary64 (at m d)) highest-is ∙ step d (pos 1023) h g
 
-    fall : (d : ℤ) → x ≡ at m d → pastLargest d ≡ false → fromLeastNormal d ≡ true → mul binary64 x least ≡ at m (d +ℤ negsuc 1021)
-    fall d p h g = ap (λ (y : Float). mul binary64 y least) p ∙ ap (mul binary64 (at m d)) least-is ∙ step d (negsuc 1021) h g
+    fall : (d : ℤ) → x ≡ at m d → pastLargest d ≡ false → fromLeastNormal d ≡ true → mul binary64 x lowest ≡ at m (d +ℤ negsuc 1021)
+    fall d p h g = ap (λ (y : Float). mul binary64 y lowest) p ∙ ap (mul binary64 (at m d)) lowest-is ∙ step d (negsuc 1021) h g
 
     -- k is above 1023, and the product is infinite: the second time
-    pub raised-all : Scaling m e x k → pastLargest k ≡ true → isInfinite (mul binary64 x most) ≡ true → mul binary64 x most ≡ roundedOnce (factorAt 52 m e)
-    raised-all (begun p q) h i = absurd (clash (isInfinite (mul binary64 x most)) i (ap isInfinite (rise (pos 0) (p ∙ sym begin) refl refl) ∙ finite (pos 1023) refl refl))
+    pub raised-all : Scaling m e x k → pastLargest k ≡ true → isInfinite (mul binary64 x highest) ≡ true
+        → mul binary64 x highest ≡ roundedOnce (factorAt 52 m e)
+    raised-all (begun p q) h i = absurd (true≢false (sym i ∙ ap isInfinite (rise (pos 0) (p ∙ sym begin) refl refl) ∙ finite (pos 1023) refl refl))
     raised-all (raised p q r) h i = rise (pos 1023) p refl refl ∙ over (pos 2046) refl ∙ sym (over e (raised-over k e q h)) ∙ once e
     raised-all (lowered p q r) h i = absurd (not-minus k e r h)
 
     -- and it is not: the first time
-    pub raised-more : Scaling m e x k → pastLargest k ≡ true → isInfinite (mul binary64 x most) ≡ false → Scaling m e (mul binary64 x most) (k -ℤ pos 1023)
+    pub raised-more : Scaling m e x k → pastLargest k ≡ true → isInfinite (mul binary64 x highest) ≡ false
+        → Scaling m e (mul binary64 x highest) (k -ℤ pos 1023)
     raised-more (begun p q) h i = raised (rise (pos 0) (p ∙ sym begin) refl refl) (raised-sum k e q) (raised-plus k e h)
-    raised-more (raised p q r) h i = absurd (clash (isInfinite (mul binary64 x most)) (ap isInfinite (rise (pos 1023) p refl refl ∙ over (pos 2046) refl) ∙ infinite-is (isMinus m)) i)
+    raised-more (raised p q r) h i =
+        absurd (true≢false (sym (ap isInfinite (rise (pos 1023) p refl refl ∙ over (pos 2046) refl) ∙ infinite-is (isMinus m)) ∙ i))
     raised-more (lowered p q r) h i = absurd (not-minus k e r h)
 
     -- k is below -1022, and the product is zero: the second time
-    pub lowered-all : Scaling m e x k → fromLeastNormal k ≡ false → eq (mul binary64 x least) nought ≡ true → mul binary64 x least ≡ roundedOnce (factorAt 52 m e)
-    lowered-all (begun p q) h i = absurd (clash (eq (mul binary64 x least) nought) i (ap (eq (mul binary64 x least)) nought-is ∙ ap (λ (y : Float). eq y (fin false 0 (pos 0))) (fall (pos 0) (p ∙ sym begin) refl refl) ∙ nonzero (negsuc 1021) refl refl))
+    pub lowered-all : Scaling m e x k → fromLeastNormal k ≡ false → eq (mul binary64 x lowest) nought ≡ true
+        → mul binary64 x lowest ≡ roundedOnce (factorAt 52 m e)
+    lowered-all (begun p q) h i = absurd (true≢false
+        (sym i
+        ∙ ap (eq (mul binary64 x lowest)) nought-is
+        ∙ ap (λ (y : Float). eq y (fin false 0 (pos 0))) (fall (pos 0) (p ∙ sym begin) refl refl)
+        ∙ nonzero (negsuc 1021) refl refl))
     lowered-all (raised p q r) h i = absurd (not-plus k e r h)
     lowered-all (lowered p q r) h i = fall (negsuc 1021) p refl refl ∙ tiny (negsuc 2043) refl ∙ sym (tiny e (lowered-tiny k e q h)) ∙ once e
 
     -- and it is not: the first time
-    pub lowered-more : Scaling m e x k → fromLeastNormal k ≡ false → eq (mul binary64 x least) nought ≡ false → Scaling m e (mul binary64 x least) (k +ℤ pos 1022)
+    pub lowered-more : Scaling m e x k → fromLeastNormal k ≡ false → eq (mul binary64 x lowest) nought ≡ false
+        → Scaling m e (mul binary64 x lowest) (k +ℤ pos 1022)
     lowered-more (begun p q) h i = lowered (fall (pos 0) (p ∙ sym begin) refl refl) (lowered-sum k e q) (lowered-minus k e h)
     lowered-more (raised p q r) h i = absurd (not-plus k e r h)
-    lowered-more (lowered p q r) h i = absurd (clash (eq (mul binary64 x least) nought) (ap (eq (mul binary64 x least)) nought-is ∙ ap (λ (y : Float). eq y (fin false 0 (pos 0))) (fall (negsuc 1021) p refl refl ∙ tiny (negsuc 2043) refl) ∙ zero-is (isMinus m)) i)
+    lowered-more (lowered p q r) h i = absurd (true≢false
+        (sym
+        (ap (eq (mul binary64 x lowest)) nought-is
+        ∙ ap (λ (y : Float). eq y (fin false 0 (pos 0))) (fall (negsuc 1021) p refl refl ∙ tiny (negsuc 2043) refl)
+        ∙ zero-is (isMinus m))
+        ∙ i))
 
     -- k is the exponent of a normal number: the last product
     pub last : Scaling m e x k → mul binary64 x (fin false 1 k) ≡ roundedOnce (factorAt 52 m e)

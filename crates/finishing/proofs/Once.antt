@@ -2,12 +2,12 @@
 use mathlib.Core.Path.{_≡_, refl, sym, ap, _∙_}
 use mathlib.Core.Bool.{Bool, true, false, cond}
 use Prim.Native.Nat.{ℕ, suc, _+_, _-_, _*_, _^_, _≤_, _<_, max}
-use native.Mathlib.Nat.{le-trans, le-of-eq, lt-of-lt-of-le, lt-of-le-of-lt, mul-one, mul-lt-mul-of-pos-right}
+use native.Mathlib.Nat.{le-trans, le-of-eq, lt-of-lt-of-le, lt-of-le-of-lt, mul-one}
 use native.Mathlib.Omega.{arith}
 use lib.IntN.{ℤ, pos, negsuc, natAbs, _+ℤ_, _-ℤ_}
 use lib.Signed.{ltZ}
 use lib.Dec.{lit<}
-use lib.Pow.{pow-add, pow-pos, pow-mono, pow-lt}
+use lib.Pow.{pow-lt}
 use lib.Ieee.{Float, inf, size, odd}
 use lib.Ieee.Nearest.{closest}
 use borrow.Author.Tests.{lt-ltb}
@@ -17,7 +17,7 @@ use Rattle.floats.specs.Rounding.{unitPlaces, tiesToEven, delivered, rounded}
 use Rattle.floats.specs.Factor.{Factor, Normalised, NormalExponent, floatOf}
 use Rattle.floats.specs.Magnitude.{factorAt}
 use Rattle.floats.proofs.Nearest.{ties-is, significand-le-max, size-is}
-use Rattle.floats.proofs.Bridge.{floatOf-is}
+use Rattle.floats.proofs.Bridge.{floatOf-is, unit-room}
 use Rattle.floats.proofs.Overflow.{float-above}
 use Rattle.finishing.specs.Once.{counted, pastLargest, fromLeastNormal, roundedOnce}
 
@@ -25,10 +25,6 @@ use Rattle.finishing.specs.Once.{counted, pastLargest, fromLeastNormal, 
 delivered-below : (p em : ℕ) (s : Bool) (n j : ℕ) → n * 2 ^ j < 2 ^ (unitPlaces p em + suc em) → delivered p em s n j ≡ odd (suc p) s n j (unitPlaces p em)
 unfolding delivered
 delivered-below p em s n j h = ap (λ (t : Bool). cond t (odd (suc p) s n j (unitPlaces p em)) (inf s)) (lt-ltb (n * 2 ^ j) (2 ^ (unitPlaces p em + suc em)) h)
-
--- a significand of t + 1 digits, at a place of at most twice the largest exponent less 1
-room : (t em S j : ℕ) → S < 2 ^ (t + 1) → j < 2 * em → S * 2 ^ j < 2 ^ (unitPlaces (t + 1) em + suc em)
-room t em S j h k = lt-of-lt-of-le (mul-lt-mul-of-pos-right h (pow-pos j)) (le-trans (le-of-eq (sym (pow-add 2 (t + 1) j))) (pow-mono (omega arith)))
 
 -- what is left of S below the least normal number
 low-room : (t em n : ℕ) → 1 < em → n ≤ 2 ^ (t + 1) → n * 2 ^ 0 < 2 ^ (unitPlaces (t + 1) em + suc em)
@@ -45,7 +41,8 @@ rounded-low t em s S j e lo hi =
     ap (λ (x : ℕ). delivered (t + 1) em s (tiesToEven S (2 ^ x)) (x - suc j)) k
     ∙ ap (delivered (t + 1) em s (tiesToEven S (2 ^ suc j))) d
     ∙ delivered-below (t + 1) em s (tiesToEven S (2 ^ suc j)) 0
-    (low-room t em (tiesToEven S (2 ^ suc j)) e (le-trans (le-of-eq (ties-is S (2 ^ suc j) ∙ ap (λ (x : ℕ). closest S (2 ^ x)) (sym k))) (significand-le-max (t + 1) S (suc j))))
+    (low-room t em (tiesToEven S (2 ^ suc j)) e
+    (le-trans (le-of-eq (ties-is S (2 ^ suc j) ∙ ap (λ (x : ℕ). closest S (2 ^ x)) (sym k))) (significand-le-max (t + 1) S (suc j))))
 
 -- ---- the place e + 1022 of an exponent
 module _ (e : ℤ) where
@@ -84,7 +81,7 @@ module _ (f : Factor) (N : Normalised 52 f) where
   unfolding counted
   float-normal h k =
       let p = place-is (f .exp) k in
-      floatOf-is 11 52 f j N p ∙ delivered-below 53 1023 (f .sign) (f .sig) j (room 52 1023 (f .sig) j (N .most) (place-below (f .exp) j p h))
+      floatOf-is 11 52 f j N p ∙ delivered-below 53 1023 (f .sign) (f .sig) j (unit-room 52 1023 (f .sig) j (N .most) (place-below (f .exp) j p h))
 
   pub float-low : fromLeastNormal (f .exp) ≡ false → floatOf 11 52 f ≡ counted (f .sign) (tiesToEven (f .sig) (2 ^ n)) 0
   unfolding counted floatOf

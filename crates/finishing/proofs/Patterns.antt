@@ -63,13 +63,13 @@ module _ (x : ℕ) (h : x < 2046) where
   abbrev bits : ℕ
   bits = suc x * 2 ^ 52
 
-  plus : leb 9223372036854775808 bits ≡ false
-  plus = lt-leb 9223372036854775808 bits (omega arith)
+  plus : leb (2 ^ 63) bits ≡ false
+  plus = lt-leb (2 ^ 63) bits (omega arith)
 
-  field : bits % 9223372036854775808 / 4503599627370496 ≡ suc x
+  field : bits % 2 ^ 63 / 2 ^ 52 ≡ suc x
   field = omega arith
 
-  none : bits % 4503599627370496 ≡ 0
+  none : bits % 2 ^ 52 ≡ 0
   none = omega arith
 
   not-all : eqb (suc x) 2047 ≡ false
@@ -77,19 +77,19 @@ module _ (x : ℕ) (h : x < 2046) where
 
   fields : ofFields binary64 false (suc x) 0 ≡ fin false 1 (minus (x + 52) 1074)
   unfolding ofFields
-  fields = ap (λ (t : Bool). cond t (inf false) (odd 53 false 4503599627370496 x 1074)) not-all
+  fields = ap (λ (t : Bool). cond t (inf false) (odd 53 false (2 ^ 52) x 1074)) not-all
 
   power-bits : ofBits binary64 bits ≡ fin false 1 (minus (x + 52) 1074)
   unfolding ofBits
   power-bits =
-      ap (λ (s : Bool). ofFields binary64 s (bits % 9223372036854775808 / 4503599627370496) (bits % 4503599627370496)) plus
-      ∙ ap (λ (y : ℕ). ofFields binary64 false y (bits % 4503599627370496)) field
+      ap (λ (s : Bool). ofFields binary64 s (bits % 2 ^ 63 / 2 ^ 52) (bits % 2 ^ 52)) plus
+      ∙ ap (λ (y : ℕ). ofFields binary64 false y (bits % 2 ^ 52)) field
       ∙ ap (ofFields binary64 false (suc x)) none
       ∙ fields
 
   power-number : T (not (nanBits binary64 bits))
   unfolding nanBits
-  power-number = subst (λ (t : Bool). T (not (t && not (eqb (bits % 4503599627370496) 0)))) (sym (ap (λ (y : ℕ). eqb y 2047) field ∙ not-all)) tt
+  power-number = subst (λ (t : Bool). T (not (t && not (eqb (bits % 2 ^ 52) 0)))) (sym (ap (λ (y : ℕ). eqb y 2047) field ∙ not-all)) tt
 
 -- ---- an exponent from -1022 to 1023
 module _ (e : ℤ) (h : pastLargest e ≡ false) (k : fromLeastNormal e ≡ true) where

@@ -8,9 +8,9 @@ use Rattle.floats.specs.Product.{product, productOf}
 use Rattle.floats.specs.Factor.{times}
 
 -- 1.5 × -1.5 is -2.25, exactly
-exact : productOf 11 52 (fin false 3 (negsuc 0)) (fin true 3 (negsuc 0)) ≡ fin true 9 (negsuc 1)
+exact-product : productOf 11 52 (fin false 3 (negsuc 0)) (fin true 3 (negsuc 0)) ≡ fin true 9 (negsuc 1)
 unfolding product
-exact = refl
+exact-product = refl
 
 -- (2^52 + 1) × (2^52 + 1) / 2^104 is 1 + 2^-51 and 2^-104, which is less than half of the last digit
 dropped : productOf 11 52 (fin false (2 ^ 52 + 1) (negsuc 51)) (fin false (2 ^ 52 + 1) (negsuc 51)) ≡ fin false (2 ^ 51 + 1) (negsuc 50)
@@ -59,10 +59,12 @@ unfolding product
 invalid = refl
 
 -- the whole-number rule: 1.5 × 1.5 is 1.125 × 2; and a quotient that rounds up to 2^53 is 2^52 with one more in the exponent
-one-and-a-half : times 52 (record { sign = false; sig = 3 * 2 ^ 51; exp = pos 0 }) (record { sign = true; sig = 3 * 2 ^ 51; exp = pos 0 }) ≡ record { sign = true; sig = 9 * 2 ^ 49; exp = pos 1 }
+one-and-a-half : times 52 (record { sign = false; sig = 3 * 2 ^ 51; exp = pos 0 }) (record { sign = true; sig = 3 * 2 ^ 51; exp = pos 0 })
+    ≡ record { sign = true; sig = 9 * 2 ^ 49; exp = pos 1 }
 unfolding times
 one-and-a-half = refl
 
-rounds-up : times 52 (record { sign = false; sig = 3 * 2 ^ 51; exp = pos 7 }) (record { sign = false; sig = 6004799503160661; exp = negsuc 9 }) ≡ record { sign = false; sig = 2 ^ 52; exp = negsuc 1 }
+rounds-up : times 52 (record { sign = false; sig = 3 * 2 ^ 51; exp = pos 7 }) (record { sign = false; sig = 6004799503160661; exp = negsuc 9 })
+    ≡ record { sign = false; sig = 2 ^ 52; exp = negsuc 1 }
 unfolding times
 rounds-up = refl

@@ -2,7 +2,8 @@
 use mathlib.Core.Path.{_≡_, refl, sym, ap, _∙_, subst}
 use mathlib.Core.Bool.{Bool, true, false, cond}
 use Prim.Native.Nat.{ℕ, suc, _+_, _-_, _*_, _^_, _≤_, _<_}
-use native.Mathlib.Nat.{add-le-add, mul-sub, le-refl, le-trans, le-of-eq, le-of-lt, lt-of-lt-of-le, lt-of-le-of-lt, zero-add, mul-one, mul-comm, mul-le-mul, mul-le-mul-left, mul-le-mul-right, mul-lt-mul-of-pos-right, ne-of-lt}
+use native.Mathlib.Nat.{add-le-add, mul-sub, le-refl, le-trans, le-of-eq, le-of-lt, lt-of-lt-of-le, lt-of-le-of-lt, zero-add, mul-one, mul-comm, mul-le-mul}
+use native.Mathlib.Nat.{mul-le-mul-left, mul-le-mul-right, mul-lt-mul-of-pos-right, ne-of-lt}
 use native.Mathlib.Omega.{arith}
 use lib.IntN.{ℤ, pos, negsuc, subℕ, natAbs, _+ℤ_, +ℤ-idl, +ℤ-idr}
 use lib.Dec.{ltb, eqb}
@@ -43,7 +44,9 @@ module _ (t n : ℕ) (lo : 2 ^ (2 * t) ≤ n) (hi : n < 2 ^ (2 * t + 2)) where
   long-size = go (ltb n (2 ^ (2 * t + 1))) refl
     where
       go : (b : Bool) → ltb n (2 ^ (2 * t + 1)) ≡ b → size n ≡ suc (2 * t + cond b 0 1)
-      go true e = size-is n (2 * t + 0) (le-trans (le-of-eq (ap (λ (x : ℕ). 2 ^ x) (omega arith))) lo) (lt-of-lt-of-le (ltb-true n (2 ^ (2 * t + 1)) e) (le-of-eq (ap (λ (x : ℕ). 2 ^ x) (omega arith))))
+      go true e =
+          size-is n (2 * t + 0) (le-trans (le-of-eq (ap (λ (x : ℕ). 2 ^ x) (omega arith))) lo)
+          (lt-of-lt-of-le (ltb-true n (2 ^ (2 * t + 1)) e) (le-of-eq (ap (λ (x : ℕ). 2 ^ x) (omega arith))))
       go false e = size-is n (2 * t + 1) (ltb-false n (2 ^ (2 * t + 1)) e) (lt-of-lt-of-le hi (le-of-eq (ap (λ (x : ℕ). 2 ^ x) (omega arith))))
 
   pub long-least : 2 ^ (2 * t + long t n) ≤ n
@@ -126,8 +129,10 @@ carry-le t f g F G = go (ltb n (2 ^ (2 * t + 1))) refl
         (omega arith)
 
     go : (b : Bool) → ltb n (2 ^ (2 * t + 1)) ≡ b → cond b 0 1 + cond (eqb (tiesToEven n (2 ^ (t + cond b 0 1))) (2 ^ (t + 1))) 1 0 ≤ 1
-    go true e = le-trans (le-of-eq (zero-add (cond (eqb (tiesToEven n (2 ^ (t + 0))) (2 ^ (t + 1))) 1 0))) (bit (eqb (tiesToEven n (2 ^ (t + 0))) (2 ^ (t + 1))))
-    go false e = le-of-eq (ap (λ (x : ℕ). 1 + x) (one-or-none (tiesToEven n (2 ^ (t + 1))) (2 ^ (t + 1)) (eqb (tiesToEven n (2 ^ (t + 1))) (2 ^ (t + 1))) small refl))
+    go true e =
+        le-trans (le-of-eq (zero-add (cond (eqb (tiesToEven n (2 ^ (t + 0))) (2 ^ (t + 1))) 1 0))) (bit (eqb (tiesToEven n (2 ^ (t + 0))) (2 ^ (t + 1))))
+    go false e =
+        le-of-eq (ap (λ (x : ℕ). 1 + x) (one-or-none (tiesToEven n (2 ^ (t + 1))) (2 ^ (t + 1)) (eqb (tiesToEven n (2 ^ (t + 1))) (2 ^ (t + 1))) small refl))
 
 pub times-sign : (t : ℕ) (f g : Factor) → times t f g .sign ≡ signs (f .sign) (g .sign)
 unfolding times
@@ -144,7 +149,9 @@ times-exp t f g = refl
 -- ---- plus, 2^t, 0 is neutral
 module _ (t S : ℕ) (most : S < 2 ^ (t + 1)) where
   short : ltb (S * 2 ^ t) (2 ^ (2 * t + 1)) ≡ true
-  short = lt-ltb (S * 2 ^ t) (2 ^ (2 * t + 1)) (lt-of-lt-of-le (mul-lt-mul-of-pos-right most (pow-pos t)) (le-of-eq (sym (pow-add 2 (t + 1) t) ∙ ap (λ (x : ℕ). 2 ^ x) (omega arith))))
+  short =
+      lt-ltb (S * 2 ^ t) (2 ^ (2 * t + 1))
+      (lt-of-lt-of-le (mul-lt-mul-of-pos-right most (pow-pos t)) (le-of-eq (sym (pow-add 2 (t + 1) t) ∙ ap (λ (x : ℕ). 2 ^ x) (omega arith))))
 
   quotient-unit : quotient t (S * 2 ^ t) ≡ S
   quotient-unit =
@@ -162,15 +169,17 @@ module _ (t S : ℕ) (most : S < 2 ^ (t + 1)) where
   carry-unit : carry t (S * 2 ^ t) ≡ 0
   carry-unit = ap (λ (b : Bool). cond b 0 1 + cond (eqb (quotient t (S * 2 ^ t)) (2 ^ (t + 1))) 1 0) short ∙ ap (λ (b : Bool). 0 + cond b 1 0) not-full
 
-pub factor-same : (s s' : Bool) (S S' : ℕ) (e e' : ℤ) → s ≡ s' → S ≡ S' → e ≡ e' → _≡_ {A = Factor} (record { sign = s; sig = S; exp = e }) (record { sign = s'; sig = S'; exp = e' })
+pub factor-same : (s s' : Bool) (S S' : ℕ) (e e' : ℤ) → s ≡ s' → S ≡ S' → e ≡ e'
+    → _≡_ {A = Factor} (record { sign = s; sig = S; exp = e }) (record { sign = s'; sig = S'; exp = e' })
 factor-same s s' S S' e e' p q r = cc
 
-signs-plus : (a : Bool) → signs a false ≡ a
+pub signs-plus : (a : Bool) → signs a false ≡ a
 signs-plus true = refl
 signs-plus false = refl
 
 -- times a power of two, the exponents are added and nothing else changes
-pub times-power : (t : ℕ) (f : Factor) (z : ℤ) → Normalised t f → times t f (record { sign = false; sig = 2 ^ t; exp = z }) ≡ record { sign = f .sign; sig = f .sig; exp = f .exp +ℤ z }
+pub times-power : (t : ℕ) (f : Factor) (z : ℤ) → Normalised t f
+    → times t f (record { sign = false; sig = 2 ^ t; exp = z }) ≡ record { sign = f .sign; sig = f .sig; exp = f .exp +ℤ z }
 unfolding times
 times-power t f z F =
     factor-same (signs (f .sign) false) (f .sign) (significand t (f .sig * 2 ^ t)) (f .sig) (f .exp +ℤ z +ℤ pos (carry t (f .sig * 2 ^ t))) (f .exp +ℤ z)
@@ -219,7 +228,8 @@ module _ (t : ℕ) (f g : Factor) (F : Normalised t f) (G : Normalised t g) wher
   u = 2 ^ (t + long t n)
 
   -- what is kept, with its carry, is the quotient with its divisor
-  pub significand-whole : significand t (f .sig * g .sig) * 2 ^ (t + carry t (f .sig * g .sig)) ≡ quotient t (f .sig * g .sig) * 2 ^ (t + long t (f .sig * g .sig))
+  pub significand-whole : significand t (f .sig * g .sig) * 2 ^ (t + carry t (f .sig * g .sig))
+      ≡ quotient t (f .sig * g .sig) * 2 ^ (t + long t (f .sig * g .sig))
   significand-whole = go (eqb (quotient t (f .sig * g .sig)) (2 ^ (t + 1))) refl
     where
       l : ℕ
@@ -229,19 +239,26 @@ module _ (t : ℕ) (f g : Factor) (F : Normalised t f) (G : Normalised t g) wher
       q = quotient t (f .sig * g .sig)
 
       go : (b : Bool) → eqb q (2 ^ (t + 1)) ≡ b → cond b (2 ^ t) q * 2 ^ (t + (l + cond b 1 0)) ≡ q * 2 ^ (t + l)
-      go true e = sym (pow-add 2 t (t + (l + 1))) ∙ ap (λ (x : ℕ). 2 ^ x) (omega arith) ∙ pow-add 2 (t + 1) (t + l) ∙ ap (λ (x : ℕ). x * 2 ^ (t + l)) (sym (eqb-true q (2 ^ (t + 1)) e))
+      go true e =
+          sym (pow-add 2 t (t + (l + 1)))
+          ∙ ap (λ (x : ℕ). 2 ^ x) (omega arith)
+          ∙ pow-add 2 (t + 1) (t + l)
+          ∙ ap (λ (x : ℕ). x * 2 ^ (t + l)) (sym (eqb-true q (2 ^ (t + 1)) e))
       go false e = ap (λ (x : ℕ). q * 2 ^ (t + x)) (omega arith)
 
   unit-least : u * 2 ^ t ≤ n
   unfolding u n
-  unit-least = le-trans (le-of-eq (sym (pow-add 2 (t + long t (f .sig * g .sig)) t) ∙ ap (λ (x : ℕ). 2 ^ x) (omega arith))) (long-least t (f .sig * g .sig) (product-least t f g F G) (product-below t f g F G))
+  unit-least =
+      le-trans (le-of-eq (sym (pow-add 2 (t + long t (f .sig * g .sig)) t) ∙ ap (λ (x : ℕ). 2 ^ x) (omega arith)))
+      (long-least t (f .sig * g .sig) (product-least t f g F G) (product-below t f g F G))
 
   -- with P = 2^(t + 1): n × (P - 1) ≤ kept × 2^(t + carry) × P ≤ n × (P + 1)
   pub times-most : significand t (f .sig * g .sig) * 2 ^ (t + carry t (f .sig * g .sig)) * 2 ^ (t + 1) ≤ f .sig * g .sig * (2 ^ (t + 1) + 1)
   unfolding u n
   times-most =
       le-trans (le-of-eq (ap (λ (x : ℕ). x * 2 ^ (t + 1)) significand-whole))
-      (scaled-most (quotient t n * u) n u (2 ^ t) (2 ^ (t + 1)) (pow-next t) (subst (λ (q : ℕ). q * u * 2 ≤ n * 2 + u) (sym (ties-is n u)) (closest-above n u (pow-pos (t + long t n)))) unit-least)
+      (scaled-most (quotient t n * u) n u (2 ^ t) (2 ^ (t + 1)) (pow-next t)
+      (subst (λ (q : ℕ). q * u * 2 ≤ n * 2 + u) (sym (ties-is n u)) (closest-above n u (pow-pos (t + long t n)))) unit-least)
     where
       scaled-most : (x n u p P : ℕ) → P ≡ p * 2 → x * 2 ≤ n * 2 + u → u * p ≤ n → x * P ≤ n * (P + 1)
       scaled-most x n u p P e h k = rw e (omega (arith, mul-le-mul-right p h))
@@ -250,7 +267,8 @@ module _ (t : ℕ) (f g : Factor) (F : Normalised t f) (G : Normalised t g) wher
   unfolding u n
   times-least =
       le-trans
-      (scaled-least (quotient t n * u) n u (2 ^ t) (2 ^ (t + 1)) (pow-next t) (subst (λ (q : ℕ). n * 2 ≤ q * u * 2 + u) (sym (ties-is n u)) (closest-below n u (pow-pos (t + long t n)))) unit-least)
+      (scaled-least (quotient t n * u) n u (2 ^ t) (2 ^ (t + 1)) (pow-next t)
+      (subst (λ (q : ℕ). n * 2 ≤ q * u * 2 + u) (sym (ties-is n u)) (closest-below n u (pow-pos (t + long t n)))) unit-least)
       (le-of-eq (ap (λ (x : ℕ). x * 2 ^ (t + 1)) (sym significand-whole)))
     where
       scaled-least : (x n u p P : ℕ) → P ≡ p * 2 → n * 2 ≤ x * 2 + u → u * p ≤ n → n * (P - 1) ≤ x * P

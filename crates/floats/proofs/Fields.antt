@@ -1,5 +1,5 @@
--- Bit fields: the value of a pattern is the kit's, a pattern of three fields has those fields, and the factor of a pattern that is not bad has the pattern's value.
--- Assumes nothing.
+-- Bit fields: the value of a pattern is the kit's, a pattern of three fields has those fields, and the factor of a pattern that is not bad has the pattern's
+-- value. Assumes nothing.
 use mathlib.Core.Path.{_≡_, refl, sym, ap, _∙_, subst}
 use mathlib.Core.Bool.{Bool, true, false, not, cond, _||_, true≢false}
 use Prim.Native.Nat.{ℕ, zero, suc, _+_, _-_, _*_, _/_, _%_, _^_, _≤_, _<_}
@@ -128,10 +128,13 @@ factor-value w t b W h =
     let R = factor-range w t b W h in
     floatOf-is w t (factorOf w t b) (R .place) (factor-normal w t b) (R .above)
     ∙ sym (ap (λ (y : ℕ). ofParts w t (signField w t b) y (fraction t b)) (n .1)
-    ∙ ap (λ (q : Bool). cond q (cond (eqb (fraction t b) 0) (inf (signField w t b)) nan) (delivered (t + 1) (bias w) (signField w t b) (2 ^ t + fraction t b) (n .0))) (ne-eqb (suc (n .0)) (2 ^ w - 1) (n .2)))
+    ∙ ap (λ (q : Bool). cond q (cond (eqb (fraction t b) 0) (inf (signField w t b)) nan)
+    (delivered (t + 1) (bias w) (signField w t b) (2 ^ t + fraction t b) (n .0)))
+    (ne-eqb (suc (n .0)) (2 ^ w - 1) (n .2)))
 
 -- the value of a pattern whose exponent field suc r is not all ones
-pub pattern-value : (w t : ℕ) (s : Bool) (r T' : ℕ) → suc r < 2 ^ w - 1 → T' < 2 ^ t → valueOf w t (pattern w t s (suc r) T') ≡ delivered (t + 1) (bias w) s (2 ^ t + T') r
+pub pattern-value : (w t : ℕ) (s : Bool) (r T' : ℕ) → suc r < 2 ^ w - 1 → T' < 2 ^ t
+    → valueOf w t (pattern w t s (suc r) T') ≡ delivered (t + 1) (bias w) s (2 ^ t + T') r
 unfolding valueOf ofParts
 pattern-value w t s r T' h k =
     let x = suc r in
@@ -169,13 +172,9 @@ module _ (F : Format) (w t : ℕ) (P : prec F ≡ t + 1) (E : emax F ≡ bias w)
       ∙ sym (ap (λ (q : Bool). cond q (odd (suc (prec F)) s n j (low F)) (inf s)) (lt-ltb (n * 2 ^ j) (2 ^ (low F + suc (emax F))) b))
       ∙ sym (delivered-units F w t P E s n j)
 
-  -- from a number below 2^(t + 1), at a place below the format's last
-  reaches : (n j : ℕ) → n < 2 ^ (t + 1) → j < 2 * bias w → n * 2 ^ j < 2 ^ (low F + suc (emax F))
-  reaches = room F w t P E
-
   parts-are : (s : Bool) (x T' : ℕ) → 0 < bias w → x < 2 ^ w → T' < 2 ^ t → ofFields F s x T' ≡ ofParts w t s x T'
   unfolding ofFields ofParts
-  parts-are s zero T' B e f = odd-delivered s T' 0 (subst (λ (p : ℕ). T' < 2 ^ p) (sym P) small) (reaches T' 0 small (omega arith))
+  parts-are s zero T' B e f = odd-delivered s T' 0 (subst (λ (p : ℕ). T' < 2 ^ p) (sym P) small) (room F w t P E T' 0 small (omega arith))
     where
       small : T' < 2 ^ (t + 1)
       small = lt-of-lt-of-le f (pow-mono (omega arith))
@@ -190,11 +189,13 @@ module _ (F : Format) (w t : ℕ) (P : prec F ≡ t + 1) (E : emax F ≡ bias w)
       under : (P c : ℕ) → (suc x ≡ P - 1 → ⊥) → suc x < P → P ≡ 2 * c + 2 → x < 2 * c
       under P c n l q = lt-of-not-le (λ (g : 2 * c ≤ x). n (omega arith))
 
-      go : (q : Bool) → eqb (suc x) (2 ^ w - 1) ≡ q → cond q (cond (eqb T' 0) (inf s) nan) (odd (prec F) s (2 ^ t + T') x (low F)) ≡ cond q (cond (eqb T' 0) (inf s) nan) (delivered (t + 1) (bias w) s (2 ^ t + T') x)
+      go : (q : Bool) → eqb (suc x) (2 ^ w - 1) ≡ q
+          → cond q (cond (eqb T' 0) (inf s) nan) (odd (prec F) s (2 ^ t + T') x (low F))
+          ≡ cond q (cond (eqb T' 0) (inf s) nan) (delivered (t + 1) (bias w) s (2 ^ t + T') x)
       go true h = refl
       go false h =
           odd-delivered s (2 ^ t + T') x (subst (λ (p : ℕ). 2 ^ t + T' < 2 ^ p) (sym P) small)
-          (reaches (2 ^ t + T') x small (under (2 ^ w) (bias w) (eqb-false (suc x) (2 ^ w - 1) h) e (bias-next w W)))
+          (room F w t P E (2 ^ t + T') x small (under (2 ^ w) (bias w) (eqb-false (suc x) (2 ^ w - 1) h) e (bias-next w W)))
 
   pub value-is : (b : ℕ) → 0 < bias w → ofBits F b ≡ valueOf w t b
   unfolding ofBits valueOf
@@ -234,8 +235,10 @@ module _ (F : Format) (w t : ℕ) (P : prec F ≡ t + 1) (E : emax F ≡ bias w)
     unfolding code isNan
     bits-of-float =
         ap (toBits F) (sym float-is)
-        ∙ toBits-ofBits F code (lt-of-lt-of-le (pattern-lt w t (f .sign) (suc (R .place)) (f .sig - 2 ^ t) field-small fraction-small) (le-of-eq (mul-comm (2 ^ (w + t)) 2 ∙ ap (λ (x : ℕ). 2 * x) (sym top-is))))
-        (subst (λ (x : Float). T (not (isNan x))) (sym float-is) (number (floatOf w t f) (f .sign) (f .sig * 2 ^ R .place) (2 ^ low F) (floatOf-value F w t P E f N R)))
+        ∙ toBits-ofBits F code (lt-of-lt-of-le (pattern-lt w t (f .sign) (suc (R .place)) (f .sig - 2 ^ t) field-small fraction-small)
+        (le-of-eq (mul-comm (2 ^ (w + t)) 2 ∙ ap (λ (x : ℕ). 2 * x) (sym top-is))))
+        (subst (λ (x : Float). T (not (isNan x))) (sym float-is)
+        (number (floatOf w t f) (f .sign) (f .sig * 2 ^ R .place) (2 ^ low F) (floatOf-value F w t P E f N R)))
       where
         number : (x : Float) (s : Bool) (a c : ℕ) → HasValue x s a c → T (not (isNan x))
         number nan s a c h = absurd h
@@ -249,7 +252,8 @@ module _ (F : Format) (w t : ℕ) (P : prec F ≡ t + 1) (E : emax F ≡ bias w)
         let x = suc (R .place) in
         let T' = f .sig - 2 ^ t in
         ap (factorOf w t) bits-of-float
-        ∙ factor-same (signField w t (pattern w t s x T')) s (2 ^ t + fraction t (pattern w t s x T')) (f .sig) (pos (expField w t (pattern w t s x T')) -ℤ pos (bias w)) (f .exp)
+        ∙ factor-same (signField w t (pattern w t s x T')) s (2 ^ t + fraction t (pattern w t s x T')) (f .sig)
+        (pos (expField w t (pattern w t s x T')) -ℤ pos (bias w)) (f .exp)
         (sign-is w t s x T' field-small fraction-small)
         (ap (λ (q : ℕ). 2 ^ t + q) (fraction-is w t s x T' field-small fraction-small) ∙ (let l = N .least in omega arith))
         (ap (λ (q : ℕ). pos q -ℤ pos (bias w)) (exp-is w t s x T' field-small fraction-small) ∙ exponent (f .exp) (bias w) bias-pos (R .place) (R .above))
@@ -257,7 +261,10 @@ module _ (F : Format) (w t : ℕ) (P : prec F ≡ t + 1) (E : emax F ≡ bias w)
         -- e + (b - 1) = r, so r + 1 - b = e
         exponent : (e : ℤ) (b : ℕ) → 0 < b → (r : ℕ) → e +ℤ pos (b - 1) ≡ pos r → pos (suc r) -ℤ pos b ≡ e
         exponent e b B r h =
-            ap (λ (q : ℤ). q -ℤ pos b) (one-more r ∙ ap (λ (q : ℤ). q +ℤ pos 1) (sym h) ∙ +ℤ-assoc e (pos (b - 1)) (pos 1) ∙ ap (λ (q : ℕ). e +ℤ pos q) (let l : b - 1 + 1 ≡ b = omega arith in l))
+            ap (λ (q : ℤ). q -ℤ pos b) (one-more r
+            ∙ ap (λ (q : ℤ). q +ℤ pos 1) (sym h)
+            ∙ +ℤ-assoc e (pos (b - 1)) (pos 1)
+            ∙ ap (λ (q : ℕ). e +ℤ pos q) (let l : b - 1 + 1 ≡ b = omega arith in l))
             ∙ +ℤ-negℤ-cancel e (pos b)
           where
             one-more : (r : ℕ) → pos (suc r) ≡ pos r +ℤ pos 1

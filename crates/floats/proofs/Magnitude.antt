@@ -3,7 +3,9 @@
 use mathlib.Core.Path.{_≡_, refl, sym, ap, _∙_, subst}
 use mathlib.Core.Bool.{Bool, true, false, _&&_, true≢false}
 use Prim.Native.Nat.{ℕ, zero, suc, _+_, _-_, _*_, _/_, _%_, _^_, _≤_, _<_}
-use native.Mathlib.Nat.{le-of-suc-le-suc, le-refl, le-trans, le-of-eq, lt-of-lt-of-le, lt-of-le-of-lt, mul-one, one-mul, mul-comm, mul-assoc, mul-right-comm, mul-le-mul-right, mul-lt-mul-of-pos-right, le-of-mul-le-mul-right, lt-of-mul-lt-mul-right, mul-div-cancel, eq-of-mul-eq-mul-right, lt-of-not-le, not-le-of-lt}
+use native.Mathlib.Nat.{le-of-suc-le-suc, le-refl, le-trans, le-of-eq, lt-of-lt-of-le, lt-of-le-of-lt, mul-one, one-mul, mul-comm, mul-assoc, mul-right-comm}
+use native.Mathlib.Nat.{mul-le-mul-right, mul-lt-mul-of-pos-right, le-of-mul-le-mul-right, lt-of-mul-lt-mul-right, mul-div-cancel, eq-of-mul-eq-mul-right}
+use native.Mathlib.Nat.{lt-of-not-le, not-le-of-lt}
 use native.Mathlib.Omega.{arith}
 use lib.IntN.{ℤ, pos, negsuc}
 use lib.Dec.{T, leb, ltb, eqb, ltb→lt}
@@ -13,6 +15,7 @@ use lib.Ieee.Fits.{down-pos, and-l, and-r}
 use lib.Ieee.Exact.{HasValue}
 use lib.Ieee.Nearest.{div-same}
 use borrow.Author.Tests.{le-leb, lt-leb, lt-ltb, leb-true, ltb-true}
+use Rattle.laws.proofs.Tests.{and-both}
 use Rattle.floats.specs.Product.{bias}
 use Rattle.floats.specs.Factor.{Factor, Normalised, NormalExponent, floatOf}
 use Rattle.floats.specs.Magnitude.{inUnit, twoOrMore, isMinus, scaled, factorAt, withExponent}
@@ -43,14 +46,16 @@ module _ (s : Bool) (a c : ℕ) (C : 0 < c) where
   over k m e h l = le-of-mul-le-mul-right (le-trans (le-of-eq (mul-right-comm k (down e) c)) (le-trans (mul-le-mul-right (down e) l) (le-of-eq (sym h)))) C
 
   under : (k m : ℕ) (e : ℤ) → m * up e * c ≡ a * down e → a < k * c → m * up e < k * down e
-  under k m e h l = lt-of-mul-lt-mul-right c (lt-of-lt-of-le (lt-of-le-of-lt (le-of-eq h) (mul-lt-mul-of-pos-right l (down-pos e))) (le-of-eq (mul-right-comm k c (down e))))
+  under k m e h l =
+      lt-of-mul-lt-mul-right c (lt-of-lt-of-le (lt-of-le-of-lt (le-of-eq h) (mul-lt-mul-of-pos-right l (down-pos e))) (le-of-eq (mul-right-comm k c (down e))))
 
   pub unit-at : (x : Float) → HasValue x s a c → c ≤ a → a < 2 * c → inUnit x ≡ true
   unfolding inUnit
   unit-at nan h l k = absurd h
   unit-at (inf u) h l k = absurd h
   unit-at (fin u m e) h l k =
-      ap (λ (t : Bool). t && ltb (m * up e) (2 * down e)) (le-leb (down e) (m * up e) (le-trans (le-of-eq (sym (one-mul (down e)))) (over 1 m e (h .1) (le-trans (le-of-eq (one-mul c)) l))))
+      ap (λ (t : Bool). t && ltb (m * up e) (2 * down e))
+      (le-leb (down e) (m * up e) (le-trans (le-of-eq (sym (one-mul (down e)))) (over 1 m e (h .1) (le-trans (le-of-eq (one-mul c)) l))))
       ∙ lt-ltb (m * up e) (2 * down e) (under 2 m e (h .1) k)
 
   pub two-at : (x : Float) → HasValue x s a c → 2 * c ≤ a → twoOrMore x ≡ true
@@ -97,25 +102,23 @@ module _ (t : ℕ) (s : Bool) (m : ℕ) where
     sig = m * 2 ^ (t - J);
     value = (refl, ap (λ (y : ℕ). y * 2 ^ t) (mul-one m) ∙ ap (λ (y : ℕ). m * y) (sym split) ∙ sym (mul-assoc m (2 ^ (t - J)) (2 ^ J)));
     least = le-trans (le-of-eq (sym split ∙ mul-comm (2 ^ (t - J)) (2 ^ J))) (mul-le-mul-right (2 ^ (t - J)) (le-trans lo (le-of-eq (mul-one m))));
-    most = lt-of-lt-of-le (mul-lt-mul-of-pos-right (lt-of-le-of-lt (le-of-eq (sym (mul-one m))) hi) (pow-pos (t - J))) (le-of-eq (mul-assoc 2 (2 ^ J) (2 ^ (t - J)) ∙ ap (λ (y : ℕ). 2 * y) (mul-comm (2 ^ J) (2 ^ (t - J)) ∙ split) ∙ mul-comm 2 (2 ^ t) ∙ sym (pow-add 2 t 1)));
+    most =
+        lt-of-lt-of-le (mul-lt-mul-of-pos-right (lt-of-le-of-lt (le-of-eq (sym (mul-one m))) hi) (pow-pos (t - J))) (le-of-eq
+        (mul-assoc 2 (2 ^ J) (2 ^ (t - J)) ∙ ap (λ (y : ℕ). 2 * y) (mul-comm (2 ^ J) (2 ^ (t - J)) ∙ split) ∙ mul-comm 2 (2 ^ t) ∙ sym (pow-add 2 t 1)));
   }
     where
       J : ℕ
       J = suc j
 
       J-le : J ≤ t
-      J-le = le-of-not (λ (g : t < J). not-le-of-lt (lt-of-lt-of-le small (pow-mono (let k : t + 1 ≤ J = omega arith in k))) (le-trans lo (le-of-eq (mul-one m))))
+      J-le =
+          le-of-not (λ (g : t < J). not-le-of-lt (lt-of-lt-of-le small (pow-mono (let k : t + 1 ≤ J = omega arith in k))) (le-trans lo (le-of-eq (mul-one m))))
         where
           le-of-not : (t < J → ⊥) → J ≤ t
           le-of-not f = le-of-suc-le-suc (lt-of-not-le f)
 
       split : 2 ^ (t - J) * 2 ^ J ≡ 2 ^ t
       split = sym (pow-add 2 (t - J) J) ∙ ap (λ (y : ℕ). 2 ^ y) (let k = J-le in omega arith)
-
-and-both : (p q : Bool) → (p && q) ≡ true → (p ≡ true) × (q ≡ true)
-and-both true true h = (refl, refl)
-and-both true false h = absurd (true≢false (sym h))
-and-both false q h = absurd (true≢false (sym h))
 
 fits-small : (F : Format) (s : Bool) (m : ℕ) (e : ℤ) → T (fits F (fin s m e)) → m < 2 ^ prec F
 unfolding fits
@@ -136,7 +139,8 @@ unit-whole F t P (fin u m (pos a)) f h =
     whole-up t u m a (leb-true 1 (m * 2 ^ a) (b .0)) (ltb-true (m * 2 ^ a) (2 * 1) (b .1))
 unit-whole F t P (fin u m (negsuc j)) f h =
     let b = and-both (leb (2 ^ suc j) (m * 1)) (ltb (m * 1) (2 * 2 ^ suc j)) h in
-    whole-down t u m j (subst (λ (p : ℕ). m < 2 ^ p) P (fits-small F u m (negsuc j) f)) (leb-true (2 ^ suc j) (m * 1) (b .0)) (ltb-true (m * 1) (2 * 2 ^ suc j) (b .1))
+    whole-down t u m j (subst (λ (p : ℕ). m < 2 ^ p) P (fits-small F u m (negsuc j) f)) (leb-true (2 ^ suc j) (m * 1) (b .0))
+    (ltb-true (m * 1) (2 * 2 ^ suc j) (b .1))
 
 pub moved-normal : (t : ℕ) (f : Factor) (z : ℤ) → Normalised t f → Normalised t (withExponent f z)
 moved-normal t f z N = record { least = N .least; most = N .most }
@@ -155,7 +159,8 @@ module _ (F : Format) (w t : ℕ) (P : prec F ≡ t + 1) (E : emax F ≡ bias w)
       let k = 2 ^ (bias w - 1) in
       reduced x (f .sign) (f .sig * 2 ^ c) (2 ^ t) k (pow-pos (bias w - 1))
       (subst (λ (y : ℕ). HasValue x (f .sign) y (2 ^ t * k)) (ap (λ (y : ℕ). f .sig * y) (pow-add 2 c (bias w - 1)) ∙ sym (mul-assoc (f .sig) (2 ^ c) k))
-      (subst (λ (y : ℕ). HasValue x (f .sign) (f .sig * 2 ^ (c + (bias w - 1))) y) (ap (λ (y : ℕ). 2 ^ y) (low-is F w t P E ∙ level (bias w) B) ∙ pow-add 2 t (bias w - 1))
+      (subst (λ (y : ℕ). HasValue x (f .sign) (f .sig * 2 ^ (c + (bias w - 1))) y)
+      (ap (λ (y : ℕ). 2 ^ y) (low-is F w t P E ∙ level (bias w) B) ∙ pow-add 2 t (bias w - 1))
       (floatOf-value F w t P E (withExponent f (pos c)) (moved-normal t f (pos c) N) (near-range f c h))))
     where
       level : (b : ℕ) → 0 < b → b + (t + 1) - 2 ≡ t + (b - 1)
@@ -165,13 +170,17 @@ module _ (F : Format) (w t : ℕ) (P : prec F ≡ t + 1) (E : emax F ≡ bias w)
   half-open f N = omega (arith, N .most, pow-add 2 t 1)
 
   pub unit-float : (f : Factor) → Normalised t f → inUnit (floatOf w t (withExponent f (pos 0))) ≡ true
-  unit-float f N = unit-at (f .sign) (f .sig * 2 ^ 0) (2 ^ t) (pow-pos t) (floatOf w t (withExponent f (pos 0))) (near-value f 0 (omega arith) N) (le-trans (N .least) (le-of-eq (sym (mul-one (f .sig))))) (half-open f N)
+  unit-float f N =
+      unit-at (f .sign) (f .sig * 2 ^ 0) (2 ^ t) (pow-pos t) (floatOf w t (withExponent f (pos 0))) (near-value f 0 (omega arith) N)
+      (le-trans (N .least) (le-of-eq (sym (mul-one (f .sig))))) (half-open f N)
 
   pub below-two : (f : Factor) → Normalised t f → twoOrMore (floatOf w t (withExponent f (pos 0))) ≡ false
   below-two f N = less-at (f .sign) (f .sig * 2 ^ 0) (2 ^ t) (pow-pos t) (floatOf w t (withExponent f (pos 0))) (near-value f 0 (omega arith) N) (half-open f N)
 
   pub from-two : (f : Factor) → Normalised t f → twoOrMore (floatOf w t (withExponent f (pos 1))) ≡ true
-  from-two f N = two-at (f .sign) (f .sig * 2 ^ 1) (2 ^ t) (pow-pos t) (floatOf w t (withExponent f (pos 1))) (near-value f 1 (le-refl 1) N) (le-trans (le-of-eq (mul-comm 2 (2 ^ t))) (mul-le-mul-right 2 (N .least)))
+  from-two f N =
+      two-at (f .sign) (f .sig * 2 ^ 1) (2 ^ t) (pow-pos t) (floatOf w t (withExponent f (pos 1))) (near-value f 1 (le-refl 1) N)
+      (le-trans (le-of-eq (mul-comm 2 (2 ^ t))) (mul-le-mul-right 2 (N .least)))
 
   -- there and back
   pub factor-at-float : (f : Factor) (e : ℤ) → Normalised t f → factorAt t (floatOf w t (withExponent f (pos 0))) e ≡ withExponent f e
@@ -193,7 +202,9 @@ module _ (F : Format) (w t : ℕ) (P : prec F ≡ t + 1) (E : emax F ≡ bias w)
 
     pub at-normal : (e : ℤ) → Normalised t (factorAt t x e)
     unfolding factorAt
-    at-normal e = record { least = subst (λ (y : ℕ). 2 ^ t ≤ y) (sym scaled-whole) (whole .least); most = subst (λ (y : ℕ). y < 2 ^ (t + 1)) (sym scaled-whole) (whole .most) }
+    at-normal e =
+        record
+        { least = subst (λ (y : ℕ). 2 ^ t ≤ y) (sym scaled-whole) (whole .least); most = subst (λ (y : ℕ). y < 2 ^ (t + 1)) (sym scaled-whole) (whole .most) }
 
     pub float-at : floatOf w t (factorAt t x (pos 0)) ≡ x
     unfolding factorAt

@@ -2,7 +2,8 @@
 use mathlib.Core.Path.{_≡_, refl, sym, ap, _∙_}
 use mathlib.Core.Bool.{Bool, true, false, cond}
 use Prim.Native.Nat.{ℕ, _+_, _-_, _*_, _/_, _%_, _^_, _<_}
-use native.Mathlib.Nat.{le-trans, le-of-eq, lt-of-lt-of-le, add-zero, mod-lt, mod-eq-of-lt, div-eq-of-lt, div-div-eq-div-mul, mul-comm, one-mul, div-add-mod', div-eq-of-lt-le}
+use native.Mathlib.Nat.{le-trans, le-of-eq, lt-of-lt-of-le, add-zero, mod-lt, mod-eq-of-lt, div-eq-of-lt, div-div-eq-div-mul, mul-comm, one-mul, div-add-mod'}
+use native.Mathlib.Nat.{div-eq-of-lt-le}
 use native.Mathlib.Omega.{arith}
 use lib.Pow.{pow-add, pow-pos, shl-shr}
 use lib.Bits.{bitAnd, bitOr, and-high, and-mask, and-block, or-block, or-shifted, or-zero-r}
@@ -44,7 +45,8 @@ cleared w t n =
     ∙ ap (λ (x : ℕ). n / 2 ^ t / 2 ^ w % 2 * 2 ^ w * 2 ^ t + x) (and-mask r t ∙ mod-eq-of-lt R)
 
 -- all but the exponent field, with the exponent field B put in
-pub masked-set : (w t n B : ℕ) → n < 2 ^ (w + t) * 2 → B < 2 ^ w → bitOr (bitAnd n (2 ^ w * 2 ^ t + (2 ^ t - 1))) (B * 2 ^ t) ≡ pattern w t (signField w t n) B (fraction t n)
+pub masked-set : (w t n B : ℕ) → n < 2 ^ (w + t) * 2 → B < 2 ^ w
+    → bitOr (bitAnd n (2 ^ w * 2 ^ t + (2 ^ t - 1))) (B * 2 ^ t) ≡ pattern w t (signField w t n) B (fraction t n)
 masked-set w t n B h b =
     let r = n % 2 ^ t in
     let R : r < 2 ^ t = mod-lt n (pow-pos t) in

@@ -3,7 +3,9 @@
 use mathlib.Core.Path.{_≡_, refl, sym, ap, _∙_, subst}
 use mathlib.Core.Bool.{not}
 use Prim.Native.Nat.{ℕ, zero, suc, _+_, _-_, _*_, _/_, _%_, _^_, _≤_, _<_, max, compare, Ordering, Ordering·lt, Ordering·eq, Ordering·gt}
-use native.Mathlib.Nat.{le-of-suc-le-suc, ne-of-lt, mod-lt, add-mul, suc-mul, div-add-mod', le-trans, le-of-eq, le-of-lt, le-antisymm, lt-of-lt-of-le, lt-of-not-le, not-le-of-lt, mul-one, one-mul, mul-comm, mul-assoc, mul-pos, mul-le-mul-right, mul-lt-mul-of-pos-right, div-one, mod-one, le-div-iff-mul-le, div-lt-iff-lt-mul}
+use native.Mathlib.Nat.{le-of-suc-le-suc, ne-of-lt, mod-lt, add-mul, suc-mul, div-add-mod', le-trans, le-of-eq, le-of-lt, le-antisymm, lt-of-lt-of-le}
+use native.Mathlib.Nat.{lt-of-not-le, not-le-of-lt, mul-one, one-mul, mul-comm, mul-assoc, mul-pos, mul-le-mul-right, mul-lt-mul-of-pos-right, div-one, mod-one}
+use native.Mathlib.Nat.{le-div-iff-mul-le, div-lt-iff-lt-mul}
 use native.Mathlib.Omega.{arith}
 use lib.Dec.{T, eqb, isLe, isEq, leb→le, nleb→lt, eqb→eq, eqb-refl}
 use lib.Arith.{lt-of-le-ne}
@@ -94,8 +96,11 @@ pub closest-half : (n u q : ℕ) → 0 < u → closest n u ≡ q * 2 → n ≤ q
 closest-half n u q U e h =
     let v = u * 2 in
     let W : 0 < v = mul-pos U (pow-pos 1) in
-    let hi : closest n v ≤ q = le-trans (closest-mono n v (q * v) v W W (mul-le-mul-right v (le-trans h (le-of-eq (mul-assoc q 2 u ∙ ap (λ (x : ℕ). q * x) (mul-comm 2 u)))))) (le-of-eq (closest-exact q v W)) in
-    le-antisymm hi (le-of-not-lt (closest n v) q (λ (k : closest n v < q). clash (closest n v) k (subst (λ (x : ℕ). x * u * 2 ≤ n * 2 + u) e (closest-above n u U)) (closest-below n v W)))
+    let hi : closest n v ≤ q = le-trans (closest-mono n v (q * v) v W W
+    (mul-le-mul-right v (le-trans h (le-of-eq (mul-assoc q 2 u ∙ ap (λ (x : ℕ). q * x) (mul-comm 2 u))))))
+    (le-of-eq (closest-exact q v W)) in
+    le-antisymm hi (le-of-not-lt (closest n v) q
+    (λ (k : closest n v < q). clash (closest n v) k (subst (λ (x : ℕ). x * u * 2 ≤ n * 2 + u) e (closest-above n u U)) (closest-below n v W)))
   where
     le-of-not-lt : (x y : ℕ) → (x < y → ⊥) → y ≤ x
     le-of-not-lt x y f = le-of-suc-le-suc (lt-of-not-le (λ (g : suc x ≤ y). f g))
@@ -112,7 +117,8 @@ pub significand-le-max : (p c j : ℕ) → closest c (2 ^ max (size c - p) j) �
 significand-le-max p c j =
     let k = max (size c - p) j in
     le-trans
-    (closest-mono c (2 ^ k) c (2 ^ (size c - p)) (pow-pos k) (pow-pos (size c - p)) (le-trans (le-of-eq (mul-comm c (2 ^ (size c - p)))) (le-trans (mul-le-mul-right c (pow-mono (omega arith))) (le-of-eq (mul-comm (2 ^ k) c)))))
+    (closest-mono c (2 ^ k) c (2 ^ (size c - p)) (pow-pos k) (pow-pos (size c - p))
+    (le-trans (le-of-eq (mul-comm c (2 ^ (size c - p)))) (le-trans (mul-le-mul-right c (pow-mono (omega arith))) (le-of-eq (mul-comm (2 ^ k) c)))))
     (significand-le p c)
 
 -- ---- the digits of a number: `size` is the only z with n < 2 ^ z and 2 ^ (z - 1) ≤ n
@@ -134,7 +140,8 @@ size-shl c j Z =
 pub size-shr : (c j : ℕ) → size (c / 2 ^ j) ≡ size c - j
 size-shr c j =
     le-antisymm
-    (size-le (c / 2 ^ j) (size c - j) (div-lt-iff-lt-mul (pow-pos j) .1 (lt-of-lt-of-le (size-lt c) (le-trans (pow-mono (reach (size c) j)) (le-of-eq (pow-add 2 (size c - j) j))))))
+    (size-le (c / 2 ^ j) (size c - j)
+    (div-lt-iff-lt-mul (pow-pos j) .1 (lt-of-lt-of-le (size-lt c) (le-trans (pow-mono (reach (size c) j)) (le-of-eq (pow-add 2 (size c - j) j))))))
     (at-least (size c - j) refl)
   where
     reach : (z j : ℕ) → z ≤ z - j + j
@@ -142,4 +149,5 @@ size-shr c j =
 
     at-least : (y : ℕ) → size c - j ≡ y → y ≤ size (c / 2 ^ j)
     at-least zero e = omega arith
-    at-least (suc y) e = size-gt (c / 2 ^ j) y (le-div-iff-mul-le (pow-pos j) .1 (le-trans (le-of-eq (sym (pow-add 2 y j))) (size-reaches c (y + j) (omega arith))))
+    at-least (suc y) e =
+        size-gt (c / 2 ^ j) y (le-div-iff-mul-le (pow-pos j) .1 (le-trans (le-of-eq (sym (pow-add 2 y j))) (size-reaches c (y + j) (omega arith))))

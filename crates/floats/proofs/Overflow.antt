@@ -23,8 +23,9 @@ unfolding delivered
 delivered-over p em s n j h = ap (λ (t : Bool). cond t (odd (suc p) s n j (unitPlaces p em)) (inf s)) (le-ltb (n * 2 ^ j) (2 ^ (unitPlaces p em + suc em)) h)
 
 -- a significand of t + 1 digits, at a place of twice the largest exponent or more
-over : (t em S j : ℕ) → 0 < em → 2 ^ t ≤ S → 2 * em ≤ j → 2 ^ (unitPlaces (t + 1) em + suc em) ≤ S * 2 ^ j
-over t em S j e h k = le-trans (pow-mono (let l : unitPlaces (t + 1) em + suc em ≤ t + j = omega arith in l)) (le-trans (le-of-eq (pow-add 2 t j)) (mul-le-mul-right (2 ^ j) h))
+past-range : (t em S j : ℕ) → 0 < em → 2 ^ t ≤ S → 2 * em ≤ j → 2 ^ (unitPlaces (t + 1) em + suc em) ≤ S * 2 ^ j
+past-range t em S j e h k =
+    le-trans (pow-mono (let l : unitPlaces (t + 1) em + suc em ≤ t + j = omega arith in l)) (le-trans (le-of-eq (pow-add 2 t j)) (mul-le-mul-right (2 ^ j) h))
 
 -- ---- an exponent above 1023: its place, the float of its factor, the product
 place-above : (e : ℤ) → ltZ (pos 1023) e ≡ true → (j : ℕ) × (e +ℤ pos 1022 ≡ pos j) × (2046 ≤ j)
@@ -34,7 +35,7 @@ place-above (negsuc n) h = absurd (true≢false (sym h))
 pub float-above : (f : Factor) → Normalised 52 f → ltZ (pos 1023) (f .exp) ≡ true → floatOf 11 52 f ≡ inf (f .sign)
 float-above f N h =
     let p = place-above (f .exp) h in
-    floatOf-is 11 52 f (p .0) N (p .1) ∙ delivered-over 53 1023 (f .sign) (f .sig) (p .0) (over 52 1023 (f .sig) (p .0) (lit< tt) (N .least) (p .2))
+    floatOf-is 11 52 f (p .0) N (p .1) ∙ delivered-over 53 1023 (f .sign) (f .sig) (p .0) (past-range 52 1023 (f .sig) (p .0) (lit< tt) (N .least) (p .2))
 
 pub product-above : (f g : Factor) → Normalised 52 f → Normalised 52 g → NormalExponent 11 f → NormalExponent 11 g → ltZ (pos 1023) (times 52 f g .exp) ≡ true
     → productOf 11 52 (floatOf 11 52 f) (floatOf 11 52 g) ≡ inf (times 52 f g .sign)

@@ -13,18 +13,22 @@ use lib.Ieee.Fits.{down-pos}
 pub up-sub : (a b : ℕ) → up (subℕ a b) * 2 ^ b ≡ 2 ^ a * down (subℕ a b)
 up-sub a b = go (ltb a b) (ltb→lt a b) (nltb→le a b)
   where
-    go : (t : Bool) → (T t → a < b) → (T (not t) → b ≤ a) → up (cond t (negsuc (b - suc a)) (pos (a - b))) * 2 ^ b ≡ 2 ^ a * down (cond t (negsuc (b - suc a)) (pos (a - b)))
+    go : (t : Bool) → (T t → a < b) → (T (not t) → b ≤ a)
+        → up (cond t (negsuc (b - suc a)) (pos (a - b))) * 2 ^ b ≡ 2 ^ a * down (cond t (negsuc (b - suc a)) (pos (a - b)))
     go true h k = one-mul (2 ^ b) ∙ ap (λ (x : ℕ). 2 ^ x) (let l : a < b = h tt in omega arith) ∙ pow-add 2 a (suc (b - suc a))
     go false h k = sym (pow-add 2 (a - b) b) ∙ ap (λ (x : ℕ). 2 ^ x) (let l : b ≤ a = k tt in omega arith) ∙ sym (mul-one (2 ^ a))
 
 pub up-add : (a b : ℤ) → up (a +ℤ b) * (down a * down b) ≡ up a * up b * down (a +ℤ b)
 up-add (pos a) (pos b) = ap (λ (x : ℕ). x * (1 * 1)) (pow-add 2 a b)
-up-add (pos a) (negsuc b) = ap (λ (x : ℕ). up (subℕ a (suc b)) * x) (one-mul (2 ^ suc b)) ∙ up-sub a (suc b) ∙ ap (λ (x : ℕ). x * down (subℕ a (suc b))) (sym (mul-one (2 ^ a)))
-up-add (negsuc a) (pos b) = ap (λ (x : ℕ). up (subℕ b (suc a)) * x) (mul-one (2 ^ suc a)) ∙ up-sub b (suc a) ∙ ap (λ (x : ℕ). x * down (subℕ b (suc a))) (sym (one-mul (2 ^ b)))
+up-add (pos a) (negsuc b) =
+    ap (λ (x : ℕ). up (subℕ a (suc b)) * x) (one-mul (2 ^ suc b)) ∙ up-sub a (suc b) ∙ ap (λ (x : ℕ). x * down (subℕ a (suc b))) (sym (mul-one (2 ^ a)))
+up-add (negsuc a) (pos b) =
+    ap (λ (x : ℕ). up (subℕ b (suc a)) * x) (mul-one (2 ^ suc a)) ∙ up-sub b (suc a) ∙ ap (λ (x : ℕ). x * down (subℕ b (suc a))) (sym (one-mul (2 ^ b)))
 up-add (negsuc a) (negsuc b) = ap (λ (x : ℕ). 1 * x) (sym (pow-add 2 (suc a) (suc b)) ∙ ap (λ (x : ℕ). 2 ^ x) (omega arith))
 
 -- a product of two numbers m × 2^e and n × 2^d, in units of 2^-l
-regroup : (m n ue ud de dd ug dg uz dz l : ℕ) → 0 < dg → uz * dg ≡ ug * l * dz → ug * (de * dd) ≡ ue * ud * dg → m * ue * (n * ud) * l * dz ≡ m * n * uz * (de * dd)
+regroup : (m n ue ud de dd ug dg uz dz l : ℕ) → 0 < dg → uz * dg ≡ ug * l * dz → ug * (de * dd) ≡ ue * ud * dg
+    → m * ue * (n * ud) * l * dz ≡ m * n * uz * (de * dd)
 regroup m n ue ud de dd ug dg uz dz l G one two =
     let a : m * ue * (n * ud) * l * dz * dg ≡ m * n * l * dz * (ue * ud * dg) = simp (mul-assoc, mul-comm, mul-left-comm) in
     let b : m * n * l * dz * (ug * (de * dd)) ≡ m * n * (de * dd) * (ug * l * dz) = simp (mul-assoc, mul-comm, mul-left-comm) in

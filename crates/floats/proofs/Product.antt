@@ -17,21 +17,22 @@ signs-is true false = refl
 signs-is false true = refl
 signs-is false false = refl
 
-infinity-is : (a b : Bool) (n : ℕ) → cond (eqb n 0) nan (inf (unlike a b)) ≡ infinityTimes (signs a b) n
-infinity-is a b zero = refl
-infinity-is a b (suc n) = ap (λ (t : Bool). cond t nan (inf (unlike a b))) (eqb·suc-zero n) ∙ ap inf (signs-is a b)
+infinity-times : (a b : Bool) (n : ℕ) → cond (eqb n 0) nan (inf (unlike a b)) ≡ infinityTimes (signs a b) n
+infinity-times a b zero = refl
+infinity-times a b (suc n) = ap (λ (t : Bool). cond t nan (inf (unlike a b))) (eqb·suc-zero n) ∙ ap inf (signs-is a b)
 
 pub mul-product : (f : Format) (x y : Float) → mul f x y ≡ product (prec f) (emax f) x y
 unfolding mul product
 mul-product f nan y = refl
 mul-product f (inf a) nan = refl
 mul-product f (inf a) (inf b) = ap inf (signs-is a b)
-mul-product f (inf a) (fin b n d) = infinity-is a b n
+mul-product f (inf a) (fin b n d) = infinity-times a b n
 mul-product f (fin a m e) nan = refl
-mul-product f (fin a m e) (inf b) = infinity-is a b m
+mul-product f (fin a m e) (inf b) = infinity-times a b m
 mul-product f (fin a m e) (fin b n d) =
     ap (λ (s : Bool). round f s (m * up e * (n * up d)) (down e * down d)) (signs-is a b)
-    ∙ round-rounded f (signs a b) (m * up e * (n * up d)) (down e * down d) (m * n) (e +ℤ d +ℤ pos (low f)) (mul-pos (down-pos e) (down-pos d)) (product-units m n e d (low f))
+    ∙ round-rounded f (signs a b) (m * up e * (n * up d)) (down e * down d) (m * n) (e +ℤ d +ℤ pos (low f)) (mul-pos (down-pos e) (down-pos d))
+    (product-units m n e d (low f))
 
 -- for all values of the format, f64's `*` is the standard's product
 pub mul-binary64 : (x y : Float) → mul binary64 x y ≡ productOf 11 52 x y

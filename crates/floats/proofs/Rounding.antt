@@ -4,7 +4,8 @@ use mathlib.Core.Path.{_≡_, refl, sym, ap, _∙_, subst}
 use mathlib.Core.Bool.{Bool, true, false, cond}
 use mathlib.Core.Logic.{_⊎_, inl, inr, ⊎-elim}
 use Prim.Native.Nat.{ℕ, suc, _+_, _-_, _*_, _/_, _%_, _^_, _≤_, _<_, max, compare}
-use native.Mathlib.Nat.{le-refl, le-trans, lt-of-le-of-lt, lt-of-lt-of-le, mul-one, mul-comm, mul-assoc, mul-right-comm, mul-pos, mul-div-cancel, div-div-eq-div-mul}
+use native.Mathlib.Nat.{le-refl, le-trans, lt-of-le-of-lt, lt-of-lt-of-le, mul-one, mul-comm, mul-assoc, mul-right-comm, mul-pos, mul-div-cancel}
+use native.Mathlib.Nat.{div-div-eq-div-mul}
 use native.Mathlib.Omega.{arith}
 use lib.IntN.{ℤ, pos, negsuc}
 use lib.Dec.{T, ltb, ltb→lt}
@@ -33,7 +34,8 @@ units-same f s q k r j a b e =
     let o = 2 ^ (low f + suc (emax f)) in
     go (ltb (q * 2 ^ k) o) (ltb→lt (q * 2 ^ k) o) ∙ ap (λ (x : ℕ). cond (ltb x o) (odd (suc (prec f)) s r j (low f)) (inf s)) e
   where
-    go : (t : Bool) → (T t → q * 2 ^ k < 2 ^ (low f + suc (emax f))) → cond t (odd (suc (prec f)) s q k (low f)) (inf s) ≡ cond t (odd (suc (prec f)) s r j (low f)) (inf s)
+    go : (t : Bool) → (T t → q * 2 ^ k < 2 ^ (low f + suc (emax f)))
+        → cond t (odd (suc (prec f)) s q k (low f)) (inf s) ≡ cond t (odd (suc (prec f)) s r j (low f)) (inf s)
     go true h =
         value-unique f (odd (suc (prec f)) s q k (low f)) (odd (suc (prec f)) s r j (low f)) s (q * 2 ^ k) (2 ^ low f) (pow-pos (low f))
         (odd-fits f (suc (prec f)) s q k (below-next (prec f) q a) a (h tt))
@@ -66,10 +68,16 @@ module _ (p c j n den : ℕ) (D : 0 < den) (P : 0 < p) (e : n ≡ c * 2 ^ j * de
   whole-few h =
       let k = size (n / den) - p in
       let z : size c - p ≡ 0 = omega arith in
-      let most : size (n / den) ≤ size c + j = subst (λ (x : ℕ). size x ≤ size c + j) (sym whole) (size-le (c * 2 ^ j) (size c + j) (shl-lt (size c) j (size-lt c))) in
+      let most : size (n / den) ≤ size c + j = subst (λ (x : ℕ). size x ≤ size c + j) (sym whole)
+      (size-le (c * 2 ^ j) (size c + j) (shl-lt (size c) j (size-lt c))) in
       let k-le : k + (j - k) ≡ j = omega arith in
-      let x : c * 2 ^ (j - k) * 2 ^ k ≡ c * 2 ^ j = mul-assoc c (2 ^ (j - k)) (2 ^ k) ∙ ap (λ (y : ℕ). c * y) (mul-comm (2 ^ (j - k)) (2 ^ k) ∙ sym (pow-add 2 k (j - k)) ∙ ap (λ (y : ℕ). 2 ^ y) k-le) in
-      let n-is : n ≡ c * 2 ^ (j - k) * (den * 2 ^ k) = e ∙ ap (λ (y : ℕ). y * den) (sym x) ∙ mul-assoc (c * 2 ^ (j - k)) (2 ^ k) den ∙ ap (λ (y : ℕ). c * 2 ^ (j - k) * y) (mul-comm (2 ^ k) den) in
+      let x : c * 2 ^ (j - k) * 2 ^ k ≡ c * 2 ^ j = mul-assoc c (2 ^ (j - k)) (2 ^ k)
+      ∙ ap (λ (y : ℕ). c * y)
+      (mul-comm (2 ^ (j - k)) (2 ^ k) ∙ sym (pow-add 2 k (j - k)) ∙ ap (λ (y : ℕ). 2 ^ y) k-le) in
+      let n-is : n ≡ c * 2 ^ (j - k) * (den * 2 ^ k) = e
+      ∙ ap (λ (y : ℕ). y * den) (sym x)
+      ∙ mul-assoc (c * 2 ^ (j - k)) (2 ^ k) den
+      ∙ ap (λ (y : ℕ). c * 2 ^ (j - k) * y) (mul-comm (2 ^ k) den) in
       ap (λ (y : ℕ). closest y (den * 2 ^ k) * 2 ^ k) n-is
       ∙ ap (λ (y : ℕ). y * 2 ^ k) (closest-exact (c * 2 ^ (j - k)) (den * 2 ^ k) (mul-pos D (pow-pos k)))
       ∙ x
@@ -114,7 +122,8 @@ delivered-ties : (f : Format) (s : Bool) (c k j : ℕ) → delivered (prec f) (e
 delivered-ties f s c k j = delivered-is f s (tiesToEven c (2 ^ k)) j ∙ ap (λ (x : ℕ). units f s x j) (ties-is c (2 ^ k))
 
 -- num / den is c × 2^z units
-pub round-rounded : (f : Format) (s : Bool) (num den c : ℕ) (z : ℤ) → 0 < den → num * 2 ^ low f * down z ≡ c * up z * den → round f s num den ≡ rounded (prec f) (emax f) s c z
+pub round-rounded : (f : Format) (s : Bool) (num den c : ℕ) (z : ℤ) → 0 < den → num * 2 ^ low f * down z ≡ c * up z * den
+    → round f s num den ≡ rounded (prec f) (emax f) s c z
 unfolding rounded
 round-rounded f s num den c (pos j) D e =
     let p = prec f in
@@ -133,15 +142,18 @@ round-rounded f s num den c (negsuc j) D e =
     let k = max (size c - p) (suc j) in
     let e' : n * 2 ^ suc j ≡ c * den = e ∙ ap (λ (x : ℕ). x * den) (mul-one c) in
     round-is f s num den
-    ∙ units-same f s (closest n (den * 2 ^ d)) d (closest c (2 ^ k)) (k - suc j) (kept-fraction p n den) (significand-le-max p c (suc j)) (part p c (suc j) n den D e')
+    ∙ units-same f s (closest n (den * 2 ^ d)) d (closest c (2 ^ k)) (k - suc j) (kept-fraction p n den) (significand-le-max p c (suc j))
+    (part p c (suc j) n den D e')
     ∙ sym (delivered-ties f s c k (k - suc j))
 
 -- two ways of writing one value round alike
-pub rounded-same : (f : Format) (s : Bool) (c c' : ℕ) (z z' : ℤ) → c * up z * down z' ≡ c' * up z' * down z → rounded (prec f) (emax f) s c z ≡ rounded (prec f) (emax f) s c' z'
+pub rounded-same : (f : Format) (s : Bool) (c c' : ℕ) (z z' : ℤ) → c * up z * down z' ≡ c' * up z' * down z
+    → rounded (prec f) (emax f) s c z ≡ rounded (prec f) (emax f) s c' z'
 rounded-same f s c c' z z' e =
     let l = 2 ^ low f in
     let num = c * up z in
     let den = l * down z in
     let D : 0 < den = mul-pos (pow-pos (low f)) (down-pos z) in
     sym (round-rounded f s num den c z D (mul-assoc num l (down z)))
-    ∙ round-rounded f s num den c' z' D (mul-right-comm num l (down z') ∙ ap (λ (x : ℕ). x * l) e ∙ mul-assoc (c' * up z') (down z) l ∙ ap (λ (x : ℕ). c' * up z' * x) (mul-comm (down z) l))
+    ∙ round-rounded f s num den c' z' D
+    (mul-right-comm num l (down z') ∙ ap (λ (x : ℕ). x * l) e ∙ mul-assoc (c' * up z') (down z) l ∙ ap (λ (x : ℕ). c' * up z' * x) (mul-comm (down z) l))

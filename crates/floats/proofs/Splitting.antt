@@ -22,7 +22,8 @@ use Rattle.floats.specs.Factor.{Factor, Normalised, NormalExponent, floa
 use Rattle.floats.specs.Fields.{signField, expField, fraction, pattern, valueOf, factorOf}
 use Rattle.floats.specs.Magnitude.{inUnit, factorAt, withExponent}
 use Rattle.floats.specs.Splitting.{bitsOf, isBad, rateFactor, split}
-use Rattle.floats.proofs.Fields.{value-is, factor-normal, factor-range, float-of-factor, factor-of-float, float-not-bad, pattern-value, exp-is, field-lt, fraction-lt}
+use Rattle.floats.proofs.Fields.{value-is, factor-normal, factor-range, float-of-factor, factor-of-float, float-not-bad, pattern-value, exp-is, field-lt}
+use Rattle.floats.proofs.Fields.{fraction-lt}
 use Rattle.floats.proofs.Bridge.{floatOf-is}
 use Rattle.floats.proofs.Magnitude.{moved-normal, unit-float, factor-at-float}
 use Rattle.floats.proofs.Masks.{masked-field, masked-set}
@@ -132,15 +133,18 @@ module _ (b : ℕ) where
     mantissa-is : ofBits binary64 set ≡ valueOf 11 52 (pattern 11 52 (signField 11 52 b) 1023 (fraction 52 b))
     mantissa-is = ap (ofBits binary64) set-is ∙ value-is binary64 11 52 refl refl (lit< tt) (pattern 11 52 (signField 11 52 b) 1023 (fraction 52 b)) (lit< tt)
 
-split-same : (m m' : Float) (e e' : ℤ) (q q' : Bool) → m ≡ m' → e ≡ e' → q ≡ q' → _≡_ {A = Split} (record { m = m; e = e; bad = q }) (record { m = m'; e = e'; bad = q' })
+split-same : (m m' : Float) (e e' : ℤ) (q q' : Bool) → m ≡ m' → e ≡ e' → q ≡ q'
+    → _≡_ {A = Split} (record { m = m; e = e; bad = q }) (record { m = m'; e = e'; bad = q' })
 split-same m m' e e' q q' a b c = cc
 
 pub split-is : (x : Float) (f : T (fits binary64 x)) (q : Bool) → q ≡ isBad x
-    → _≡_ {A = Split} (record { m = ofBits binary64 (set (bitsOf x) (bits-lt x f)); e = toZ w64 (ofZ w64 (toZ w64 (raw (bitsOf x)) -ℤ pos 1023)); bad = q }) (split x)
+    → _≡_ {A = Split} (record { m = ofBits binary64 (set (bitsOf x) (bits-lt x f)); e = toZ w64 (ofZ w64 (toZ w64 (raw (bitsOf x)) -ℤ pos 1023)); bad = q })
+    (split x)
 unfolding split
 split-is x f q h =
     let b = bitsOf x in
-    split-same (ofBits binary64 (set b (bits-lt x f))) (valueOf 11 52 (pattern 11 52 (signField 11 52 b) 1023 (fraction 52 b))) (toZ w64 (ofZ w64 (toZ w64 (raw b) -ℤ pos 1023))) (pos (expField 11 52 b) -ℤ pos 1023) q (isBad x)
+    split-same (ofBits binary64 (set b (bits-lt x f))) (valueOf 11 52 (pattern 11 52 (signField 11 52 b) 1023 (fraction 52 b)))
+    (toZ w64 (ofZ w64 (toZ w64 (raw b) -ℤ pos 1023))) (pos (expField 11 52 b) -ℤ pos 1023) q (isBad x)
     (mantissa-is b (bits-lt x f)) (exponent-is b) h
 
 -- the mark, by the two ways of the code's test

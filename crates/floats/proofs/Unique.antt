@@ -25,12 +25,14 @@ bits-are : (f : Format) (s : Bool) (m : ℕ) (e : ℤ) → toBits f (fin s m e) 
 unfolding toBits pattern
 bits-are f s m e = refl
 
-units-same : (f : Format) (m n : ℕ) (e d : ℤ) (a c : ℕ) → 0 < c → m * up e * c ≡ a * down e → n * up d * c ≡ a * down d
+fraction-units : (f : Format) (m n : ℕ) (e d : ℤ) (a c : ℕ) → 0 < c → m * up e * c ≡ a * down e → n * up d * c ≡ a * down d
     → m * up e * 2 ^ low f / down e ≡ n * up d * 2 ^ low f / down d
-units-same f m n e d a c C p q =
+fraction-units f m n e d a c C p q =
     let l = 2 ^ low f in
     div-same (m * up e * l) (down e) (n * up d * l) (down d) (down-pos e) (down-pos d)
-    (mul-right-comm (m * up e) l (down d) ∙ ap (λ (z : ℕ). z * l) (cross (m * up e) (n * up d) (down e) (down d) a c C p q) ∙ mul-right-comm (n * up d) (down e) l)
+    (mul-right-comm (m * up e) l (down d)
+    ∙ ap (λ (z : ℕ). z * l) (cross (m * up e) (n * up d) (down e) (down d) a c C p q)
+    ∙ mul-right-comm (n * up d) (down e) l)
 
 pub value-unique : (f : Format) (x y : Float) (s : Bool) (a c : ℕ) → 0 < c → T (fits f x) → T (fits f y) → HasValue x s a c → HasValue y s a c → x ≡ y
 value-unique f nan y s a c C p q h k = absurd h
@@ -42,6 +44,6 @@ value-unique f (fin t m e) (fin u n d) s a c C p q h k =
     ∙ ap (ofBits f)
     (bits-are f t m e
     ∙ ap (λ (b : Bool). pattern f b (m * up e * 2 ^ low f / down e)) (h .0 ∙ sym (k .0))
-    ∙ ap (pattern f u) (units-same f m n e d a c C (h .1) (k .1))
+    ∙ ap (pattern f u) (fraction-units f m n e d a c C (h .1) (k .1))
     ∙ sym (bits-are f u n d))
     ∙ ofBits-toBits f (fin u n d) q

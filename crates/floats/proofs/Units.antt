@@ -29,14 +29,16 @@ half-range : NormalExponent 11 half
 half-range = record { place = 1021; above = refl; below = lit< tt }
 
 -- half of the float of f at the exponent 1 is the float at 0
-pub halved : (f : Factor) → Normalised 52 f → productOf 11 52 (floatOf 11 52 (withExponent f (pos 1))) (fin false 1 (negsuc 0)) ≡ floatOf 11 52 (withExponent f (pos 0))
+pub halved : (f : Factor) → Normalised 52 f
+    → productOf 11 52 (floatOf 11 52 (withExponent f (pos 1))) (fin false 1 (negsuc 0)) ≡ floatOf 11 52 (withExponent f (pos 0))
 halved f N =
     let g = withExponent f (pos 1) in
     let G = moved-normal 52 f (pos 1) N in
     let p = times-power 52 g (negsuc 0) G in
     ap (productOf 11 52 (floatOf 11 52 g)) half-is
     ∙ sym (mul-binary64 (floatOf 11 52 g) (floatOf 11 52 half))
-    ∙ mul-times binary64 11 52 refl refl g half G half-normal (near-range binary64 11 52 refl refl (lit< tt) f 1 (le-refl 1)) half-range 1022 (ap (λ (h : Factor). h .exp +ℤ pos 1022) p)
+    ∙ mul-times binary64 11 52 refl refl g half G half-normal (near-range binary64 11 52 refl refl (lit< tt) f 1 (le-refl 1)) half-range 1022
+    (ap (λ (h : Factor). h .exp +ℤ pos 1022) p)
     ∙ ap (floatOf 11 52) p
 
 module _ (x y : Float) (fx : T (fits binary64 x)) (fy : T (fits binary64 y)) (ux : inUnit x ≡ true) (uy : inUnit y ≡ true) where

@@ -1,7 +1,8 @@
--- A way to linear goals over ℤ. `omega` reads ℕ alone, so a goal over ℤ is turned into one over ℕ: every integer is the difference of two naturals, sums and products of differences are differences, and an order of differences is an order of sums.
+-- A way to linear goals over ℤ. `omega` reads ℕ alone, so a goal over ℤ is turned into one over ℕ: every integer is the difference of two naturals, sums and
+-- products of differences are differences, and an order of differences is an order of sums.
 --     simp ints (simp atoms (omega arith))
--- proves a goal `h → .. → g` in which each of h and g is an equation, an order or a fit over ℤ. `ints` marks each side and pushes the marks down to the atoms, `atoms` opens each atom as its positive less its negative part.
--- Assumes nothing.
+-- proves a goal `h → .. → g` in which each of h and g is an equation, an order or a fit over ℤ. `ints` marks each side and pushes the marks down to the atoms,
+-- `atoms` opens each atom as its positive less its negative part. Assumes nothing.
 use Prim.Native.Nat.{ℕ, zero, suc, _+_, _*_, _-_, _^_, _≤_, _<_}
 use mathlib.Core.Path.{_≡_, refl, sym, _∙_, ap, subst}
 use mathlib.Core.Bool.{Bool, true, false, not}
@@ -10,9 +11,9 @@ use native.Mathlib.Omega.{arith}
 use native.Mathlib.Decide.{decLe}
 use native.Mathlib.Nat.{le-antisymm}
 use lib.Dec.{T, ltb, leb}
-use lib.IntN.{ℤ, pos, negsuc, subℕ, negℤ, _+ℤ_, _-ℤ_, _*ℤ_, natAbs}
-use lib.Signed.{leZ, ltZ, mag, nonNeg, _≤ℤ_, _<ℤ_}
-use mir.Val.{SFits, hbits}
+use lib.IntN.{ℤ, pos, negsuc, subℕ, negℤ, _+ℤ_, _*ℤ_}
+use lib.Signed.{leZ, ltZ, mag, _≤ℤ_, _<ℤ_}
+use mir.Val.{SFits}
 use mir.Syntax.{w64}
 use borrow.Author.Tests.{lt-ltb, le-ltb, ltb-true, ltb-false, leb-true, leb-false, le-leb, lt-leb, not-true, not-false}
 

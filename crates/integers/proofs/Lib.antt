@@ -1,2 +1,3 @@
 pub mod Difference
 pub mod Machine
+pub mod Places

@@ -1,14 +1,14 @@
 -- What the machine's steps on i64 ask and give, over plain integers.
 -- Assumes nothing.
-use Prim.Native.Nat.{ℕ, zero, suc, _+_, _*_, _-_, _/_, _^_, _≤_, _<_}
+use Prim.Native.Nat.{ℕ, suc, _+_, _*_, _-_, _/_, _^_, _≤_, _<_}
 use mathlib.Core.Path.{_≡_, refl, sym, _∙_, ap, subst}
 use mathlib.Core.Bool.{Bool, true, false}
 use native.Mathlib.Omega.{arith}
-use native.Mathlib.Nat.{le-div-iff-mul-le, div-lt-iff-lt-mul}
-use lib.Dec.{T, ltb, leb}
+use native.Mathlib.Nat.{le-div-iff-mul-le, div-lt-iff-lt-mul, not-suc-le-zero}
+use lib.Dec.{T, ltb}
 use lib.IntN.{ℤ, pos, negsuc, negℤ, _+ℤ_, _-ℤ_, _*ℤ_, natAbs, +ℤ-idl}
-use lib.Signed.{leZ, ltZ, mag, nonNeg, _≤ℤ_, _<ℤ_}
-use mir.Val.{Fits, SFits, toZ, ofZ}
+use lib.Signed.{ltZ, mag}
+use mir.Val.{SFits, toZ, ofZ}
 use mir.Facts.{toZ-ofZ}
 use mir.Syntax.{w64}
 use borrow.Author.Tests.{lt-ltb, le-ltb, ltb-true, ltb-false, eq-eqb, eqb-true}
@@ -26,10 +26,7 @@ pub turned-fits : (x : ℤ) → SFits w64 x → ltZ x (pos 0) ≡ true → SFits
 turned-fits x = simp ints (simp atoms (omega arith))
 
 pub turned : (x : ℤ) → ltZ x (pos 0) ≡ true → pos 0 -ℤ (x +ℤ pos 1) ≡ pos (natAbs x - 1)
-turned (pos n) e = absurd (below-zero n (ltb-true n 0 e))
-  where
-    below-zero : (n : ℕ) → n < 0 → ⊥
-    below-zero n h = omega arith
+turned (pos n) e = absurd (not-suc-le-zero (ltb-true n 0 e))
 turned (negsuc n) e = let h : suc n - 1 ≡ n = omega arith in rw h (simp ints (simp atoms (omega arith)))
 
 pub natAbs-pos : (x : ℤ) → ltZ x (pos 0) ≡ true → natAbs x - 1 + 1 ≡ natAbs x
@@ -64,36 +61,33 @@ narrowI64-no z f = ap (λ (b : Bool). keepI b z) (le-ltb (mag z) (2 ^ 63) (over 
     over : (mag z < 2 ^ 63 → ⊥) → 2 ^ 63 ≤ mag z
     over n = omega arith
 
-pub product-over : (a b : ℕ) → 0 < b → 18446744073709551615 / b < a → 2 ^ 64 ≤ a * b
+pub product-over : (a b : ℕ) → 0 < b → (2 ^ 64 - 1) / b < a → 2 ^ 64 ≤ a * b
 product-over a b h k = let l = div-lt-iff-lt-mul h .0 k in omega arith
 
-pub product-fits : (a b : ℕ) → 0 < b → a ≤ 18446744073709551615 / b → a * b < 2 ^ 64
-product-fits a b h k = let l = le-div-iff-mul-le h .0 k in omega arith
+pub product-fits-u64 : (a b : ℕ) → 0 < b → a ≤ (2 ^ 64 - 1) / b → a * b < 2 ^ 64
+product-fits-u64 a b h k = let l = le-div-iff-mul-le h .0 k in omega arith
 
 -- the product's sign and magnitude
 pub times-neg : (a : ℤ) (n : ℕ) → ltZ a (pos 0) ≡ true → a *ℤ pos n ≡ pos 0 -ℤ pos (natAbs a * n)
-times-neg (pos k) n e = absurd (below-zero k (ltb-true k 0 e))
-  where
-    below-zero : (n : ℕ) → n < 0 → ⊥
-    below-zero n h = omega arith
+times-neg (pos k) n e = absurd (not-suc-le-zero (ltb-true k 0 e))
 times-neg (negsuc k) n e = sym (+ℤ-idl (negℤ (pos (suc k * n))))
 
 pub times-pos : (a : ℤ) (n : ℕ) → ltZ a (pos 0) ≡ false → a *ℤ pos n ≡ pos (natAbs a * n)
 times-pos (pos k) n e = refl
 times-pos (negsuc k) n e = cc
 
-pub neg-fits : (p : ℕ) → p ≤ 2 ^ 63 → SFits w64 (pos 0 -ℤ pos p)
-neg-fits p h = simp ints (simp atoms (omega arith))
+pub negated-fits : (p : ℕ) → p ≤ 2 ^ 63 → SFits w64 (pos 0 -ℤ pos p)
+negated-fits p h = simp ints (simp atoms (omega arith))
 
-pub neg-fits-only : (p : ℕ) → SFits w64 (pos 0 -ℤ pos p) → p ≤ 2 ^ 63
-neg-fits-only p = simp ints (simp atoms (omega arith))
+pub negated-fits-only : (p : ℕ) → SFits w64 (pos 0 -ℤ pos p) → p ≤ 2 ^ 63
+negated-fits-only p = simp ints (simp atoms (omega arith))
 
 pub pos-fits : (p : ℕ) → p < 2 ^ 63 → SFits w64 (pos p)
 pos-fits p h = record { sfits = h }
 
 -- a number's opposite fits unless the number is the least
 pub opposite-fits : (x : ℤ) → SFits w64 x → (natAbs x ≡ 2 ^ 63 → ⊥) → SFits w64 (pos 0 -ℤ x)
-opposite-fits (pos n) f h = let g = f .sfits in neg-fits n (omega arith)
+opposite-fits (pos n) f h = let g = f .sfits in negated-fits n (omega arith)
 opposite-fits (negsuc n) f h = let g = f .sfits in record { sfits = omega arith }
 
 pub least-only : (x : ℤ) → SFits w64 x → natAbs x ≡ 2 ^ 63 → SFits w64 (pos 0 -ℤ x) → ⊥
@@ -130,16 +124,16 @@ narrowU64-not-ok r n e = go (ltb n (2 ^ 64)) refl
 -- ---- a signed product, by its magnitude p
 module _ (a : ℤ) (n p : ℕ) (e : p ≡ natAbs a * n) where
   pub signed-neg : ltZ a (pos 0) ≡ true → p < 2 ^ 63 → narrowI64 (a *ℤ pos n) ≡ record { ok = true; value = pos 0 -ℤ pos p }
-  signed-neg l h = rw (times-neg a n l, ← e) (narrowI64-yes (pos 0 -ℤ pos p) (neg-fits p (omega arith)))
+  signed-neg l h = rw (times-neg a n l, ← e) (narrowI64-yes (pos 0 -ℤ pos p) (negated-fits p (omega arith)))
 
   pub signed-pos : ltZ a (pos 0) ≡ false → p < 2 ^ 63 → narrowI64 (a *ℤ pos n) ≡ record { ok = true; value = pos p }
   signed-pos l h = rw (times-pos a n l, ← e) (narrowI64-yes (pos p) (pos-fits p h))
 
-  pub signed-least : ltZ a (pos 0) ≡ true → p ≡ 2 ^ 63 → narrowI64 (a *ℤ pos n) ≡ record { ok = true; value = negsuc 9223372036854775807 }
-  signed-least l h = rw (times-neg a n l, ← e, h) (narrowI64-yes (negsuc 9223372036854775807) (record { sfits = omega arith }))
+  pub signed-least : ltZ a (pos 0) ≡ true → p ≡ 2 ^ 63 → narrowI64 (a *ℤ pos n) ≡ record { ok = true; value = negsuc (2 ^ 63 - 1) }
+  signed-least l h = rw (times-neg a n l, ← e, h) (narrowI64-yes (negsuc (2 ^ 63 - 1)) (record { sfits = omega arith }))
 
   pub signed-over : ltZ a (pos 0) ≡ true → 2 ^ 63 < p → narrowI64 (a *ℤ pos n) ≡ record { ok = false; value = pos 0 }
-  signed-over l h = rw (times-neg a n l, ← e) (narrowI64-no (pos 0 -ℤ pos p) (λ f. clash (neg-fits-only p f)))
+  signed-over l h = rw (times-neg a n l, ← e) (narrowI64-no (pos 0 -ℤ pos p) (λ f. clash (negated-fits-only p f)))
     where
       clash : p ≤ 2 ^ 63 → ⊥
       clash k = omega arith

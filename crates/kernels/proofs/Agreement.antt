@@ -6,7 +6,7 @@ use native.Mathlib.Omega.{arith}
 use lib.IntN.{natAbs}
 use borrow.Author.Tests.{le-leb}
 use mathlib.Core.Path.{_≡_, refl, sym, ap, _∙_, subst}
-use mathlib.Core.Bool.{Bool, true, false, _&&_, _||_}
+use mathlib.Core.Bool.{Bool, true, false, _&&_, _||_, or-false, or-assoc}
 use mathlib.Core.List.{List, [], _∷_, map, map-map, foldl}
 use lib.Dec.{T}
 use lib.Ieee.{Float, binary64, fits}
@@ -22,7 +22,7 @@ use Rattle.kernels.specs.Plain.{plainPiece, listProduct, plainProduct}
 use Rattle.kernels.specs.InnerPlain.{pieceProduct}
 use Rattle.kernels.proofs.Plain.{plain-piece}
 use Rattle.kernels.specs.Pieces.{GoodRate, Piece, worked, workedPiece, joinedPieces, GoodPiece, Admitted, patternsOf, accOf}
-use Rattle.kernels.proofs.Feeding.{each-map, or-assoc, or-none}
+use Rattle.kernels.proofs.Feeding.{each-map}
 use Rattle.kernels.proofs.Factors.{piece-normal}
 use Rattle.kernels.proofs.Joining.{combined-mark, combined-times, identity-is}
 use Rattle.kernels.proofs.Stepping.{stepped-agrees, stepped-mark}
@@ -101,7 +101,7 @@ worked-mark p v = go (p .inBlocks)
 
 marked-on : (a : StableProductFloatAcc) {ps : List Piece} → Each ValuePiece ps → foldl combined a (map workedPiece ps) .bad ≡ (a .bad || some badPiece ps)
 unfolding some
-marked-on a none = sym (or-none (a .bad))
+marked-on a none = sym (or-false (a .bad))
 marked-on a (more {x = p} {xs = ps} v vs) =
     marked-on (combined a (workedPiece p)) vs
     ∙ ap (λ (b : Bool). b || some badPiece ps) (combined-mark a (workedPiece p) ∙ ap (λ (b : Bool). a .bad || b) (worked-mark p v))

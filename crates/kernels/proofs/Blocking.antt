@@ -2,7 +2,7 @@
 -- Assumes nothing.
 use Prim.Native.Nat.{ℕ, zero, suc, _+_, _*_, _/_, _≤_, _<_, zero-le}
 use mathlib.Core.Path.{_≡_, refl, sym, ap, _∙_, subst}
-use mathlib.Core.Bool.{Bool, true, false, not, cond, _||_}
+use mathlib.Core.Bool.{Bool, true, false, not, cond, _||_, or-false, or-assoc}
 use mathlib.Core.List.{List, _++_, map, map-append}
 use native.Mathlib.Nat.{le-refl, le-of-lt}
 use native.Mathlib.Omega.{arith}
@@ -11,6 +11,7 @@ use lib.IntN.{ℤ, pos, _+ℤ_}
 use lib.Arith.{lt-of-le-ne}
 use lib.Dec.{T, lit≤}
 use lib.Ieee.{Float, nan, fin, binary64, fits, isNan}
+use Rattle.laws.proofs.Tests.{and-both}
 use Rattle.floats.specs.Product.{productOf}
 use Rattle.floats.specs.Factor.{Factor, unit, times}
 use Rattle.floats.specs.Splitting.{isBad, rateFactor, split}
@@ -23,8 +24,8 @@ use Rattle.kernels.specs.InnerPlain.{laneTimes, lanes, pieceProduct}
 use Rattle.kernels.specs.Blocks.{startLanes, mOf, eOf, unsplitStep, splitStep, inBounds, renormLane, renorm, unsplit, block, blocks, laneIn, lanesIn}
 use Rattle.kernels.specs.Blocks.{contiguous}
 use Rattle.kernels.specs.Pieces.{GoodRate, accOf}
-use Rattle.kernels.proofs.Feeding.{feed-related, feed-holds, feed-vectors, feed-mark, order-keeps, order-related, and-both, every-each, each-map}
-use Rattle.kernels.proofs.Feeding.{each-both, each-take, each-drop, some-append, some-none, or-none, or-assoc, neither}
+use Rattle.kernels.proofs.Feeding.{feed-related, feed-holds, feed-vectors, feed-mark, order-keeps, order-related, every-each, each-map}
+use Rattle.kernels.proofs.Feeding.{each-both, each-take, each-drop, some-append, some-none, neither}
 use Rattle.kernels.proofs.Factors.{lane-lt, set-cases, times-again}
 use Rattle.kernels.specs.InnerLanes.{Represents, LanesAre, LanesRepresent, zeros, plainAfter}
 use Rattle.kernels.proofs.Lanewise.{count, depth, turn-small, lanes-widen, lanes-turn, exponents-same}
@@ -47,7 +48,7 @@ rates-good R = some-none isBad (each-map GoodRate (λ (x : Float). isBad x ≡ f
 
 -- they leave a mark as it is
 pub rates-mark : (b : Bool) {xs : List Float} → Each GoodRate xs → b ≡ (b || some isBad xs)
-rates-mark b R = sym (ap (λ (c : Bool). b || c) (rates-good R) ∙ or-none b)
+rates-mark b R = sym (ap (λ (c : Bool). b || c) (rates-good R) ∙ or-false b)
 
 -- ---- eight lanes
 pub represent-start : LanesRepresent zeros startLanes (replicate 8 (unit 52))
@@ -260,7 +261,7 @@ block-mark s xs v = go (unsplit s xs) refl
     go true e =
         renorm-mark (feed unsplitStep 0 s xs)
         ∙ unsplit-mark 0 s xs
-        ∙ sym (ap (λ (b : Bool). s .bad || b) (good (and-both (every inBounds xs) (not (some isNan (feed unsplitStep 0 s xs .m))) e .0)) ∙ or-none (s .bad))
+        ∙ sym (ap (λ (b : Bool). s .bad || b) (good (and-both (every inBounds xs) (not (some isNan (feed unsplitStep 0 s xs .m))) e .0)) ∙ or-false (s .bad))
     go false e = renorm-mark (feed splitStep 0 s xs) ∙ split-mark 0 s xs
 
 blocks-mark : (n : ℕ) (s : Lanes) (xs : List Float) → Each Value xs → blocks n s xs .bad ≡ (s .bad || some isBad xs)

@@ -12,13 +12,13 @@ use lib.Ieee.{Float, nan, inf, fin, binary64, up, down, fits}
 use lib.Ieee.Fits.{down-pos}
 use lib.Ieee.Exact.{HasValue}
 use borrow.Author.Tests.{leb-true}
+use Rattle.laws.proofs.Tests.{and-both}
 use Rattle.integers.proofs.Difference.{ints, atoms}
 use Rattle.floats.specs.Factor.{Factor, NormalExponent}
 use Rattle.floats.specs.Splitting.{isBad, rateFactor}
 use Rattle.floats.proofs.Splitting.{rate-normal, rate-range}
 use Rattle.accumulator.proofs.Exponents.{limits}
 use Rattle.kernels.specs.Blocks.{inRange}
-use Rattle.kernels.proofs.Feeding.{and-both}
 use Rattle.kernels.proofs.Least.{reaches, reaching-good, reaching-exponent, rate-value}
 
 -- the lower bound alone

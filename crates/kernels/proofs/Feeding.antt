@@ -2,13 +2,14 @@
 -- Any states, any values: no float and no format is in it. Assumes nothing.
 use Prim.Native.Nat.{ℕ, zero, suc, _+_, _*_, _≤_, _<_, zero-le}
 use mathlib.Core.Path.{_≡_, refl, sym, ap, _∙_, subst}
-use mathlib.Core.Bool.{Bool, true, false, _&&_, _||_, true≢false}
+use mathlib.Core.Bool.{Bool, true, false, _&&_, _||_, true≢false, or-false, or-assoc}
 use mathlib.Core.List.{List, [], _∷_, _++_, map}
 use native.Mathlib.Nat.{le-refl, le-of-lt, add-zero, zero-add}
 use native.Mathlib.Numerals.{add-one}
 use native.Mathlib.Omega.{arith}
 use lib.ListN.{length, getD, set, take, drop, drop-of-length-le}
 use lib.Seq.{drop-cons}
+use Rattle.laws.proofs.Tests.{and-both}
 use Rattle.kernels.specs.Lanes.{Each, none, more, feed, inOrder, every, some}
 
 -- ---- feeding
@@ -133,11 +134,6 @@ module _ {X : Type 0} (q : X → Bool) where
   pub worked-tested : (d : X) (xs : List X) {n k : ℕ} {ok : Bool} → length xs ≡ n → Worked (over (tested q) xs d) n true ok k → n ≤ k → ok ≡ every q xs
   worked-tested d xs l w h = worked-fed (tested q) d xs l w h ∙ every-feed 0 true xs
 
-pub and-both : (p q : Bool) → (p && q) ≡ true → (p ≡ true) × (q ≡ true)
-and-both true true h = (refl, refl)
-and-both true false h = absurd (true≢false (sym h))
-and-both false q h = absurd (true≢false (sym h))
-
 pub every-each : {X : Type 0} (p : X → Bool) (xs : List X) → every p xs ≡ true → Each (λ (x : X). p x ≡ true) xs
 unfolding every
 every-each p [] h = none
@@ -166,11 +162,6 @@ each-drop P zero ps = ps
 each-drop P (suc n) none = none
 each-drop P (suc n) (more p ps) = each-drop P n ps
 
--- ---- some value
-pub or-assoc : (p q r : Bool) → ((p || q) || r) ≡ (p || (q || r))
-or-assoc true q r = refl
-or-assoc false q r = refl
-
 pub neither : (p q : Bool) → (p || q) ≡ false → (p ≡ false) × (q ≡ false)
 neither false q e = (refl, e)
 neither true q e = absurd (true≢false e)
@@ -182,15 +173,11 @@ or-swap false true false = refl
 or-swap false false true = refl
 or-swap false false false = refl
 
-pub or-none : (p : Bool) → (p || false) ≡ p
-or-none true = refl
-or-none false = refl
-
 -- the mark of a state, set by every value of which p holds
 pub feed-mark : {S X : Type 0} (step : ℕ → S → X → S) (mark : S → Bool) (p : X → Bool) → ((i : ℕ) (s : S) (x : X) → mark (step i s x) ≡ (mark s || p x))
     → (i : ℕ) (s : S) (xs : List X) → mark (feed step i s xs) ≡ (mark s || some p xs)
 unfolding feed some
-feed-mark step mark p same i s [] = sym (or-none (mark s))
+feed-mark step mark p same i s [] = sym (or-false (mark s))
 feed-mark step mark p same i s (x ∷ xs) =
     feed-mark step mark p same (suc i) (step i s x) xs ∙ ap (λ (b : Bool). b || some p xs) (same i s x) ∙ or-assoc (mark s) (p x) (some p xs)
 
@@ -201,7 +188,7 @@ some-append p (x ∷ xs) ys = ap (λ (b : Bool). p x || b) (some-append p xs ys)
 
 pub some-one : {X : Type 0} (p : X → Bool) (x : X) → some p (x ∷ []) ≡ p x
 unfolding some
-some-one p x = or-none (p x)
+some-one p x = or-false (p x)
 
 -- one place of a list gets the mark q besides its own
 pub some-set : {X : Type 0} (p : X → Bool) (xs : List X) (k : ℕ) (d y : X) (q : Bool) → k < length xs → p y ≡ (p (getD xs k d) || q)

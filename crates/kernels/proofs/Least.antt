@@ -2,7 +2,7 @@
 -- Assumes nothing.
 use Prim.Native.Nat.{ℕ, zero, suc, _+_, _*_, _^_, _≤_, _<_}
 use mathlib.Core.Path.{_≡_, refl, sym, ap, _∙_, subst}
-use mathlib.Core.Bool.{Bool, true, false, not, cond, _&&_, _||_, true≢false}
+use mathlib.Core.Bool.{Bool, true, false, not, cond, _&&_, _||_, true≢false, and-false}
 use mathlib.Core.Logic.{_⊎_, inl, inr}
 use native.Mathlib.Nat.{le-trans, le-of-eq, le-of-lt, lt-of-lt-of-le, lt-of-le-of-lt, not-le-of-lt, lt-of-not-le, mul-comm, mul-right-comm, mul-one, one-mul}
 use native.Mathlib.Nat.{mul-pos, mul-le-mul-right, mul-lt-mul-of-pos-right, le-of-mul-le-mul-right}
@@ -17,6 +17,7 @@ use lib.Ieee.Exact.{HasValue, units-val}
 use lib.Ieee.Positive.{first-pos}
 use lib.Ieee.Bits.{ofBits-toBits}
 use borrow.Author.Tests.{leb-true, le-leb, ltb-true, ltb-false, ne-eqb}
+use Rattle.laws.proofs.Tests.{le-test}
 use Rattle.integers.proofs.Difference.{ints, atoms}
 use Rattle.floats.specs.Rounding.{delivered}
 use Rattle.floats.specs.Factor.{Factor}
@@ -25,7 +26,9 @@ use Rattle.floats.specs.Splitting.{bitsOf, isBad, rateFactor}
 use Rattle.floats.proofs.Fields.{value-is, fraction-lt}
 use Rattle.floats.proofs.Bridge.{delivered-units, room, floatOf-value}
 use Rattle.floats.proofs.Splitting.{rate-normal, rate-range, rate-float}
-use Rattle.kernels.proofs.Comparing.{le-test, not-nought, and-no}
+
+not-nought : (a : ℕ) → 0 < a → eqb a 0 ≡ false
+not-nought a h = ne-eqb a 0 (λ (z : a ≡ 0). omega arith)
 
 -- a number, of a magnitude of 2^-B or more
 abbrev pub reaches : ℕ → Float → Bool
@@ -137,7 +140,7 @@ le-from k (inf false) = refl
 le-from k (fin false m e) = le-test (1 * down e) (m * up e * 2 ^ suc k) ∙ ap (λ (n : ℕ). leb n (m * up e * 2 ^ suc k)) (one-mul (down e))
 le-from k (fin true m e) =
     let t = eqb (1 * down e) (m * up e * 2 ^ suc k) in
-    ap (λ (u : Bool). t && u) (not-nought (1 * down e) (lt-of-lt-of-le (down-pos e) (le-of-eq (sym (one-mul (down e)))))) ∙ and-no t
+    ap (λ (u : Bool). t && u) (not-nought (1 * down e) (lt-of-lt-of-le (down-pos e) (le-of-eq (sym (one-mul (down e)))))) ∙ and-false t
 
 -- ---- the lesser of two
 -- 1 ≤ a / d × p, and a / d ≤ b / c

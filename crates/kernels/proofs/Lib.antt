@@ -15,7 +15,6 @@ pub mod Agreement
 pub mod Theorems
 pub mod Cases
 pub mod Striding
-pub mod Comparing
 pub mod Windows
 pub mod LaneSizes
 pub mod Stepwise

@@ -7,6 +7,7 @@ use native.Mathlib.Omega.{arith}
 use lib.IntN.{ℤ, pos, negsuc, natAbs, _+ℤ_, +ℤ-idr, +ℤ-idl}
 use lib.Dec.{T}
 use lib.Ieee.{Float, fin, binary64, fits}
+use Rattle.integers.proofs.Places.{exponents}
 use Rattle.integers.proofs.Difference.{ints, atoms, is-diff, at-pos}
 use Rattle.floats.specs.Product.{productOf}
 use Rattle.floats.specs.Factor.{Factor, Normalised, NormalExponent, unit, carry, times, floatOf}
@@ -28,9 +29,6 @@ represents-more B C m e f h s = record { off = s .off; near = le-trans (s .near)
 pub near-in : (f : Factor) (z : ℤ) → natAbs z ≤ 1022 → NormalExponent 11 (withExponent f z)
 near-in f (pos n) h = record { place = n + 1022; above = refl; below = omega arith }
 near-in f (negsuc n) h = record { place = 1022 - suc n; above = is-diff 1022 (suc n) ∙ at-pos 1022 (suc n) (1022 - suc n) (omega arith); below = omega arith }
-
-pub exponents : (e d z y p q : ℤ) (c : ℕ) → p ≡ e +ℤ z → q ≡ d +ℤ y → p +ℤ q +ℤ pos c ≡ e +ℤ d +ℤ (z +ℤ y +ℤ pos c)
-exponents e d z y p q c = simp ints (simp atoms (omega arith))
 
 -- ---- the product
 module _ (B C : ℕ) (m x : Float) (e d : ℤ) (f g : Factor) (F : Represents B m e f) (G : Represents C x d g) (room : B + C + 1 ≤ 1022) where

@@ -1,7 +1,7 @@
 -- Stepped lanes: with no bad rate they are the plain product's piece; the mark is set exactly if some rate is bad. Assumes nothing.
 use Prim.Native.Nat.{ℕ, suc, _<_}
 use mathlib.Core.Path.{_≡_, refl, sym, ap, _∙_, subst}
-use mathlib.Core.Bool.{Bool, false, _||_}
+use mathlib.Core.Bool.{Bool, false, _||_, or-false, or-assoc}
 use mathlib.Core.List.{List, [], _∷_, map}
 use native.Mathlib.Nat.{le-of-eq}
 use native.Mathlib.Omega.{arith}
@@ -19,7 +19,7 @@ use Rattle.kernels.specs.Lanes.{Each, feed, laneOf, some}
 use Rattle.kernels.specs.InnerPlain.{laneTimes, lanes, pieceProduct}
 use Rattle.kernels.specs.Stepped.{rateAcc, accAt, laneJoined, steppedLanes, lanesJoined, stepped}
 use Rattle.kernels.specs.Pieces.{GoodRate, accOf}
-use Rattle.kernels.proofs.Feeding.{feed-related, order-keeps, order-related, or-none, or-assoc, some-append, some-one, some-set}
+use Rattle.kernels.proofs.Feeding.{feed-related, order-keeps, order-related, some-append, some-one, some-set}
 use Rattle.kernels.proofs.Factors.{lane-lt, set-cases}
 use Rattle.kernels.proofs.Joining.{combined-mark, combined-times, identity-is, rate-is, rate-mark}
 
@@ -130,7 +130,7 @@ bad a = a .bad
 marks : (i : ℕ) (ls : List StableProductFloatAcc) (xs : List Float) → length ls ≡ 8
     → (length (feed laneJoined i ls xs) ≡ 8) × (some bad (feed laneJoined i ls xs) ≡ (some bad ls || some isBad xs))
 unfolding feed laneJoined some
-marks i ls [] h = (h, sym (or-none (some bad ls)))
+marks i ls [] h = (h, sym (or-false (some bad ls)))
 marks i ls (x ∷ xs) h =
     let j = laneOf i in
     let a = combined (accAt ls j) (rateAcc x) in

@@ -14,6 +14,7 @@ use lib.Ieee.{Float, nan, binary64, fits}
 use mir.Val.{SFits, toZ, ofZ}
 use mir.ValLaws.{toZ-ofZ}
 use mir.Syntax.{w64}
+use Rattle.integers.proofs.Places.{place-first}
 use Rattle.integers.proofs.Difference.{ints, atoms}
 use Rattle.accumulator.specs.declared.StableProductFloatAcc.{StableProductFloatAcc}
 use Rattle.accumulator.specs.Joining.{identityAcc, combined}
@@ -26,8 +27,6 @@ use Rattle.kernels.proofs.Sizes.{accs-le}
 use Rattle.kernels.proofs.Bounded.{Joined, joined-small, joined-start, joined-more, joined-all}
 
 -- ---- places
-pub place-first : (s t : ℤ) → s ≡ s +ℤ t *ℤ pos 0
-place-first s t = simp ints (simp atoms (omega arith))
 
 -- fewer places, and those from place a on
 pub inside-less : (len : ℕ) (s d : ℤ) (n m : ℕ) → PlacesInside len s d n → m ≤ n → PlacesInside len s d m

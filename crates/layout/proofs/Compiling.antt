@@ -1,22 +1,21 @@
 -- Laws of rules 1 and 5, and of the compiled answer.
 -- Assumes nothing.
-use Prim.Native.Nat.{ℕ, zero, suc, _+_, _-_, _*_, _^_, _≤_, _<_}
+use Prim.Native.Nat.{ℕ, _+_, _*_, _^_, _≤_, _<_}
 use mathlib.Core.Path.{_≡_, refl, sym, _∙_, ap, subst}
-use mathlib.Core.Bool.{Bool, true, false, cond, not}
+use mathlib.Core.Bool.{Bool, true, false, cond}
 use mathlib.Core.List.{List, [], _∷_, _++_, append-nil, append-assoc}
 use mathlib.Core.Option.{Option, none, some}
 use native.Mathlib.Omega.{arith}
 use native.Mathlib.Numerals.{add-one}
-use lib.Dec.{T, ltb, eqb}
-use lib.ListN.{length, take, drop, getD, length-append, length-take, drop-of-length-le}
+use lib.Dec.{T}
+use lib.ListN.{length, take, drop, getD, length-append, drop-of-length-le}
 use lib.Seq.{drop-cons}
 use lib.IntN.{ℤ, pos}
-use borrow.Author.Tests.{lt-ltb, le-ltb, eq-eqb, ne-eqb, lt-leb, le-leb}
+use borrow.Author.Tests.{lt-ltb, le-ltb, eq-eqb, ne-eqb}
 use Rattle.integers.specs.declared.CheckedU64.{CheckedU64}
 use Rattle.layout.specs.declared.axis.ReduceOuterAxis.{ReduceOuterAxis}
 use Rattle.layout.specs.declared.axis.AxisTable.{AxisTable}
 use Rattle.layout.specs.declared.traversal.FullTraversal.{FullTraversal}
-use Rattle.layout.specs.declared.traversal.Compiled.{Compiled}
 use Rattle.layout.specs.Axes.{PLACES, noAxis, placesOf}
 use Rattle.layout.specs.InnerTables.{CleanTable, tableOf, tableAxes}
 use Rattle.layout.specs.declared.order.Ordered.{Ordered}
@@ -25,8 +24,9 @@ use Rattle.layout.specs.InnerAnswers.{orderedIf, orderedOr, checkedOr}
 use Rattle.layout.specs.Fuse.{fuse}
 use Rattle.layout.proofs.Ordering.{length-axes}
 use Rattle.refusals.specs.Refusals.{firstOf}
-use Rattle.layout.specs.Compile.{totalFrom, totalOf, layoutOf, emptyLayout, fusedOf, traversalAt, traversalOf, compileRefusals, layoutBeside, compileOf, overflows, aboveMost}
-use Rattle.layout.proofs.Tables.{table-axes-of, table-of, table-count}
+use Rattle.layout.specs.Compile.{totalFrom, totalOf, layoutOf, emptyLayout, fusedOf, traversalAt, traversalOf, compileRefusals, layoutBeside, compileOf}
+use Rattle.layout.specs.Compile.{overflows, aboveMost}
+use Rattle.layout.proofs.Tables.{table-axes-of, table-of, table-count, take-past}
 use Rattle.layout.proofs.Fusing.{count-of, from-i, length-fuse}
 
 -- ---- rule 5: the axes after the first
@@ -46,12 +46,14 @@ copied-none t out e =
       copied = ap (λ (z : List ReduceOuterAxis). z ++ drop 1 (tableAxes t)) (table-axes-of []);
     })
 
-pub copied-more : (t out r : AxisTable) (i : ℕ) → CleanTable t → i < t .count → Copied t out i → r ≡ tableOf (tableAxes out ++ getD (t .places) i noAxis ∷ []) → Copied t r (i + 1)
+pub copied-more : (t out r : AxisTable) (i : ℕ) → CleanTable t → i < t .count → Copied t out i
+    → r ≡ tableOf (tableAxes out ++ getD (t .places) i noAxis ∷ []) → Copied t r (i + 1)
 copied-more t out r i w h p e =
     let c = table-count out (p .table) in
     let f = p .few in
     let m = w .1 in
-    let l : length (tableAxes out ++ getD (t .places) i noAxis ∷ []) ≡ length (tableAxes out) + 1 = length-append (tableAxes out) (getD (t .places) i noAxis ∷ []) in
+    let l : length (tableAxes out ++ getD (t .places) i noAxis ∷ []) ≡ length (tableAxes out) + 1 = length-append (tableAxes out)
+    (getD (t .places) i noAxis ∷ []) in
     rw e
     (record {
       after = omega arith;
@@ -68,10 +70,8 @@ pub copied-all : (t out : AxisTable) (i : ℕ) → t .count ≤ i → Copied t o
 unfolding tableAxes
 copied-all t out i h p =
     p .table .0
-    ∙ ap tableOf (sym (append-nil (tableAxes out)) ∙ ap (λ (z : List ReduceOuterAxis). tableAxes out ++ z) (sym (drop-of-length-le (take (t .count) (t .places)) short)) ∙ p .copied)
-  where
-    short : length (take (t .count) (t .places)) ≤ i
-    short = simp length-take (omega arith)
+    ∙ ap tableOf
+    (sym (append-nil (tableAxes out)) ∙ ap (λ (z : List ReduceOuterAxis). tableAxes out ++ z) (sym (take-past (t .places) (t .count) i h)) ∙ p .copied)
 
 -- ---- rule 1
 pub total-more : (ns : List ℕ) (t i : ℕ) → i < length ns → t * getD ns i 0 < 2 ^ 64 → totalFrom t (drop i ns) ≡ totalFrom (t * getD ns i 0) (drop (i + 1) ns)
@@ -96,8 +96,10 @@ run-none n t out z e =
     ∙ ap (λ (xs : List ReduceOuterAxis). record { total = n; «run_len» = 1; «run_stride» = pos 1; «axis_count» = 0; «run_axes» = placesOf (drop 1 xs) }) h
     ∙ ap (layoutOf n) (sym h)
 
-pub run-first : (n : ℕ) (t out : AxisTable) (a : ReduceOuterAxis) → CleanTable t → (t .count ≡ 0 → ⊥) → out ≡ tableOf (drop 1 (tableAxes t)) → a ≡ getD (t .places) 0 noAxis
-    → record { total = n; «run_len» = a .extent; «run_stride» = a .«source_step»; «axis_count» = out .count; «run_axes» = out .places } ≡ layoutOf n (tableAxes t)
+pub run-first : (n : ℕ) (t out : AxisTable) (a : ReduceOuterAxis) → CleanTable t → (t .count ≡ 0 → ⊥) → out ≡ tableOf (drop 1 (tableAxes t))
+    → a ≡ getD (t .places) 0 noAxis
+    → record { total = n; «run_len» = a .extent; «run_stride» = a .«source_step»; «axis_count» = out .count; «run_axes» = out .places }
+    ≡ layoutOf n (tableAxes t)
 unfolding layoutOf tableOf
 run-first n t out a w z e f =
     ap (λ (o : AxisTable). record { total = n; «run_len» = a .extent; «run_stride» = a .«source_step»; «axis_count» = o .count; «run_axes» = o .places }) e
@@ -134,7 +136,9 @@ module _ (ns : List ℕ) (ss : List ℤ) where
   module _ (t : ℕ) (e : totalOf ns ≡ some t) (n : t ≡ 0 → ⊥) where
     at-total : traversalOf ns ss ≡ elim (fusedOf ns ss) [ none ↦ none | some xs ↦ some (layoutOf t xs) ]
     unfolding traversalOf traversalAt
-    at-total = ap (traversalAt ns ss) e ∙ ap (λ (b : Bool). cond b (some emptyLayout) (elim (fusedOf ns ss) [ none ↦ none | some xs ↦ some (layoutOf t xs) ])) (ne-eqb t 0 n)
+    at-total =
+        ap (traversalAt ns ss) e
+        ∙ ap (λ (b : Bool). cond b (some emptyLayout) (elim (fusedOf ns ss) [ none ↦ none | some xs ↦ some (layoutOf t xs) ])) (ne-eqb t 0 n)
 
     pub unfused : fusedOf ns ss ≡ none → traversalOf ns ss ≡ none
     unfused f = at-total ∙ ap (λ (o : Option (List ReduceOuterAxis)). elim o [ none ↦ none | some xs ↦ some (layoutOf t xs) ]) f
@@ -205,9 +209,12 @@ module _ (ns : List ℕ) (ss : List ℤ) where
 
 -- ---- the ranks
 module _ (ns : List ℕ) (ss : List ℤ) where
-  answer : (c : ℕ) (o : Option FullTraversal) → firstOf (compileRefusals ns ss) ≡ c → traversalOf ns ss ≡ o → compileOf ns ss ≡ record { code = c; traversal = layoutBeside c o }
+  answer : (c : ℕ) (o : Option FullTraversal) → firstOf (compileRefusals ns ss) ≡ c → traversalOf ns ss ≡ o
+      → compileOf ns ss ≡ record { code = c; traversal = layoutBeside c o }
   unfolding compileOf
-  answer c o e f = ap (λ (k : ℕ). record { code = k; traversal = layoutBeside k (traversalOf ns ss) }) e ∙ ap (λ (x : Option FullTraversal). record { code = c; traversal = layoutBeside c x }) f
+  answer c o e f =
+      ap (λ (k : ℕ). record { code = k; traversal = layoutBeside k (traversalOf ns ss) }) e
+      ∙ ap (λ (x : Option FullTraversal). record { code = c; traversal = layoutBeside c x }) f
 
   pub code-1 : (length ns ≡ length ss → ⊥) → compileOf ns ss ≡ record { code = 1; traversal = emptyLayout }
   unfolding compileRefusals firstOf layoutBeside
@@ -223,10 +230,12 @@ module _ (ns : List ℕ) (ss : List ℤ) where
       unfolding compileRefusals firstOf layoutBeside overflows
       code-3 f = answer 3 none (rw (eq-eqb (length ns) (length ss) e, le-ltb 8 (length ns) h, f)) f
 
-      pub code-4 : (l : FullTraversal) (t : ℕ) → traversalOf ns ss ≡ some l → totalOf ns ≡ some t → 2 ^ 40 < t → compileOf ns ss ≡ record { code = 4; traversal = emptyLayout }
+      pub code-4 : (l : FullTraversal) (t : ℕ) → traversalOf ns ss ≡ some l → totalOf ns ≡ some t → 2 ^ 40 < t
+          → compileOf ns ss ≡ record { code = 4; traversal = emptyLayout }
       unfolding compileRefusals firstOf layoutBeside overflows aboveMost
       code-4 l t f g k = answer 4 (some l) (rw (eq-eqb (length ns) (length ss) e, le-ltb 8 (length ns) h, f, g, lt-ltb (2 ^ 40) t k)) f
 
-      pub code-0 : (l : FullTraversal) (t : ℕ) → traversalOf ns ss ≡ some l → totalOf ns ≡ some t → t ≤ 2 ^ 40 → compileOf ns ss ≡ record { code = 0; traversal = l }
+      pub code-0 : (l : FullTraversal) (t : ℕ) → traversalOf ns ss ≡ some l → totalOf ns ≡ some t → t ≤ 2 ^ 40
+          → compileOf ns ss ≡ record { code = 0; traversal = l }
       unfolding compileRefusals firstOf layoutBeside overflows aboveMost
       code-0 l t f g k = answer 0 (some l) (rw (eq-eqb (length ns) (length ss) e, le-ltb 8 (length ns) h, f, g, le-ltb (2 ^ 40) t k)) f

@@ -1,25 +1,24 @@
 -- Laws of rule 4: what two neighbours become.
 -- Assumes nothing.
-use Prim.Native.Nat.{ℕ, zero, suc, _+_, _-_, _*_, _^_, _≤_, _<_}
+use Prim.Native.Nat.{ℕ, suc, _+_, _*_, _^_, _≤_, _<_}
 use mathlib.Core.Path.{_≡_, refl, sym, _∙_, ap, subst}
-use mathlib.Core.Bool.{Bool, true, false, cond}
+use mathlib.Core.Bool.{true, false}
 use mathlib.Core.List.{List, [], _∷_, _++_}
 use mathlib.Core.Option.{Option, none, some}
 use native.Mathlib.Omega.{arith}
 use lib.Dec.{T}
-use lib.ListN.{length, take, drop, getD, length-append, length-take, drop-of-length-le}
-use lib.IntN.{ℤ, pos, negℤ, _*ℤ_}
+use lib.ListN.{length, drop, getD, length-append}
 use Rattle.integers.specs.Integers.{fitsI64, eqZ}
 use Rattle.layout.specs.declared.axis.ReduceOuterAxis.{ReduceOuterAxis}
 use Rattle.layout.specs.declared.axis.AxisTable.{AxisTable}
 use Rattle.layout.specs.declared.fuse.Joined.{Joined}
 use Rattle.layout.specs.declared.fuse.Joined.the-variants.{One, Two, Overflow}
 use Rattle.layout.specs.declared.fuse.Fusing.{Fusing}
-use Rattle.layout.specs.Axes.{PLACES, noAxis, span, resetFits, axisOf}
+use Rattle.layout.specs.Axes.{PLACES, noAxis, resetFits, axisOf}
 use Rattle.layout.specs.InnerTables.{CleanTable, tableOf, tableAxes}
 use Rattle.layout.specs.Fuse.{reach, joinOf, fuseFrom, fuse}
 use Rattle.layout.specs.InnerAnswers.{nextFrom, nextOf}
-use Rattle.layout.proofs.Tables.{table-axes-of, table-of, table-count, table-room, take-from}
+use Rattle.layout.proofs.Tables.{table-axes-of, table-of, table-count, table-room, take-from, take-past}
 use Rattle.layout.proofs.Resets.{reset-large}
 
 pub some-inj : {A : Type 0} {x y : A} → some x ≡ some y → x ≡ y
@@ -37,14 +36,16 @@ module _ (a b : ReduceOuterAxis) where
   unfolding joinOf
   join-two e f = rw (e, f)
 
-  pub join-no-reset : fitsI64 (reach a) ≡ true → eqZ (reach a) (b .«source_step») ≡ true → resetFits (a .extent * b .extent) (a .«source_step») ≡ false → joinOf a b ≡ Overflow
+  pub join-no-reset : fitsI64 (reach a) ≡ true → eqZ (reach a) (b .«source_step») ≡ true → resetFits (a .extent * b .extent) (a .«source_step») ≡ false
+      → joinOf a b ≡ Overflow
   unfolding joinOf
   join-no-reset e f g = rw (e, f, g)
 
   pub join-large : fitsI64 (reach a) ≡ true → eqZ (reach a) (b .«source_step») ≡ true → 2 ^ 64 ≤ a .extent * b .extent → joinOf a b ≡ Overflow
   join-large e f g = join-no-reset e f (reset-large (a .extent * b .extent) (a .«source_step») (omega arith))
 
-  pub join-one : fitsI64 (reach a) ≡ true → eqZ (reach a) (b .«source_step») ≡ true → resetFits (a .extent * b .extent) (a .«source_step») ≡ true → joinOf a b ≡ One (axisOf (a .extent * b .extent) (a .«source_step»))
+  pub join-one : fitsI64 (reach a) ≡ true → eqZ (reach a) (b .«source_step») ≡ true → resetFits (a .extent * b .extent) (a .«source_step») ≡ true
+      → joinOf a b ≡ One (axisOf (a .extent * b .extent) (a .«source_step»))
   unfolding joinOf
   join-one e f g = rw (e, f, g)
 
@@ -70,7 +71,8 @@ pub record Continues (done : List ReduceOuterAxis) (a b : ReduceOuterAxis) (f : 
   pub grows : f .done .count ≤ suc (length done)
   pub fuses : (bs : List ReduceOuterAxis) → fuseFrom (tableAxes (f .done)) (f .last) bs ≡ fuseFrom done a (b ∷ bs)
 
-pub continues : (done : List ReduceOuterAxis) (a b : ReduceOuterAxis) → length done < PLACES → (nextOf done a b) .ok ≡ true → Continues done a b (nextOf done a b)
+pub continues : (done : List ReduceOuterAxis) (a b : ReduceOuterAxis) → length done < PLACES → (nextOf done a b) .ok ≡ true
+    → Continues done a b (nextOf done a b)
 unfolding nextOf nextFrom
 continues done a b h = go (joinOf a b) refl
   where
@@ -115,7 +117,8 @@ pub from-i : (t : AxisTable) (i : ℕ) → CleanTable t → i < t .count → dro
 unfolding tableAxes
 from-i t i w h = take-from (t .places) (t .count) i h (table-room t w)
 
-pub fused-first : (t : AxisTable) (f : Fusing) → CleanTable t → (t .count ≡ 0 → ⊥) → f .ok ≡ true → f .done ≡ tableOf [] → f .last ≡ getD (t .places) 0 noAxis → Fused t f 1
+pub fused-first : (t : AxisTable) (f : Fusing) → CleanTable t → (t .count ≡ 0 → ⊥) → f .ok ≡ true → f .done ≡ tableOf []
+    → f .last ≡ getD (t .places) 0 noAxis → Fused t f 1
 unfolding fuse
 fused-first t f w n o d l =
     record {
@@ -128,7 +131,8 @@ fused-first t f w n o d l =
           rw (d, l, table-axes-of []) (ap (fuseFrom [] (getD (t .places) 0 noAxis)) refl ∙ ap fuse (sym (from-i t 0 w (omega arith))));
     }
 
-pub fused-more : (t : AxisTable) (f g : Fusing) (i : ℕ) → CleanTable t → i < t .count → Fused t f i → g ≡ nextOf (tableAxes (f .done)) (f .last) (getD (t .places) i noAxis) → g .ok ≡ true → Fused t g (i + 1)
+pub fused-more : (t : AxisTable) (f g : Fusing) (i : ℕ) → CleanTable t → i < t .count → Fused t f i
+    → g ≡ nextOf (tableAxes (f .done)) (f .last) (getD (t .places) i noAxis) → g .ok ≡ true → Fused t g (i + 1)
 fused-more t f g i w h p e k =
     let c = table-count (f .done) (p .table) in
     let q = p .few in
@@ -143,20 +147,19 @@ fused-more t f g i w h p e k =
       fuses = rw e (a .fuses (drop (i + 1) (tableAxes t)) ∙ ap (fuseFrom (tableAxes (f .done)) (f .last)) (sym (from-i t i w h)) ∙ p .fuses);
     }
 
-pub fused-stop : (t : AxisTable) (f g : Fusing) (i : ℕ) → CleanTable t → i < t .count → Fused t f i → g ≡ nextOf (tableAxes (f .done)) (f .last) (getD (t .places) i noAxis) → g .ok ≡ false → fuse (tableAxes t) ≡ none
+pub fused-stop : (t : AxisTable) (f g : Fusing) (i : ℕ) → CleanTable t → i < t .count → Fused t f i
+    → g ≡ nextOf (tableAxes (f .done)) (f .last) (getD (t .places) i noAxis) → g .ok ≡ false → fuse (tableAxes t) ≡ none
 fused-stop t f g i w h p e k =
     sym (p .fuses) ∙ ap (fuseFrom (tableAxes (f .done)) (f .last)) (from-i t i w h)
     ∙ stops (tableAxes (f .done)) (f .last) (getD (t .places) i noAxis) (drop (i + 1) (tableAxes t)) (sym (ap (λ (f : Fusing). f .ok) e) ∙ k)
 
 pub fused-all : (t : AxisTable) (f : Fusing) (i : ℕ) → t .count ≤ i → Fused t f i → fuse (tableAxes t) ≡ some (tableAxes (f .done) ++ f .last ∷ [])
 unfolding tableAxes fuseFrom
-fused-all t f i h p = sym (p .fuses) ∙ ap (fuseFrom (tableAxes (f .done)) (f .last)) (drop-of-length-le (take (t .count) (t .places)) short)
-  where
-    short : length (take (t .count) (t .places)) ≤ i
-    short = simp length-take (omega arith)
+fused-all t f i h p = sym (p .fuses) ∙ ap (fuseFrom (tableAxes (f .done)) (f .last)) (take-past (t .places) (t .count) i h)
 
 -- ---- fusing makes no more axes
-pub length-fuseFrom : (done : List ReduceOuterAxis) (a : ReduceOuterAxis) (bs ys : List ReduceOuterAxis) → fuseFrom done a bs ≡ some ys → length ys ≤ length done + 1 + length bs
+pub length-fuseFrom : (done : List ReduceOuterAxis) (a : ReduceOuterAxis) (bs ys : List ReduceOuterAxis) → fuseFrom done a bs ≡ some ys
+    → length ys ≤ length done + 1 + length bs
 unfolding fuseFrom
 length-fuseFrom done a [] ys e =
     let l : length (done ++ a ∷ []) ≡ length done + 1 = length-append done (a ∷ []) in

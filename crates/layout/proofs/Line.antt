@@ -53,7 +53,10 @@ module _ (n : ℕ) (s : ℤ) where
   module _ (e : n ≡ 1 → ⊥) where
     line-fused : resetFits n s ≡ true → fusedOf (n ∷ []) (s ∷ []) ≡ some (axisOf n s ∷ [])
     unfolding axisOf
-    line-fused f = fused-kept _ (kept-one e) ∙ ap (λ (b : Bool). cond b (fuse (orderFrom [] (axisOf n s ∷ []))) none) (resets-one (axisOf n s) true f) ∙ fuse-one (axisOf n s)
+    line-fused f =
+        fused-kept _ (kept-one e)
+        ∙ ap (λ (b : Bool). cond b (fuse (orderFrom [] (axisOf n s ∷ []))) none) (resets-one (axisOf n s) true f)
+        ∙ fuse-one (axisOf n s)
 
     line-unfused : resetFits n s ≡ false → fusedOf (n ∷ []) (s ∷ []) ≡ none
     unfolding axisOf
@@ -74,7 +77,8 @@ module _ (n : ℕ) (s : ℤ) where
     pub line-one : n ≡ 1 → compileOf (n ∷ []) (s ∷ []) ≡ record { code = 0; traversal = layoutOf 1 (axisOf 1 (pos 1) ∷ []) }
     unfolding layoutOf axisOf
     line-one e =
-        code-0 (n ∷ []) (s ∷ []) refl (omega arith) (layoutOf n []) n (fused-is (n ∷ []) (s ∷ []) n line-total (λ z. omega arith) [] (line-dropped e)) line-total (omega arith)
+        code-0 (n ∷ []) (s ∷ []) refl (omega arith) (layoutOf n []) n (fused-is (n ∷ []) (s ∷ []) n line-total (λ z. omega arith) [] (line-dropped e))
+        line-total (omega arith)
         ∙ ap (λ (k : ℕ). record { code = 0; traversal = layoutOf k [] }) e
 
     -- else rule 3, then rule 1's most

@@ -1,23 +1,20 @@
 -- Laws of rule 3: when an axis has a reset.
 -- Assumes nothing.
-use Prim.Native.Nat.{ℕ, zero, suc, _+_, _-_, _*_, _^_, _≤_, _<_}
+use Prim.Native.Nat.{ℕ, _-_, _^_, _≤_, _<_}
 use mathlib.Core.Path.{_≡_, refl, sym, _∙_, ap, subst}
 use mathlib.Core.Bool.{Bool, true, false, _&&_}
-use native.Mathlib.Omega.{arith}
 use lib.Dec.{T}
 use lib.IntN.{ℤ, pos, negℤ, _*ℤ_}
-use mir.Val.{SFits}
-use mir.Syntax.{w64}
 use borrow.Author.Tests.{lt-ltb, le-ltb}
 use Rattle.integers.specs.Integers.{fitsI64}
 use Rattle.integers.specs.InnerChecked.{keepI, narrowI64}
 use Rattle.integers.specs.declared.CheckedI64.{CheckedI64}
-use Rattle.integers.proofs.Machine.{narrowI64-ok, narrowI64-not-ok, fits-test, narrowI64-over, pos-fits}
-use Rattle.layout.specs.Axes.{span, resetFits, axisOf}
+use Rattle.integers.proofs.Machine.{narrowI64-ok, narrowI64-not-ok}
+use Rattle.layout.specs.Axes.{span, resetFits}
 
-fits-small : (n : ℕ) → n < 2 ^ 63 → fitsI64 (pos n) ≡ true
+fits-below : (n : ℕ) → n < 2 ^ 63 → fitsI64 (pos n) ≡ true
 unfolding fitsI64
-fits-small n h = lt-ltb n (2 ^ 63) h
+fits-below n h = lt-ltb n (2 ^ 63) h
 
 fits-large : (n : ℕ) → 2 ^ 63 ≤ n → fitsI64 (pos n) ≡ false
 unfolding fitsI64
@@ -31,7 +28,7 @@ reset-large n s h = ap (λ (b : Bool). b && fitsI64 (span n s) && fitsI64 (neg�
 module _ (n : ℕ) (s : ℤ) (h : n - 1 < 2 ^ 63) (r : CheckedI64) (e : r ≡ narrowI64 (s *ℤ pos (n - 1))) where
   small : resetFits n s ≡ fitsI64 (span n s) && fitsI64 (negℤ (span n s))
   unfolding resetFits
-  small = ap (λ (b : Bool). b && fitsI64 (span n s) && fitsI64 (negℤ (span n s))) (fits-small (n - 1) h)
+  small = ap (λ (b : Bool). b && fitsI64 (span n s) && fitsI64 (negℤ (span n s))) (fits-below (n - 1) h)
 
   pub reset-no-span : r .ok ≡ false → resetFits n s ≡ false
   unfolding span
@@ -45,7 +42,8 @@ module _ (n : ℕ) (s : ℤ) (h : n - 1 < 2 ^ 63) (r : CheckedI64) (e : r ≡ na
       ∙ ap (λ (b : Bool). keepI b (negℤ (s *ℤ pos (n - 1)))) (sym (small ∙ ap (λ (b : Bool). b && fitsI64 (negℤ (s *ℤ pos (n - 1)))) (v .1)))
 
 -- what an answer of `checked_reduce_reset` says
-pub reset-ok : (r : CheckedI64) (n : ℕ) (s : ℤ) → r ≡ keepI (resetFits n s) (negℤ (span n s)) → r .ok ≡ true → (resetFits n s ≡ true) × (r .value ≡ negℤ (span n s))
+pub reset-ok : (r : CheckedI64) (n : ℕ) (s : ℤ) → r ≡ keepI (resetFits n s) (negℤ (span n s)) → r .ok ≡ true
+    → (resetFits n s ≡ true) × (r .value ≡ negℤ (span n s))
 reset-ok r n s e = go (resetFits n s) refl
   where
     go : (b : Bool) → resetFits n s ≡ b → r .ok ≡ true → (resetFits n s ≡ true) × (r .value ≡ negℤ (span n s))

@@ -1,12 +1,12 @@
 -- Laws of axis tables: what a table holds, and what a store does to it.
 -- Assumes nothing.
-use Prim.Native.Nat.{ℕ, zero, suc, _+_, _-_, _≤_, _<_}
+use Prim.Native.Nat.{ℕ, suc, _+_, _-_, _≤_, _<_}
 use mathlib.Core.Path.{_≡_, refl, sym, _∙_, ap, subst}
-use mathlib.Core.Bool.{Bool, true, false}
 use mathlib.Core.List.{List, [], _∷_, _++_, append-assoc}
 use native.Mathlib.Omega.{arith}
 use native.Mathlib.Numerals.{add-one}
-use lib.ListN.{length, take, drop, getD, set, replicate, length-append, length-take, length-drop, length-replicate, drop-of-length-le, take-append-drop, List·getD-append}
+use lib.ListN.{length, take, drop, getD, set, replicate, length-append, length-take, length-drop, length-replicate, drop-of-length-le, take-append-drop}
+use lib.ListN.{List·getD-append}
 use lib.Seq.{take-append-seam, take-append-le, drop-append-add, take-suc, length-take-le, set-at, drop-cons, getD-take}
 use Rattle.layout.specs.declared.axis.ReduceOuterAxis.{ReduceOuterAxis}
 use Rattle.layout.specs.declared.axis.AxisTable.{AxisTable}
@@ -37,6 +37,13 @@ pub length-table-axes : (t : AxisTable) → t .count ≤ length (t .places) → 
 unfolding tableAxes
 length-table-axes t h = simp length-take (omega arith)
 
+-- the first n of a list's places: none is past them, and those before the n-th are inside
+pub take-past : (l : List ReduceOuterAxis) (n i : ℕ) → n ≤ i → drop i (take n l) ≡ []
+take-past l n i h = drop-of-length-le (take n l) (let s : length (take n l) ≤ i = simp length-take (omega arith) in s)
+
+take-inside : (l : List ReduceOuterAxis) (n i : ℕ) → i < n → n ≤ length l → i < length (take n l)
+take-inside l n i h k = simp length-take (omega arith)
+
 -- one free place less
 drop-zeros : (k : ℕ) → k < PLACES → drop 1 (replicate (PLACES - k) noAxis) ≡ replicate (PLACES - suc k) noAxis
 drop-zeros k h = ap (λ (n : ℕ). drop 1 (replicate n noAxis)) e
@@ -49,8 +56,10 @@ pub opened : (xs : List ReduceOuterAxis) (at : ℕ) (a : ReduceOuterAxis) → at
     → take at (placesOf xs) ++ a ∷ drop at xs ++ drop (length xs + 1) (placesOf xs) ≡ placesOf (take at xs ++ a ∷ drop at xs)
 unfolding placesOf
 opened xs at a h k =
-    ap (λ (l : List ReduceOuterAxis). l ++ a ∷ drop at xs ++ drop (length xs + 1) (xs ++ replicate (PLACES - length xs) noAxis)) (take-append-le at xs (replicate (PLACES - length xs) noAxis) h)
-    ∙ ap (λ (l : List ReduceOuterAxis). take at xs ++ a ∷ drop at xs ++ l) (drop-append-add xs (replicate (PLACES - length xs) noAxis) 1 ∙ drop-zeros (length xs) k)
+    ap (λ (l : List ReduceOuterAxis). l ++ a ∷ drop at xs ++ drop (length xs + 1) (xs ++ replicate (PLACES - length xs) noAxis))
+    (take-append-le at xs (replicate (PLACES - length xs) noAxis) h)
+    ∙ ap (λ (l : List ReduceOuterAxis). take at xs ++ a ∷ drop at xs ++ l)
+    (drop-append-add xs (replicate (PLACES - length xs) noAxis) 1 ∙ drop-zeros (length xs) k)
     ∙ ap (λ (n : ℕ). take at xs ++ a ∷ drop at xs ++ replicate (PLACES - n) noAxis) (sym longer)
   where
     longer : length (take at xs ++ a ∷ drop at xs) ≡ suc (length xs)
@@ -90,13 +99,10 @@ module _ (l : List ReduceOuterAxis) (n : ℕ) (h : n < length l) where
   pub shifted-start : shifted l n n ≡ l
   unfolding shifted
   shifted-start =
-      ap (λ (r : List ReduceOuterAxis). take n l ++ getD l n noAxis ∷ r ++ drop (n + 1) l) (drop-of-length-le (take n l) short)
+      ap (λ (r : List ReduceOuterAxis). take n l ++ getD l n noAxis ∷ r ++ drop (n + 1) l) (take-past l n n (omega arith))
       ∙ ap (λ (r : List ReduceOuterAxis). r ++ drop (n + 1) l) (sym (take-suc l n noAxis h))
       ∙ ap (λ (m : ℕ). take (suc n) l ++ drop m l) (add-one n)
       ∙ take-append-drop (suc n) l
-    where
-      short : length (take n l) ≤ n
-      short = simp length-take (omega arith)
 
   pub shifted-end : (j : ℕ) (a : ReduceOuterAxis) → j ≤ n → set (shifted l n j) j a ≡ take j l ++ a ∷ drop j (take n l) ++ drop (n + 1) l
   unfolding shifted
@@ -106,11 +112,9 @@ module _ (l : List ReduceOuterAxis) (n : ℕ) (h : n < length l) where
   unfolding shifted
   shifted-read j k =
       ap (λ (r : List ReduceOuterAxis). getD r j noAxis) (append-assoc (take (suc j) l) (getD l (suc j) noAxis ∷ drop (suc j) (take n l)) (drop (n + 1) l))
-      ∙ List·getD-append (take (suc j) l) (getD l (suc j) noAxis ∷ drop (suc j) (take n l) ++ drop (n + 1) l) noAxis j inside
+      ∙ List·getD-append (take (suc j) l) (getD l (suc j) noAxis ∷ drop (suc j) (take n l) ++ drop (n + 1) l) noAxis j
+      (take-inside l (suc j) j (omega arith) (omega arith))
       ∙ getD-take (suc j) l j noAxis (omega arith)
-    where
-      inside : j < length (take (suc j) l)
-      inside = simp length-take (omega arith)
 
   pub shifted-step : (j : ℕ) → j < n → set (shifted l n (suc j)) (suc j) (getD (shifted l n (suc j)) j noAxis) ≡ shifted l n j
   unfolding shifted
@@ -122,11 +126,10 @@ module _ (l : List ReduceOuterAxis) (n : ℕ) (h : n < length l) where
           ∙ ap (λ (r : List ReduceOuterAxis). r ++ drop (n + 1) l) (append-assoc (take j l) (getD l j noAxis ∷ []) (getD l j noAxis ∷ drop (suc j) (take n l)))
           ∙ ap (λ (r : List ReduceOuterAxis). take j l ++ getD l j noAxis ∷ r ++ drop (n + 1) l) (sym rest)
         where
-          inside : j < length (take n l)
-          inside = simp length-take (omega arith)
-
           rest : drop j (take n l) ≡ getD l j noAxis ∷ drop (suc j) (take n l)
-          rest = drop-cons (take n l) j noAxis inside ∙ ap (λ (y : ReduceOuterAxis). y ∷ drop (suc j) (take n l)) (getD-take n l j noAxis k)
+          rest =
+              drop-cons (take n l) j noAxis (take-inside l n j k (omega arith))
+              ∙ ap (λ (y : ReduceOuterAxis). y ∷ drop (suc j) (take n l)) (getD-take n l j noAxis k)
 
 pub table-same : (r t : AxisTable) → r .count ≡ t .count → r .places ≡ t .places → r ≡ t
 table-same r t e f =
@@ -135,9 +138,6 @@ table-same r t e f =
 -- the axis at i of the first n places, and those after it
 pub take-from : (l : List ReduceOuterAxis) (n i : ℕ) → i < n → n ≤ length l → drop i (take n l) ≡ getD l i noAxis ∷ drop (i + 1) (take n l)
 take-from l n i h k =
-    drop-cons (take n l) i noAxis inside
+    drop-cons (take n l) i noAxis (take-inside l n i h k)
     ∙ ap (λ (x : ReduceOuterAxis). x ∷ drop (suc i) (take n l)) (getD-take n l i noAxis h)
     ∙ ap (λ (m : ℕ). getD l i noAxis ∷ drop m (take n l)) (sym (add-one i))
-  where
-    inside : i < length (take n l)
-    inside = simp length-take (omega arith)

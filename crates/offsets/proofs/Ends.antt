@@ -6,13 +6,14 @@ use mathlib.Core.Bool.{Bool, true, false, cond, _&&_}
 use mathlib.Core.Logic.{_↔_}
 use mathlib.Core.List.{List, [], _∷_, map}
 use native.Mathlib.Omega.{arith}
-use native.Mathlib.Nat.{mul-le-mul-left, mod-lt, mul-comm}
+use native.Mathlib.Nat.{mul-le-mul-left, mod-lt, mul-comm, not-suc-le-zero}
 use native.Mathlib.Decide.{decLt}
 use borrow.Author.Tests.{le-ltb}
 use lib.ListN.{length}
 use lib.Arith.{digits-div, digits-mod, digits-lt}
 use lib.IntN.{ℤ, pos, negsuc, _+ℤ_, _*ℤ_, *ℤ-zero}
 use lib.Signed.{leZ, ltZ, _≤ℤ_, _<ℤ_}
+use Rattle.laws.proofs.Tests.{and-both}
 use Rattle.integers.proofs.Difference.{ints, atoms}
 use Rattle.layout.specs.declared.axis.ReduceOuterAxis.{ReduceOuterAxis}
 use Rattle.layout.specs.Axes.{span}
@@ -41,16 +42,11 @@ unfolding positivePart
 zero-above (pos n) = simp ints (simp atoms (omega arith))
 zero-above (negsuc n) = simp ints (simp atoms (omega arith))
 
-pub and-left : (a b : Bool) → (a && b) ≡ true → a ≡ true
-and-left true b e = refl
-and-left false b e = e
-
-pub and-right : (a b : Bool) → (a && b) ≡ true → b ≡ true
-and-right true b e = e
-and-right false b e = cc
-
 pub and3 : (a b c : Bool) → (a && b && c) ≡ true → (a ≡ true) × (b ≡ true) × (c ≡ true)
-and3 a b c e = (and-left a b (and-left (a && b) c e), and-right a b (and-left (a && b) c e), and-right (a && b) c e)
+and3 a b c e =
+    let p = and-both (a && b) c e in
+    let q = and-both a b (p .0) in
+    (q .0, q .1, p .1)
 
 -- a digit's share lies between 0 and the last digit's
 share-pos : (n e d : ℕ) → d < e → (pos 0 ≤ℤ (pos n *ℤ pos d)) × ((pos n *ℤ pos d) ≤ℤ span e (pos n))
@@ -60,8 +56,10 @@ share-pos n e d h =
 
 share-neg : (n e d : ℕ) → d < e → (span e (negsuc n) ≤ℤ (negsuc n *ℤ pos d)) × ((negsuc n *ℤ pos d) ≤ℤ pos 0)
 unfolding span
-share-neg n e d h =
-    ((let k : suc n * d ≤ suc n * (e - 1) = mul-le-mul-left (suc n) (omega arith) in simp ints (simp atoms (omega arith))), simp ints (simp atoms (omega arith)))
+share-neg n e d h = (
+  (let k : suc n * d ≤ suc n * (e - 1) = mul-le-mul-left (suc n) (omega arith) in simp ints (simp atoms (omega arith))),
+  simp ints (simp atoms (omega arith)),
+)
 
 le-trans : (a b c : ℤ) → a ≤ℤ b → b ≤ℤ c → a ≤ℤ c
 le-trans a b c = simp ints (simp atoms (omega arith))
@@ -116,7 +114,8 @@ module _ (f : ReduceOuterAxis → ℕ) (small : (a : ReduceOuterAxis) → 1 ≤ 
   unfolding numberBy digits Axes
   number-digits [] w = refl
   number-digits (a ∷ xs) w =
-      rw (digits-mod (numberBy f xs) (small a (w .0 .1)), digits-div (numberBy f xs) (small a (w .0 .1))) (ap (λ (ds : List ℕ). f a ∷ ds) (number-digits xs (w .1)))
+      rw (digits-mod (numberBy f xs) (small a (w .0 .1)), digits-div (numberBy f xs) (small a (w .0 .1)))
+      (ap (λ (ds : List ℕ). f a ∷ ds) (number-digits xs (w .1)))
 
   pub number-lt : (xs : List ReduceOuterAxis) → Axes xs → numberBy f xs < elements xs
   unfolding numberBy elements Axes
@@ -198,20 +197,17 @@ module _ (xs : List ReduceOuterAxis) (w : Axes xs) (base : ℤ) where
       small : (a : ReduceOuterAxis) → 1 ≤ a .extent → highDigit a < a .extent
       small a h = digit-small' (a .extent) h (ltZ (span (a .extent) (a .«source_step»)) (pos 0))
 
+  itself : (z : ℤ) → z ≤ℤ z
+  itself z = simp ints (simp atoms (omega arith))
+
   -- every element lies between the ends
   pub offset-low : (k : ℕ) → lowestOffset xs base ≤ℤ offset xs base k
   unfolding offset lowestOffset
-  offset-low k = sum-le base base (lowSum xs) (shift xs (digits xs k)) (same base) (shift-low xs w k)
-    where
-      same : (z : ℤ) → z ≤ℤ z
-      same z = simp ints (simp atoms (omega arith))
+  offset-low k = sum-le base base (lowSum xs) (shift xs (digits xs k)) (itself base) (shift-low xs w k)
 
   pub offset-high : (k : ℕ) → offset xs base k ≤ℤ highestOffset xs base
   unfolding offset highestOffset
-  offset-high k = sum-le base base (shift xs (digits xs k)) (highSum xs) (same base) (shift-high xs w k)
-    where
-      same : (z : ℤ) → z ≤ℤ z
-      same z = simp ints (simp atoms (omega arith))
+  offset-high k = sum-le base base (shift xs (digits xs k)) (highSum xs) (itself base) (shift-high xs w k)
 
 -- ---- a test of every number
 pub every-below-true : (n : ℕ) (p : ℕ → Bool) → ((k : ℕ) → k < n → p k ≡ true) → everyBelow n p ≡ true
@@ -221,15 +217,12 @@ every-below-true (suc n) p f = rw (every-below-true n p (λ k h. f k (omega arit
 
 pub every-below-at : (n : ℕ) (p : ℕ → Bool) → everyBelow n p ≡ true → (k : ℕ) → k < n → p k ≡ true
 unfolding everyBelow
-every-below-at zero p e k h = absurd (none h)
-  where
-    none : k < 0 → ⊥
-    none h = omega arith
-every-below-at (suc n) p e k h = go (every-below-at n p (and-left (everyBelow n p) (p n) e) k) (decLt k n)
+every-below-at zero p e k h = absurd (not-suc-le-zero h)
+every-below-at (suc n) p e k h = go (every-below-at n p (and-both (everyBelow n p) (p n) e .0) k) (decLt k n)
   where
     go : (k < n → p k ≡ true) → Dec (k < n) → p k ≡ true
     go f (yes l) = f l
-    go f (no l) = let q : k ≡ n = omega arith in rw q (and-right (everyBelow n p) (p n) e)
+    go f (no l) = let q : k ≡ n = omega arith in rw q (and-both (everyBelow n p) (p n) e .1)
 
 -- ---- refusal 7: by its definition over every element, and by the two ends
 unfoldable pub endsInside : List ReduceOuterAxis → ℤ → ℕ → Bool
@@ -260,7 +253,8 @@ module _ (xs : List ReduceOuterAxis) (w : Axes xs) (base : ℤ) (length : ℕ) w
   -- refusal 7 is given exactly if some element lies outside
   pub seven-exact : (allInside xs (elements xs) base length ≡ true) ↔ ((k : ℕ) → k < elements xs → insideValues length (offset xs base k) ≡ true)
   unfolding allInside
-  seven-exact = (every-below-at (elements xs) (λ k. insideValues length (offset xs base k)), every-below-true (elements xs) (λ k. insideValues length (offset xs base k)))
+  seven-exact =
+      (every-below-at (elements xs) (λ k. insideValues length (offset xs base k)), every-below-true (elements xs) (λ k. insideValues length (offset xs base k)))
 
   ends-all : endsInside xs base length ≡ true → (k : ℕ) → insideValues length (offset xs base k) ≡ true
   unfolding endsInside insideValues
@@ -268,7 +262,11 @@ module _ (xs : List ReduceOuterAxis) (w : Axes xs) (base : ℤ) (length : ℕ) w
       let l = offset-low xs w base k in
       let h = offset-high xs w base k in
       let p = and3 (leZ (pos 0) (lowestOffset xs base)) (ltZ (highestOffset xs base) (pos (2 ^ 63))) (ltZ (highestOffset xs base) (pos length)) e in
-      rw (up-zero (lowestOffset xs base) (offset xs base k) (p .0) l, down-lt (offset xs base k) (highestOffset xs base) (pos (2 ^ 63)) (p .1) h, down-lt (offset xs base k) (highestOffset xs base) (pos length) (p .2) h)
+      rw (
+        up-zero (lowestOffset xs base) (offset xs base k) (p .0) l,
+        down-lt (offset xs base k) (highestOffset xs base) (pos (2 ^ 63)) (p .1) h,
+        down-lt (offset xs base k) (highestOffset xs base) (pos length) (p .2) h,
+      )
 
   all-ends : allInside xs (elements xs) base length ≡ true → endsInside xs base length ≡ true
   unfolding endsInside insideValues
@@ -284,7 +282,8 @@ module _ (xs : List ReduceOuterAxis) (w : Axes xs) (base : ℤ) (length : ℕ) w
   pub ends-exact : allInside xs (elements xs) base length ≡ endsInside xs base length
   ends-exact = go (allInside xs (elements xs) base length) (endsInside xs base length) refl refl
     where
-      go : (a b : Bool) → allInside xs (elements xs) base length ≡ a → endsInside xs base length ≡ b → allInside xs (elements xs) base length ≡ endsInside xs base length
+      go : (a b : Bool) → allInside xs (elements xs) base length ≡ a → endsInside xs base length ≡ b
+          → allInside xs (elements xs) base length ≡ endsInside xs base length
       go true b e f = e ∙ sym (all-ends e)
       go false true e f = seven-exact .1 (λ k h. ends-all f k) ∙ sym f
       go false false e f = e ∙ sym f

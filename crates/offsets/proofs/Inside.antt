@@ -2,22 +2,22 @@
 -- Assumes nothing.
 use Prim.Native.Nat.{ℕ, zero, suc, _+_, _-_, _^_, _≤_, _<_}
 use mathlib.Core.Path.{_≡_, refl, sym, _∙_, ap, subst}
-use mathlib.Core.Bool.{Bool, true, false, cond, _&&_}
+use mathlib.Core.Bool.{Bool, true, false, _&&_, and-false, and-true}
 use mathlib.Core.List.{List, [], _∷_}
 use native.Mathlib.Omega.{arith}
 use native.Mathlib.Decide.{decLt}
-use lib.Dec.{T, ltb}
-use lib.IntN.{ℤ, pos, negsuc, negℤ, natAbs, _+ℤ_, _*ℤ_}
-use lib.Signed.{leZ, ltZ, _≤ℤ_, _<ℤ_}
+use lib.Dec.{T}
+use lib.IntN.{ℤ, pos, negsuc, negℤ, natAbs, _+ℤ_}
+use lib.Signed.{leZ, ltZ, _≤ℤ_}
 use borrow.Author.Tests.{lt-ltb, le-ltb}
 use Rattle.integers.proofs.Difference.{ints, atoms}
 use Rattle.layout.specs.declared.axis.ReduceOuterAxis.{ReduceOuterAxis}
-use Rattle.layout.specs.Axes.{span, axisOf}
+use Rattle.layout.specs.Axes.{span}
 use Rattle.offsets.specs.declared.bounds.Span.{Span}
 use Rattle.offsets.specs.Elements.{allInside}
 use Rattle.offsets.specs.InnerCursors.{elements}
 use Rattle.offsets.specs.InnerBounds.{negativePart, positivePart, lowSum, highSum, lowestOffset, highestOffset, nowhere, widened, stayInside}
-use Rattle.offsets.specs.InnerCursors.{Axis, Axes}
+use Rattle.offsets.specs.InnerCursors.{Axes}
 use Rattle.offsets.proofs.Ends.{low-zero, zero-high, endsInside, ends-exact}
 
 -- one axis: its reset is r, its share z
@@ -83,14 +83,11 @@ pub record Widens (a : ReduceOuterAxis) (xs : List ReduceOuterAxis) (s r : Span)
   pub same : r .ok ≡ true → stayInside xs (r .low) (r .high) last ≡ stayInside (a ∷ xs) (s .low) (s .high) last
   pub out : r .ok ≡ false → stayInside (a ∷ xs) (s .low) (s .high) last ≡ false
 
-and-false : (b : Bool) → (b && false) ≡ false
-and-false true = refl
-and-false false = refl
-
 false-true : {A : Type 0} → false ≡ true → A
 false-true e = absurd (subst T (sym e) tt)
 
-pub widens : (a : ReduceOuterAxis) (xs : List ReduceOuterAxis) (s : Span) (last : ℕ) (r : ℤ) → r ≡ negℤ (span (a .extent) (a .«source_step»)) → s .high ≤ last → Widens a xs s (widened s r last) last
+pub widens : (a : ReduceOuterAxis) (xs : List ReduceOuterAxis) (s : Span) (last : ℕ) (r : ℤ) → r ≡ negℤ (span (a .extent) (a .«source_step»))
+    → s .high ≤ last → Widens a xs s (widened s r last) last
 unfolding stayInside lowSum highSum widened negativePart positivePart
 widens a xs s last r e h = rw e (go (span (a .extent) (a .«source_step»)) refl)
   where
@@ -117,7 +114,11 @@ widens a xs s last r e h = rw e (go (span (a .extent) (a .«source_step»)) refl
             })
         back (no l) =
             let m : suc n ≤ s .low = omega arith in
-            let w : widened s (negℤ z) last ≡ record { ok = true; low = s .low - suc n; high = s .high } = rw (q, lt-ltb 0 (suc n) (omega arith), le-ltb (s .low) (suc n) m) in
+            let w : widened s (negℤ z) last ≡ record { ok = true; low = s .low - suc n; high = s .high } = rw (
+              q,
+              lt-ltb 0 (suc n) (omega arith),
+              le-ltb (s .low) (suc n) m,
+            ) in
             rw w
             (record {
               high = λ k. h;
@@ -133,11 +134,18 @@ widens a xs s last r e h = rw e (go (span (a .extent) (a .«source_step»)) refl
             (record {
               high = λ k. false-true k;
               same = λ k. false-true k;
-              out = λ k. rw (q, forth-out (s .low) (s .high) last L H (low-zero xs) (zero-high xs) n h l) (and-false (leZ (pos 0) (pos (s .low) +ℤ (pos 0 +ℤ L))));
+              out =
+                  λ k.
+                  rw (q, forth-out (s .low) (s .high) last L H (low-zero xs) (zero-high xs) n h l) (and-false (leZ (pos 0) (pos (s .low) +ℤ (pos 0 +ℤ L))));
             })
         forth (no l) =
             let m : n ≤ last - s .high = omega arith in
-            let w : widened s (negℤ z) last ≡ record { ok = true; low = s .low; high = s .high + n } = rw (q, opposite-test n, opposite-size n, le-ltb (last - s .high) n m) in
+            let w : widened s (negℤ z) last ≡ record { ok = true; low = s .low; high = s .high + n } = rw (
+              q,
+              opposite-test n,
+              opposite-size n,
+              le-ltb (last - s .high) n m,
+            ) in
             rw w
             (record {
               high = λ k. omega arith;
@@ -165,7 +173,8 @@ pub record Spanning (all xs : List ReduceOuterAxis) (b last : ℕ) (s : Span) : 
 pub spanning-first : (all : List ReduceOuterAxis) (b last : ℕ) → b ≤ last → Spanning all all b last (record { ok = true; low = b; high = b })
 spanning-first all b last h = record { ok = refl; high = h; same = refl }
 
-module _ (all xs ys : List ReduceOuterAxis) (a : ReduceOuterAxis) (b last : ℕ) (s r : Span) (z : ℤ) (e : xs ≡ a ∷ ys) (q : z ≡ negℤ (span (a .extent) (a .«source_step»))) (p : Spanning all xs b last s)
+module _ (all xs ys : List ReduceOuterAxis) (a : ReduceOuterAxis) (b last : ℕ) (s r : Span) (z : ℤ) (e : xs ≡ a ∷ ys)
+    (q : z ≡ negℤ (span (a .extent) (a .«source_step»))) (p : Spanning all xs b last s)
     (w : r ≡ widened s z last) where
   at-axis : stayInside (a ∷ ys) (s .low) (s .high) last ≡ stayInside all b b last
   at-axis = ap (λ (l : List ReduceOuterAxis). stayInside l (s .low) (s .high) last) (sym e) ∙ p .same
@@ -180,7 +189,8 @@ module _ (all xs ys : List ReduceOuterAxis) (a : ReduceOuterAxis) (b last : ℕ)
   spanning-out k = sym (widening .out k) ∙ at-axis
 
 pub spanning-all : (all xs : List ReduceOuterAxis) (b last : ℕ) (s : Span) → xs ≡ [] → Spanning all xs b last s → true ≡ stayInside all b b last
-spanning-all all xs b last s e p = sym (stays-in (s .low) (s .high) last (p .high)) ∙ ap (λ (l : List ReduceOuterAxis). stayInside l (s .low) (s .high) last) (sym e) ∙ p .same
+spanning-all all xs b last s e p =
+    sym (stays-in (s .low) (s .high) last (p .high)) ∙ ap (λ (l : List ReduceOuterAxis). stayInside l (s .low) (s .high) last) (sym e) ∙ p .same
 
 -- ---- from the ends to every element
 module _ (xs : List ReduceOuterAxis) (w : Axes xs) (length : ℕ) where
@@ -193,7 +203,9 @@ module _ (xs : List ReduceOuterAxis) (w : Axes xs) (length : ℕ) where
 
   pub base-past : (b : ℕ) → length ≤ b → false ≡ allInside xs (elements xs) (pos b) length
   unfolding endsInside highestOffset
-  base-past b h = sym (ends-exact xs w (pos b) length ∙ rw (high b (highSum xs) length h (zero-high xs)) (and-false (leZ (pos 0) (lowestOffset xs (pos b)) && ltZ (pos b +ℤ highSum xs) (pos (2 ^ 63)))))
+  base-past b h =
+      sym (ends-exact xs w (pos b) length
+      ∙ rw (high b (highSum xs) length h (zero-high xs)) (and-false (leZ (pos 0) (lowestOffset xs (pos b)) && ltZ (pos b +ℤ highSum xs) (pos (2 ^ 63)))))
     where
       high : (b : ℕ) (H : ℤ) (n : ℕ) → n ≤ b → pos 0 ≤ℤ H → ltZ (pos b +ℤ H) (pos n) ≡ false
       high b H n h = simp ints (simp atoms (omega arith))
@@ -211,33 +223,29 @@ module _ (xs : List ReduceOuterAxis) (w : Axes xs) (length : ℕ) where
       over : (z : ℤ) (k m : ℕ) → k ≡ m + 1 → ltZ z (pos k) ≡ false → leZ z (pos m) ≡ false
       over z k m e = rw e (simp ints (simp atoms (omega arith)))
 
-      go : (x y : Bool) → ltZ (pos b +ℤ highSum xs) (pos length) ≡ y → (x && ltZ (pos b +ℤ highSum xs) (pos (2 ^ 63)) && ltZ (pos b +ℤ highSum xs) (pos length)) ≡ (x && leZ (pos b +ℤ highSum xs) (pos (length - 1)))
-      go x true k = rw (k, wide (pos b +ℤ highSum xs) length h k, one (pos b +ℤ highSum xs) length (length - 1) (omega arith) k) (both x)
-        where
-          both : (x : Bool) → (x && true && true) ≡ (x && true)
-          both true = refl
-          both false = refl
-      go x false k = rw (k, over (pos b +ℤ highSum xs) length (length - 1) (omega arith) k) (and-false (x && ltZ (pos b +ℤ highSum xs) (pos (2 ^ 63))) ∙ sym (and-false x))
+      go : (x y : Bool) → ltZ (pos b +ℤ highSum xs) (pos length) ≡ y
+          → (x && ltZ (pos b +ℤ highSum xs) (pos (2 ^ 63)) && ltZ (pos b +ℤ highSum xs) (pos length)) ≡ (x && leZ (pos b +ℤ highSum xs) (pos (length - 1)))
+      go x true k = rw (k, wide (pos b +ℤ highSum xs) length h k, one (pos b +ℤ highSum xs) length (length - 1) (omega arith) k) (and-true (x && true))
+      go x false k =
+          rw (k, over (pos b +ℤ highSum xs) length (length - 1) (omega arith) k) (and-false (x && ltZ (pos b +ℤ highSum xs) (pos (2 ^ 63))) ∙ sym (and-false x))
 
-  pub last-long : (b : ℕ) → 2 ^ 63 ≤ length → stayInside xs b b 9223372036854775807 ≡ allInside xs (elements xs) (pos b) length
+  pub last-long : (b : ℕ) → 2 ^ 63 ≤ length → stayInside xs b b (2 ^ 63 - 1) ≡ allInside xs (elements xs) (pos b) length
   unfolding endsInside stayInside lowestOffset highestOffset
   last-long b h = sym (ends-exact xs w (pos b) length ∙ go (leZ (pos 0) (pos b +ℤ lowSum xs)) (ltZ (pos b +ℤ highSum xs) (pos (2 ^ 63))) refl)
     where
       wide : (z : ℤ) (k : ℕ) → 2 ^ 63 ≤ k → ltZ z (pos (2 ^ 63)) ≡ true → ltZ z (pos k) ≡ true
       wide z k h = simp ints (simp atoms (omega arith))
 
-      one : (z : ℤ) → ltZ z (pos (2 ^ 63)) ≡ true → leZ z (pos 9223372036854775807) ≡ true
+      one : (z : ℤ) → ltZ z (pos (2 ^ 63)) ≡ true → leZ z (pos (2 ^ 63 - 1)) ≡ true
       one z = simp ints (simp atoms (omega arith))
 
-      over : (z : ℤ) → ltZ z (pos (2 ^ 63)) ≡ false → leZ z (pos 9223372036854775807) ≡ false
+      over : (z : ℤ) → ltZ z (pos (2 ^ 63)) ≡ false → leZ z (pos (2 ^ 63 - 1)) ≡ false
       over z = simp ints (simp atoms (omega arith))
 
-      go : (x y : Bool) → ltZ (pos b +ℤ highSum xs) (pos (2 ^ 63)) ≡ y → (x && ltZ (pos b +ℤ highSum xs) (pos (2 ^ 63)) && ltZ (pos b +ℤ highSum xs) (pos length)) ≡ (x && leZ (pos b +ℤ highSum xs) (pos 9223372036854775807))
-      go x true k = rw (k, wide (pos b +ℤ highSum xs) length h k, one (pos b +ℤ highSum xs) k) (both x)
-        where
-          both : (x : Bool) → (x && true && true) ≡ (x && true)
-          both true = refl
-          both false = refl
+      go : (x y : Bool) → ltZ (pos b +ℤ highSum xs) (pos (2 ^ 63)) ≡ y
+          → (x && ltZ (pos b +ℤ highSum xs) (pos (2 ^ 63)) && ltZ (pos b +ℤ highSum xs) (pos length))
+          ≡ (x && leZ (pos b +ℤ highSum xs) (pos (2 ^ 63 - 1)))
+      go x true k = rw (k, wide (pos b +ℤ highSum xs) length h k, one (pos b +ℤ highSum xs) k) (and-true (x && true))
       go x false k = rw (k, over (pos b +ℤ highSum xs) k) (none x (ltZ (pos b +ℤ highSum xs) (pos length)))
         where
           none : (x y : Bool) → (x && false && y) ≡ (x && false)

@@ -1,7 +1,9 @@
 pub mod Ends
 pub mod Stepping
+pub mod Cursors
 pub mod Inside
 pub mod Fused
+pub mod Accepted
 pub mod Ranges
 pub mod Walking
 pub mod Writing

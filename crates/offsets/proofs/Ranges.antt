@@ -2,11 +2,11 @@
 -- Assumes nothing.
 use Prim.Native.Nat.{ℕ, zero, suc, _-_, _^_, _≤_, _<_}
 use mathlib.Core.Path.{_≡_, refl, sym, _∙_, ap, subst}
-use mathlib.Core.Bool.{Bool, true, false, cond, not, _&&_}
+use mathlib.Core.Bool.{Bool, true, false, cond, not}
 use mathlib.Core.List.{List, [], _∷_, _++_, append-assoc}
-use mathlib.Core.Option.{Option, none, some}
+use mathlib.Core.Option.{Option, some}
 use native.Mathlib.Omega.{arith}
-use lib.Dec.{T, ltb, leb, eqb}
+use lib.Dec.{ltb, leb, eqb}
 use lib.ListN.{length, drop}
 use native.Mathlib.Decide.{decLt}
 use lib.IntN.{ℤ}
@@ -20,11 +20,12 @@ use Rattle.refusals.specs.Refusals.{Refusal, firstOf}
 use Rattle.layout.specs.Compile.{compileRefusals, compileOf, layoutBeside, emptyLayout, totalOf, traversalOf, overflows, aboveMost}
 use Rattle.offsets.specs.Elements.{offset, insideValues, everyBelow, allInside}
 use Rattle.offsets.specs.Pieces.{runOf, outerOf}
-use Rattle.offsets.specs.InnerCursors.{Traversal, Bounded}
+use Rattle.offsets.specs.InnerCursors.{Bounded}
 use Rattle.offsets.specs.Lists.{totalIn, rangeRefusals, rangeCode, listCode, offsetsFrom, listBuffer}
 use Rattle.offsets.specs.InnerLists.{rangeOf}
 use Rattle.offsets.proofs.Ends.{ends-exact, ends-bounded}
-use Rattle.offsets.proofs.Fused.{AcceptedLayout, SameElements, is-accepted, refused-none, not-over}
+use Rattle.offsets.proofs.Fused.{SameElements}
+use Rattle.offsets.proofs.Accepted.{AcceptedLayout, is-accepted, refused-none, not-over}
 
 every-below-same : (n : ℕ) (p q : ℕ → Bool) → ((k : ℕ) → p k ≡ q k) → everyBelow n p ≡ everyBelow n q
 unfolding everyBelow
@@ -33,7 +34,8 @@ every-below-same (suc n) p q f = rw (every-below-same n p q f, f n)
 
 pub inside-same : (xs ys : List ReduceOuterAxis) (n : ℕ) (base : ℤ) (len : ℕ) → SameElements xs ys → allInside ys n base len ≡ allInside xs n base len
 unfolding allInside
-inside-same xs ys n base len s = every-below-same n (λ k. insideValues len (offset ys base k)) (λ k. insideValues len (offset xs base k)) (λ k. ap (insideValues len) (s .offsets base k))
+inside-same xs ys n base len s =
+    every-below-same n (λ k. insideValues len (offset ys base k)) (λ k. insideValues len (offset xs base k)) (λ k. ap (insideValues len) (s .offsets base k))
 
 -- a refusal that applies hides those after it
 first-hides : (rs qs : List Refusal) → (firstOf rs ≡ 0 → ⊥) → firstOf (rs ++ qs) ≡ firstOf rs
@@ -41,7 +43,8 @@ unfolding firstOf
 first-hides [] qs n = absurd (n refl)
 first-hides (r ∷ rs) qs n = go (r .1) refl (first-hides rs qs)
   where
-    go : (b : Bool) → r .1 ≡ b → ((firstOf rs ≡ 0 → ⊥) → firstOf (rs ++ qs) ≡ firstOf rs) → cond (r .1) (r .0) (firstOf (rs ++ qs)) ≡ cond (r .1) (r .0) (firstOf rs)
+    go : (b : Bool) → r .1 ≡ b → ((firstOf rs ≡ 0 → ⊥) → firstOf (rs ++ qs) ≡ firstOf rs)
+        → cond (r .1) (r .0) (firstOf (rs ++ qs)) ≡ cond (r .1) (r .0) (firstOf rs)
     go true e f = rw e
     go false e f = rw e (f (λ z. n (rw e z)))
 
@@ -78,10 +81,13 @@ module _ (ns : List ℕ) (ss : List ℤ) where
       }
 
   pub clear-accepted : (c : Clear) → 0 < (compileOf ns ss) .traversal .total → AcceptedLayout ns ss ((compileOf ns ss) .traversal)
-  clear-accepted c h = subst (AcceptedLayout ns ss) (sym (c .is)) (is-accepted ns ss (c .same) (c .few) (c .layout) (c .compiled) (subst (λ (l : FullTraversal). 0 < l .total) (c .is) h))
+  clear-accepted c h =
+      subst (AcceptedLayout ns ss) (sym (c .is))
+      (is-accepted ns ss (c .same) (c .few) (c .layout) (c .compiled) (subst (λ (l : FullTraversal). 0 < l .total) (c .is) h))
 
 module _ (ns : List ℕ) (ss : List ℤ) (base : ℤ) (start end len : ℕ) where
-  range-at : (c : ℕ) → rangeCode ns ss base start end len ≡ c → rangeOf ns ss base start end len ≡ record { code = c; traversal = layoutBeside c (some ((compileOf ns ss) .traversal)) }
+  range-at : (c : ℕ) → rangeCode ns ss base start end len ≡ c
+      → rangeOf ns ss base start end len ≡ record { code = c; traversal = layoutBeside c (some ((compileOf ns ss) .traversal)) }
   unfolding rangeOf
   range-at c e = ap (λ (n : ℕ). record { code = n; traversal = layoutBeside n (some ((compileOf ns ss) .traversal)) }) e
 
@@ -92,13 +98,19 @@ module _ (ns : List ℕ) (ss : List ℤ) (base : ℤ) (start end len : ℕ) wher
       let q = first-hides (compileRefusals ns ss) (rangeRefusals ns ss base start end len) n in
       go (firstOf (compileRefusals ns ss)) refl q
     where
-      hidden : (k : ℕ) (o : Option FullTraversal) → _≡_ {A = Compiled} (record { code = suc k; traversal = layoutBeside (suc k) o }) (record { code = suc k; traversal = layoutBeside (suc k) (some ((compileOf ns ss) .traversal)) })
+      hidden : (k : ℕ) (o : Option FullTraversal)
+          → _≡_ {A = Compiled} (record { code = suc k; traversal = layoutBeside (suc k) o })
+          (record { code = suc k; traversal = layoutBeside (suc k) (some ((compileOf ns ss) .traversal)) })
       hidden k o = refl
 
-      go : (k : ℕ) → firstOf (compileRefusals ns ss) ≡ k → firstOf (compileRefusals ns ss ++ rangeRefusals ns ss base start end len) ≡ firstOf (compileRefusals ns ss)
-          → _≡_ {A = Compiled} (record { code = firstOf (compileRefusals ns ss); traversal = layoutBeside (firstOf (compileRefusals ns ss)) (traversalOf ns ss) }) (rangeOf ns ss base start end len)
+      go : (k : ℕ) → firstOf (compileRefusals ns ss) ≡ k
+          → firstOf (compileRefusals ns ss ++ rangeRefusals ns ss base start end len) ≡ firstOf (compileRefusals ns ss)
+          → _≡_ {A = Compiled}
+          (record { code = firstOf (compileRefusals ns ss); traversal = layoutBeside (firstOf (compileRefusals ns ss)) (traversalOf ns ss) })
+          (rangeOf ns ss base start end len)
       go zero e q = absurd (n e)
-      go (suc k) e q = ap (λ (m : ℕ). record { code = m; traversal = layoutBeside m (traversalOf ns ss) }) e ∙ hidden k (traversalOf ns ss) ∙ sym (range-at (suc k) (q ∙ e))
+      go (suc k) e q =
+          ap (λ (m : ℕ). record { code = m; traversal = layoutBeside m (traversalOf ns ss) }) e ∙ hidden k (traversalOf ns ss) ∙ sym (range-at (suc k) (q ∙ e))
 
   module _ (c : Clear ns ss) where
     pub range-5 : end ≤ start → rangeOf ns ss base start end len ≡ record { code = 5; traversal = emptyLayout }
@@ -111,18 +123,26 @@ module _ (ns : List ℕ) (ss : List ℤ) (base : ℤ) (start end len : ℕ) wher
 
     module _ (h : start < end) (k : end ≤ (compileOf ns ss) .traversal .total) where
       -- the test over the compiled layout is the test over rule 2's axes
-      tested : (b : Bool) → allInside (runOf ((compileOf ns ss) .traversal) ∷ outerOf ((compileOf ns ss) .traversal)) ((compileOf ns ss) .traversal .total) base len ≡ b → allInside (axesOf ns ss) ((compileOf ns ss) .traversal .total) base len ≡ b
+      tested : (b : Bool)
+          → allInside (runOf ((compileOf ns ss) .traversal) ∷ outerOf ((compileOf ns ss) .traversal)) ((compileOf ns ss) .traversal .total) base len ≡ b
+          → allInside (axesOf ns ss) ((compileOf ns ss) .traversal .total) base len ≡ b
       tested b e = sym (inside-same (axesOf ns ss) _ _ base len (clear-accepted ns ss c (omega arith) .same)) ∙ e
 
-      pub range-7 : allInside (runOf ((compileOf ns ss) .traversal) ∷ outerOf ((compileOf ns ss) .traversal)) ((compileOf ns ss) .traversal .total) base len ≡ false
+      pub range-7 : allInside (runOf ((compileOf ns ss) .traversal) ∷ outerOf ((compileOf ns ss) .traversal)) ((compileOf ns ss) .traversal .total) base len
+          ≡ false
           → rangeOf ns ss base start end len ≡ record { code = 7; traversal = emptyLayout }
       unfolding rangeCode rangeRefusals firstOf layoutBeside totalIn
-      range-7 e = range-at 7 (c .after (rangeRefusals ns ss base start end len) ∙ rw (lt-leb end start h, le-ltb ((compileOf ns ss) .traversal .total) end k, tested false e))
+      range-7 e =
+          range-at 7
+          (c .after (rangeRefusals ns ss base start end len) ∙ rw (lt-leb end start h, le-ltb ((compileOf ns ss) .traversal .total) end k, tested false e))
 
-      pub range-0 : allInside (runOf ((compileOf ns ss) .traversal) ∷ outerOf ((compileOf ns ss) .traversal)) ((compileOf ns ss) .traversal .total) base len ≡ true
+      pub range-0 : allInside (runOf ((compileOf ns ss) .traversal) ∷ outerOf ((compileOf ns ss) .traversal)) ((compileOf ns ss) .traversal .total) base len
+          ≡ true
           → rangeOf ns ss base start end len ≡ record { code = 0; traversal = (compileOf ns ss) .traversal }
       unfolding rangeCode rangeRefusals firstOf layoutBeside totalIn
-      range-0 e = range-at 0 (c .after (rangeRefusals ns ss base start end len) ∙ rw (lt-leb end start h, le-ltb ((compileOf ns ss) .traversal .total) end k, tested true e))
+      range-0 e =
+          range-at 0
+          (c .after (rangeRefusals ns ss base start end len) ∙ rw (lt-leb end start h, le-ltb ((compileOf ns ss) .traversal .total) end k, tested true e))
 
 -- ---- an accepted range
 pub record Ranged (ns : List ℕ) (ss : List ℤ) (base : ℤ) (start end len : ℕ) : Type 0 where
@@ -167,7 +187,10 @@ module _ (ns : List ℕ) (ss : List ℤ) (base : ℤ) (start end len : ℕ) wher
         forward = leb-false end start (a .0);
         inside = ltb-false t end (b .0);
         within = not-false (allInside (axesOf ns ss) t base len) (d .0);
-        after = λ rs. ap firstOf (append-assoc (compileRefusals ns ss) (rangeRefusals ns ss base start end len) rs) ∙ c .after (rangeRefusals ns ss base start end len ++ rs) ∙ rw (a .0, b .0, d .0);
+        after =
+            λ rs. ap firstOf (append-assoc (compileRefusals ns ss) (rangeRefusals ns ss base start end len) rs)
+            ∙ c .after (rangeRefusals ns ss base start end len ++ rs)
+            ∙ rw (a .0, b .0, d .0);
       }
 
   module _ (r : Ranged ns ss base start end len) where
@@ -175,7 +198,9 @@ module _ (ns : List ℕ) (ss : List ℤ) (base : ℤ) (start end len : ℕ) wher
     ranged-accepted = clear-accepted ns ss (r .clears) (omega (arith, r .forward, r .inside))
 
     -- the test of refusal 7, over the compiled axes
-    pub ranged-inside : allInside (runOf ((compileOf ns ss) .traversal) ∷ outerOf ((compileOf ns ss) .traversal)) ((compileOf ns ss) .traversal .total) base len ≡ true
+    pub ranged-inside : allInside (runOf ((compileOf ns ss) .traversal) ∷ outerOf ((compileOf ns ss) .traversal)) ((compileOf ns ss) .traversal .total) base
+        len
+        ≡ true
     ranged-inside = inside-same (axesOf ns ss) _ _ base len (ranged-accepted .same) ∙ r .within
 
     pub ranged-bounded : Bounded (runOf ((compileOf ns ss) .traversal) ∷ outerOf ((compileOf ns ss) .traversal)) base
@@ -205,11 +230,16 @@ module _ (ns : List ℕ) (ss : List ℤ) (base : ℤ) (start end len : ℕ) wher
   -- the buffer after the call
   pub buffer-kept : (out : List ℤ) → (listCode ns ss base start end len (length out) ≡ 0 → ⊥) → out ≡ listBuffer ns ss base start end len out
   unfolding listBuffer
-  buffer-kept out n = sym (ap (λ (b : Bool). cond b (offsetsFrom (axesOf ns ss) base start (end - start) ++ drop (end - start) out) out) (ne-eqb (listCode ns ss base start end len (length out)) 0 n))
+  buffer-kept out n =
+      sym (ap (λ (b : Bool). cond b (offsetsFrom (axesOf ns ss) base start (end - start) ++ drop (end - start) out) out)
+      (ne-eqb (listCode ns ss base start end len (length out)) 0 n))
 
-  pub buffer-filled : (out : List ℤ) → listCode ns ss base start end len (length out) ≡ 0 → offsetsFrom (axesOf ns ss) base start (end - start) ++ drop (end - start) out ≡ listBuffer ns ss base start end len out
+  pub buffer-filled : (out : List ℤ) → listCode ns ss base start end len (length out) ≡ 0
+      → offsetsFrom (axesOf ns ss) base start (end - start) ++ drop (end - start) out ≡ listBuffer ns ss base start end len out
   unfolding listBuffer
-  buffer-filled out e = sym (ap (λ (b : Bool). cond b (offsetsFrom (axesOf ns ss) base start (end - start) ++ drop (end - start) out) out) (eq-eqb (listCode ns ss base start end len (length out)) 0 e))
+  buffer-filled out e =
+      sym (ap (λ (b : Bool). cond b (offsetsFrom (axesOf ns ss) base start (end - start) ++ drop (end - start) out) out)
+      (eq-eqb (listCode ns ss base start end len (length out)) 0 e))
 
 pub offsets-same : (xs ys : List ReduceOuterAxis) (base : ℤ) → SameElements xs ys → (n k : ℕ) → offsetsFrom ys base k n ≡ offsetsFrom xs base k n
 unfolding offsetsFrom

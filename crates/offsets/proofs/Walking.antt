@@ -2,7 +2,7 @@
 -- Assumes nothing.
 use Prim.Native.Nat.{ℕ, _+_, _*_, _/_, _%_, _^_, _≤_, _<_}
 use mathlib.Core.Path.{_≡_, refl, sym, _∙_, ap, subst}
-use mathlib.Core.List.{List, [], _∷_}
+use mathlib.Core.List.{List, _∷_}
 use native.Mathlib.Omega.{arith}
 use native.Mathlib.Nat.{div-add-mod', mod-lt}
 use mathlib.Core.Bool.{Bool, cond}
@@ -32,8 +32,10 @@ module _ (a : ReduceOuterAxis) (xs : List ReduceOuterAxis) (base : ℤ) (k : ℕ
   pub along : (j : ℕ) → k % a .extent + j < a .extent → offset (a ∷ xs) base (k + j) ≡ offset (a ∷ xs) base k +ℤ a .«source_step» *ℤ pos j
   along j l =
       offset-cons a xs base (k + j)
-      ∙ ap (λ (d : ℕ). offset xs (base +ℤ a .«source_step» *ℤ pos d) ((k + j) / a .extent)) (ap (λ (n : ℕ). n % a .extent) (split j) ∙ digits-mod (k / a .extent) l)
-      ∙ ap (λ (q : ℕ). offset xs (base +ℤ a .«source_step» *ℤ pos (k % a .extent + j)) q) (ap (λ (n : ℕ). n / a .extent) (split j) ∙ digits-div (k / a .extent) l)
+      ∙ ap (λ (d : ℕ). offset xs (base +ℤ a .«source_step» *ℤ pos d) ((k + j) / a .extent))
+      (ap (λ (n : ℕ). n % a .extent) (split j) ∙ digits-mod (k / a .extent) l)
+      ∙ ap (λ (q : ℕ). offset xs (base +ℤ a .«source_step» *ℤ pos (k % a .extent + j)) q)
+      (ap (λ (n : ℕ). n / a .extent) (split j) ∙ digits-div (k / a .extent) l)
       ∙ ap (λ (z : ℤ). offset xs z (k / a .extent)) (ring base (a .«source_step») (k % a .extent) j)
       ∙ offset-moved xs (base +ℤ a .«source_step» *ℤ pos (k % a .extent)) (a .«source_step» *ℤ pos j) (k / a .extent)
       ∙ ap (λ (z : ℤ). z +ℤ a .«source_step» *ℤ pos j) (sym (offset-cons a xs base k))
@@ -91,7 +93,8 @@ module _ (l : FullTraversal) (t : Traversal l) (base : ℤ) (b : Bounded (runOf 
     len-end = omega arith
 
     -- every offset of the piece is an element's
-    pub piece-offset : (i : ℕ) → i < pieceLength (l .«run_len») end k → offset (runOf l ∷ outerOf l) base k +ℤ l .«run_stride» *ℤ pos i ≡ offset (runOf l ∷ outerOf l) base (k + i)
+    pub piece-offset : (i : ℕ) → i < pieceLength (l .«run_len») end k
+        → offset (runOf l ∷ outerOf l) base k +ℤ l .«run_stride» *ℤ pos i ≡ offset (runOf l ∷ outerOf l) base (k + i)
     unfolding runOf axisOf
     piece-offset i q = sym (along (axisOf (l .«run_len») (l .«run_stride»)) (outerOf l) base k some i (omega (arith, len-run)))
 
@@ -115,10 +118,17 @@ module _ (l : FullTraversal) (t : Traversal l) (base : ℤ) (b : Bounded (runOf 
     pub piece-next : k + pieceLength (l .«run_len») end k < end → pieceOf l end (rangeAt l base k) .next ≡ rangeAt l base (k + pieceLength (l .«run_len») end k)
     unfolding pieceOf rangeAt
     piece-next q =
-        ap (λ (x : Bool). record { at = k + len; col = 0; runs = cond x (advanced (outerOf l) (cursorAt (outerOf l) base (k / l .«run_len»))) (cursorAt (outerOf l) base (k / l .«run_len»)) }) (lt-ltb (k + len) end q)
+        ap (λ (x : Bool). record {
+          at = k + len;
+          col = 0;
+          runs = cond x (advanced (outerOf l) (cursorAt (outerOf l) base (k / l .«run_len»))) (cursorAt (outerOf l) base (k / l .«run_len»));
+        })
+        (lt-ltb (k + len) end q)
         ∙ ap (λ (c : ReduceOuterCursor). record { at = k + len; col = 0; runs = c }) (advance-next (outerOf l) base (k / l .«run_len») outer-axes)
-        ∙ ap (λ (d : ℕ). record { at = k + len; col = d; runs = cursorAt (outerOf l) base (k / l .«run_len» + 1) }) (sym (ap (λ (j : ℕ). j % l .«run_len») (whole q) ∙ digits-mod (k / l .«run_len» + 1) some))
-        ∙ ap (λ (d : ℕ). record { at = k + len; col = (k + len) % l .«run_len»; runs = cursorAt (outerOf l) base d }) (sym (ap (λ (j : ℕ). j / l .«run_len») (whole q) ∙ digits-div (k / l .«run_len» + 1) some))
+        ∙ ap (λ (d : ℕ). record { at = k + len; col = d; runs = cursorAt (outerOf l) base (k / l .«run_len» + 1) })
+        (sym (ap (λ (j : ℕ). j % l .«run_len») (whole q) ∙ digits-mod (k / l .«run_len» + 1) some))
+        ∙ ap (λ (d : ℕ). record { at = k + len; col = (k + len) % l .«run_len»; runs = cursorAt (outerOf l) base d })
+        (sym (ap (λ (j : ℕ). j / l .«run_len») (whole q) ∙ digits-div (k / l .«run_len» + 1) some))
       where
         len : ℕ
         len = pieceLength (l .«run_len») end k
@@ -163,7 +173,8 @@ pub record PieceHere (l : FullTraversal) (base : ℤ) (end : ℕ) (c : RangeCurs
   pub next-at : p .next .at ≡ c .at + p .len
   pub next-cursor-is : p .next .at < end → p .next ≡ rangeAt l base (p .next .at)
 
-module _ (l : FullTraversal) (t : Traversal l) (base : ℤ) (b : Bounded (runOf l ∷ outerOf l) base) (end : ℕ) (c : RangeCursor) (e : c ≡ rangeAt l base (c .at)) (h : c .at < end)
+module _ (l : FullTraversal) (t : Traversal l) (base : ℤ) (b : Bounded (runOf l ∷ outerOf l) base) (end : ℕ) (c : RangeCursor)
+    (e : c ≡ rangeAt l base (c .at)) (h : c .at < end)
     (p : RangePiece) (q : p ≡ pieceOf l end c) where
   piece-is : p ≡ pieceOf l end (rangeAt l base (c .at))
   piece-is = q ∙ ap (pieceOf l end) e

@@ -1,18 +1,15 @@
 -- The two cases of the full reduction's answer.
 -- Assumes nothing.
 use Prim.Native.Nat.{ℕ}
-use mathlib.Core.Path.{_≡_, sym, _∙_, ap}
+use mathlib.Core.Path.{_≡_, ap}
 use mathlib.Core.Bool.{Bool, cond}
 use mathlib.Core.List.{List}
 use lib.ListN.{length}
-use lib.Dec.{eqb}
 use lib.IntN.{ℤ}
 use lib.Ieee.{Float}
 use borrow.Author.Tests.{eq-eqb, ne-eqb}
-use Rattle.accumulator.specs.declared.StableProductFloatAcc.{StableProductFloatAcc}
-use Rattle.accumulator.specs.declared.Reduced.{Reduced}
-use Rattle.accumulator.specs.declared.Reduced.the-variants.{Acc, Refused}
-use Rattle.accumulator.specs.Joining.{Answer, answerOf, accumulator, refusal}
+use Rattle.accumulator.specs.declared.Reduced.the-variants.{Acc}
+use Rattle.accumulator.specs.Joining.{Answer, answerOf, refusal}
 use Rattle.offsets.specs.Lists.{rangeCode}
 use Rattle.reduction.specs.Ranges.{rangeProduct, reduceOf}
 

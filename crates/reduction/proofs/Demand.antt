@@ -1,7 +1,7 @@
 -- Rule D3 of a range, whatever its layout: the mark, the plain product, and that the answer stands.
 -- Assumes nothing.
 use Prim.Native.Nat.{ℕ, zero, suc, _+_, _-_, _^_, _≤_, _<_}
-use mathlib.Core.Path.{_≡_, refl, sym, _∙_, ap, subst}
+use mathlib.Core.Path.{_≡_, refl, sym, _∙_, ap}
 use mathlib.Core.Bool.{Bool, true, false, cond, _&&_, _||_}
 use mathlib.Core.List.{List, [], _∷_, _++_, map, map-append}
 use native.Mathlib.Omega.{arith}
@@ -21,7 +21,7 @@ use Rattle.offsets.proofs.Walking.{len-pos, len-end}
 use Rattle.offsets.proofs.Writing.{offsets-append, length-offsets}
 use Rattle.kernels.specs.Lanes.{Each, none, more, some}
 use Rattle.kernels.specs.Plain.{plainProduct}
-use Rattle.kernels.specs.Pieces.{GoodRate, Piece, joinedPieces, rateCount, GoodPiece, patternsOf, accOf}
+use Rattle.kernels.specs.Pieces.{Piece, joinedPieces, rateCount, GoodPiece, patternsOf, accOf}
 use Rattle.kernels.proofs.Feeding.{each-map, some-append, neither}
 use Rattle.kernels.proofs.Blocking.{each-rate}
 use Rattle.kernels.proofs.Bounded.{ValuePiece, FullPiece, joined-within}
@@ -58,7 +58,8 @@ module _ (values : List Float) (v : Each (λ (x : Float). T (fits binary64 x)) v
   rates-fit (z ∷ zs) = more (value-fits values v (natAbs z)) (rates-fit zs)
 
 -- ---- the pieces of a range
-module _ (l : FullTraversal) (t : Traversal l) (base : ℤ) (b : Bounded (runOf l ∷ outerOf l) base) (values : List Float) (v : Each (λ (x : Float). T (fits binary64 x)) values) (end : ℕ) where
+module _ (l : FullTraversal) (t : Traversal l) (base : ℤ) (b : Bounded (runOf l ∷ outerOf l) base) (values : List Float)
+    (v : Each (λ (x : Float). T (fits binary64 x)) values) (end : ℕ) where
   length-rates : (k n : ℕ) → length (ratesFrom l base values k n) ≡ n
   length-rates k n = length-map (offsetsFrom (runOf l ∷ outerOf l) base k n) (valueAt values) ∙ length-offsets (runOf l ∷ outerOf l) base k n
 
@@ -72,7 +73,11 @@ module _ (l : FullTraversal) (t : Traversal l) (base : ℤ) (b : Bounded (runOf 
           → Each FullPiece (cond x (pieceAt l base values end k ∷ piecesFrom l base values end n (k + pieceLength (l .«run_len») end k)) [])
       go false e f = none
       go true e f =
-          more {x = pieceAt l base values end k} (record { some-rate = rw (length-rates k (pieceLength (l .«run_len») end k)) (len-pos l t base b k end (ltb-true k end e)); values = rates-fit values v (offsetsFrom (runOf l ∷ outerOf l) base k (pieceLength (l .«run_len») end k)) }) f
+          more {x = pieceAt l base values end k}
+          (record {
+            some-rate = rw (length-rates k (pieceLength (l .«run_len») end k)) (len-pos l t base b k end (ltb-true k end e));
+            values = rates-fit values v (offsetsFrom (runOf l ∷ outerOf l) base k (pieceLength (l .«run_len») end k));
+          }) f
 
   -- together they have the range's elements
   counted : (n k : ℕ) → k ≤ end → end ≤ k + n → rateCount (piecesFrom l base values end n k) ≡ end - k
@@ -81,7 +86,8 @@ module _ (l : FullTraversal) (t : Traversal l) (base : ℤ) (b : Bounded (runOf 
   counted (suc n) k h g = go (ltb k end) refl (counted n (k + pieceLength (l .«run_len») end k))
     where
       go : (x : Bool) → ltb k end ≡ x
-          → (k + pieceLength (l .«run_len») end k ≤ end → end ≤ k + pieceLength (l .«run_len») end k + n → rateCount (piecesFrom l base values end n (k + pieceLength (l .«run_len») end k)) ≡ end - (k + pieceLength (l .«run_len») end k))
+          → (k + pieceLength (l .«run_len») end k ≤ end → end ≤ k + pieceLength (l .«run_len») end k + n
+          → rateCount (piecesFrom l base values end n (k + pieceLength (l .«run_len») end k)) ≡ end - (k + pieceLength (l .«run_len») end k))
           → rateCount (cond x (pieceAt l base values end k ∷ piecesFrom l base values end n (k + pieceLength (l .«run_len») end k)) []) ≡ end - k
       go false e f = let z = ltb-false k end e in omega arith
       go true e f =
@@ -117,8 +123,11 @@ module _ (l : FullTraversal) (t : Traversal l) (base : ℤ) (b : Bounded (runOf 
   visited (suc n) k h g = go (ltb k end) refl (visited n (k + pieceLength (l .«run_len») end k))
     where
       go : (x : Bool) → ltb k end ≡ x
-          → (k + pieceLength (l .«run_len») end k ≤ end → end ≤ k + pieceLength (l .«run_len») end k + n → ratesOf (piecesFrom l base values end n (k + pieceLength (l .«run_len») end k)) ≡ ratesFrom l base values (k + pieceLength (l .«run_len») end k) (end - (k + pieceLength (l .«run_len») end k)))
-          → ratesOf (cond x (pieceAt l base values end k ∷ piecesFrom l base values end n (k + pieceLength (l .«run_len») end k)) []) ≡ ratesFrom l base values k (end - k)
+          → (k + pieceLength (l .«run_len») end k ≤ end → end ≤ k + pieceLength (l .«run_len») end k + n
+          → ratesOf (piecesFrom l base values end n (k + pieceLength (l .«run_len») end k))
+          ≡ ratesFrom l base values (k + pieceLength (l .«run_len») end k) (end - (k + pieceLength (l .«run_len») end k)))
+          → ratesOf (cond x (pieceAt l base values end k ∷ piecesFrom l base values end n (k + pieceLength (l .«run_len») end k)) [])
+          ≡ ratesFrom l base values k (end - k)
       go false e f = over k (ltb-false k end e)
       go true e f =
           let z = ltb-true k end e in
@@ -155,10 +164,15 @@ module _ (l : FullTraversal) (t : Traversal l) (base : ℤ) (b : Bounded (runOf 
         ∙ le-leb (natAbs (joinedPieces (piecesOf l base values start end) .e)) (2 ^ 52) (le-trans (r .1) (omega (arith, count)))
 
     -- not bad: m and e are the plain product's over the range's pieces
-    pub range-agrees : some isBad (ratesFrom l base values start (end - start)) ≡ false → joinedPieces (piecesOf l base values start end) ≡ accOf (plainProduct 11 52 (patternsOf (piecesOf l base values start end)))
+    pub range-agrees : some isBad (ratesFrom l base values start (end - start)) ≡ false
+        → joinedPieces (piecesOf l base values start end) ≡ accOf (plainProduct 11 52 (patternsOf (piecesOf l base values start end)))
     range-agrees e =
         agreement (piecesOf l base values start end)
-        (record { some-piece = nonempty (piecesOf l base values start end) (omega (arith, count)); pieces = good-pieces full (bad-visited ∙ e); few = omega (arith, count) })
+        (record {
+          some-piece = nonempty (piecesOf l base values start end) (omega (arith, count));
+          pieces = good-pieces full (bad-visited ∙ e);
+          few = omega (arith, count);
+        })
       where
         nonempty : (ps : List Piece) → 0 < rateCount ps → 0 < length ps
         nonempty [] z = absurd (none-counted z)

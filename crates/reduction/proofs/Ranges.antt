@@ -3,7 +3,7 @@
 use Prim.Native.Nat.{ℕ, _+_, _-_, _*_, _≤_, _<_}
 use mathlib.Core.Path.{_≡_, sym, _∙_, ap, subst}
 use mathlib.Core.Bool.{true}
-use mathlib.Core.List.{List, [], _∷_, map, foldl}
+use mathlib.Core.List.{List, _∷_, map, foldl}
 use native.Mathlib.Omega.{arith}
 use native.Mathlib.Nat.{le-trans}
 use lib.ListN.{length, getD}
@@ -39,7 +39,8 @@ pub record PieceTaken (l : FullTraversal) (base : ℤ) (values : List Float) (en
   pub next-at : p .next .at ≡ c .at + p .len
   pub next-cursor-is : p .next .at < end → p .next ≡ rangeAt l base (p .next .at)
   pub inside : PlacesInside (length values) (p .first) (l .«run_stride») (p .len)
-  pub worked-is : worked (eqZ (l .«run_stride») (pos 1)) (strided values (p .first) (l .«run_stride») (p .len)) ≡ workedPiece (pieceAt l base values end (c .at))
+  pub worked-is : worked (eqZ (l .«run_stride») (pos 1)) (strided values (p .first) (l .«run_stride») (p .len))
+      ≡ workedPiece (pieceAt l base values end (c .at))
   pub pieces : piecesOf l base values (c .at) end ≡ pieceAt l base values end (c .at) ∷ piecesOf l base values (p .next .at) end
 
 module _ (l : FullTraversal) (t : Traversal l) (base : ℤ) (b : Bounded (runOf l ∷ outerOf l) base) (values : List Float)
@@ -51,7 +52,8 @@ module _ (l : FullTraversal) (t : Traversal l) (base : ℤ) (b : Bounded (runOf 
   lies : (i : ℕ) → i < p .len → insideValues (length values) (p .first +ℤ l .«run_stride» *ℤ pos i) ≡ true
   lies i k =
       ap (insideValues (length values)) (here .offsets i k)
-      ∙ seven-exact (runOf l ∷ outerOf l) (t .axes) base (length values) .0 (ap (λ (n : ℕ). allInside (runOf l ∷ outerOf l) n base (length values)) (t .total) ∙ w) (c .at + i) (rw (t .total) (omega (arith, here .ends)))
+      ∙ seven-exact (runOf l ∷ outerOf l) (t .axes) base (length values) .0
+      (ap (λ (n : ℕ). allInside (runOf l ∷ outerOf l) n base (length values)) (t .total) ∙ w) (c .at + i) (rw (t .total) (omega (arith, here .ends)))
 
   rates-are : strided values (p .first) (l .«run_stride») (p .len) ≡ ratesFrom l base values (c .at) (pieceLength (l .«run_len») end (c .at))
   rates-are =
@@ -70,57 +72,67 @@ module _ (l : FullTraversal) (t : Traversal l) (base : ℤ) (b : Bounded (runOf 
         worked-is = ap (worked (eqZ (l .«run_stride») (pos 1))) rates-are;
         pieces =
             pieces-more l base values end (λ k g. len-pos l t base b k end g) (c .at) h
-            ∙ ap (λ (n : ℕ). pieceAt l base values end (c .at) ∷ piecesOf l base values n end) (ap (λ (n : ℕ). c .at + n) (sym (here .len-is)) ∙ sym (here .next-at));
+            ∙ ap (λ (n : ℕ). pieceAt l base values end (c .at) ∷ piecesOf l base values n end)
+            (ap (λ (n : ℕ). c .at + n) (sym (here .len-is)) ∙ sym (here .next-at));
       }
 
 -- ---- the loop: the cursor stands at c .at while that is below the end, and what is left joins to the range's product
 pub record Reducing (l : FullTraversal) (base : ℤ) (values : List Float) (start end : ℕ) (acc : StableProductFloatAcc) (c : RangeCursor) : Type 0 where
   pub upto : c .at ≤ end
   pub cursor-is : c .at < end → c ≡ rangeAt l base (c .at)
-  pub small : natAbs (acc .e) ≤ 1048576 * c .at
+  pub small : natAbs (acc .e) ≤ 1034 * c .at
   pub sound : Sound acc
   pub rest : foldl combined acc (map workedPiece (piecesOf l base values (c .at) end)) ≡ joinedPieces (piecesOf l base values start end)
 
-module _ (l : FullTraversal) (base : ℤ) (values : List Float) (start end : ℕ) (c : RangeCursor) (p : RangePiece) (t : PieceTaken l base values end c p) (b : StableProductFloatAcc)
-    (e : b ≡ worked (eqZ (l .«run_stride») (pos 1)) (strided values (p .first) (l .«run_stride») (p .len))) where
-  pub near : natAbs (b .e) ≤ 1048575 * p .len
-  near = subst (λ (a : StableProductFloatAcc). natAbs (a .e) ≤ 1048575 * p .len) (sym e) (strided-near values (p .first) (l .«run_stride») (p .len) (t .some-len))
+module _ (l : FullTraversal) (base : ℤ) (values : List Float) (start end : ℕ) (c : RangeCursor) (p : RangePiece) (t : PieceTaken l base values end c p)
+    (b : StableProductFloatAcc)
+    (e : b ≡ worked (eqZ (l .«run_stride») (pos 1)) (strided values (p .first) (l .«run_stride») (p .len)))
+    (v : (i : ℕ) → T (fits binary64 (getD values i nan))) where
+  pub near : natAbs (b .e) ≤ 1033 * p .len
+  near =
+      subst (λ (a : StableProductFloatAcc). natAbs (a .e) ≤ 1033 * p .len) (sym e) (strided-near values v (p .first) (l .«run_stride») (p .len) (t .some-len))
 
   -- |m| lies in [1, 2)
-  pub piece-sound : ((i : ℕ) → T (fits binary64 (getD values i nan))) → Sound b
-  piece-sound v =
+  pub piece-sound : Sound b
+  piece-sound =
       subst Sound (sym e)
-      (worked-sound (record { inBlocks = eqZ (l .«run_stride») (pos 1); rates = strided values (p .first) (l .«run_stride») (p .len) }) (strided-values values v (p .first) (l .«run_stride») (p .len)))
+      (worked-sound (record { inBlocks = eqZ (l .«run_stride») (pos 1); rates = strided values (p .first) (l .«run_stride») (p .len) })
+      (strided-values values v (p .first) (l .«run_stride») (p .len)))
 
   is-piece : b ≡ workedPiece (pieceAt l base values end (c .at))
   is-piece = e ∙ t .worked-is
 
   -- the first piece is taken as it is
-  pub reducing-first : ((i : ℕ) → T (fits binary64 (getD values i nan))) → c .at ≡ start → Reducing l base values start end b (p .next)
+  pub reducing-first : c .at ≡ start → Reducing l base values start end b (p .next)
   unfolding joinedPieces
-  reducing-first v k =
+  reducing-first k =
       record {
         upto = omega (arith, t .next-at, t .ends);
         cursor-is = t .next-cursor-is;
         small = le-trans near (omega (arith, t .next-at));
-        sound = piece-sound v;
+        sound = piece-sound;
         rest =
             ap (λ (a : StableProductFloatAcc). foldl combined a (map workedPiece (piecesOf l base values (p .next .at) end))) is-piece
             ∙ ap joinedPieces (sym (t .pieces)) ∙ ap (λ (n : ℕ). joinedPieces (piecesOf l base values n end)) k;
       }
 
   -- a later one is joined from the right
-  pub reducing-more : ((i : ℕ) → T (fits binary64 (getD values i nan))) → (acc : StableProductFloatAcc) → Reducing l base values start end acc c → (r : StableProductFloatAcc) → r ≡ combined acc b → Reducing l base values start end r (p .next)
-  reducing-more v acc s r g =
+  pub reducing-more : (acc : StableProductFloatAcc) → Reducing l base values start end acc c → (r : StableProductFloatAcc) → r ≡ combined acc b
+      → Reducing l base values start end r (p .next)
+  reducing-more acc s r g =
       record {
         upto = omega (arith, t .next-at, t .ends);
         cursor-is = t .next-cursor-is;
-        small = subst (λ (a : StableProductFloatAcc). natAbs (a .e) ≤ 1048576 * p .next .at) (sym g) (le-trans (combined-size acc b) (omega (arith, t .next-at, near, s .small, t .some-len)));
-        sound = subst Sound (sym g) (combined-sound acc b (s .sound) (piece-sound v));
+        small =
+            subst (λ (a : StableProductFloatAcc). natAbs (a .e) ≤ 1034 * p .next .at) (sym g)
+            (le-trans (combined-size acc b) (omega (arith, t .next-at, near, s .small, t .some-len)));
+        sound = subst Sound (sym g) (combined-sound acc b (s .sound) (piece-sound));
         rest =
             ap (λ (a : StableProductFloatAcc). foldl combined a (map workedPiece (piecesOf l base values (p .next .at) end))) (g ∙ ap (combined acc) is-piece)
             ∙ ap (λ (ps : List Piece). foldl combined acc (map workedPiece ps)) (sym (t .pieces)) ∙ s .rest;
       }
 
-pub reducing-all : (l : FullTraversal) (base : ℤ) (values : List Float) (start end : ℕ) (acc : StableProductFloatAcc) (c : RangeCursor) → Reducing l base values start end acc c → end ≤ c .at → acc ≡ joinedPieces (piecesOf l base values start end)
-reducing-all l base values start end acc c s h = ap (λ (ps : List Piece). foldl combined acc (map workedPiece ps)) (sym (pieces-none l base values end (end - c .at) (c .at) h)) ∙ s .rest
+pub reducing-all : (l : FullTraversal) (base : ℤ) (values : List Float) (start end : ℕ) (acc : StableProductFloatAcc) (c : RangeCursor)
+    → Reducing l base values start end acc c → end ≤ c .at → acc ≡ joinedPieces (piecesOf l base values start end)
+reducing-all l base values start end acc c s h =
+    ap (λ (ps : List Piece). foldl combined acc (map workedPiece ps)) (sym (pieces-none l base values end (end - c .at) (c .at) h)) ∙ s .rest

@@ -14,6 +14,7 @@ use lib.Dec.{T}
 use lib.Ieee.{Float, nan, binary64, fits}
 use mir.Val.{SFits}
 use mir.Syntax.{w64}
+use Rattle.integers.proofs.Places.{place-first, place-next, place-later}
 use Rattle.integers.specs.Integers.{eqZ}
 use Rattle.integers.proofs.Difference.{ints, atoms}
 use Rattle.layout.specs.declared.axis.ReduceOuterAxis.{ReduceOuterAxis}
@@ -40,47 +41,43 @@ use Rattle.reduction.specs.InnerStrips.{strip}
 use Rattle.reduction.proofs.Pieces.{strided-near}
 use Rattle.reduction.proofs.Ranges.{PieceTaken, taken, Reducing}
 
--- ---- places a step apart
-pub place-zero : (z s : ℤ) → z +ℤ s *ℤ pos 0 ≡ z
-place-zero z s = simp ints (simp atoms (omega arith))
-
-pub place-next : (z s : ℤ) (j : ℕ) → z +ℤ s *ℤ pos j +ℤ s ≡ z +ℤ s *ℤ pos (j + 1)
-place-next z s j = simp ints (simp atoms (omega arith))
-
-place-later : (z s : ℤ) (j : ℕ) → (z +ℤ s) +ℤ s *ℤ pos j ≡ z +ℤ s *ℤ pos (suc j)
-place-later z s j = simp ints (simp atoms (omega arith))
-
 -- a place of a run, in i64
-pub place-fits : (size : ℕ) (z stride : ℤ) (len : ℕ) → PlacesInside size z stride len → 1 ≤ len → size < 2 ^ 63 → SFits w64 z
-place-fits size z stride len i h m = go (i .least 0 h) (i .most 0 h) m
+pub place-inside-fits : (size : ℕ) (z stride : ℤ) (len : ℕ) → PlacesInside size z stride len → 1 ≤ len → size < 2 ^ 63 → SFits w64 z
+place-inside-fits size z stride len i h m = go (i .least 0 h) (i .most 0 h) m
   where
     go : pos 0 ≤ℤ (z +ℤ stride *ℤ pos 0) → (z +ℤ stride *ℤ pos 0) <ℤ pos size → size < 2 ^ 63 → SFits w64 z
     go = simp ints (simp atoms (omega arith))
 
 -- before the first run, all of the strip is left
-pub strip-first : (values : List Float) (step stride : ℤ) (len count : ℕ) (z : ℤ) (a : StableProductFloatAcc) → strip values step stride len (count - 0) (z +ℤ step *ℤ pos 0) a ≡ strip values step stride len count z a
+pub strip-first : (values : List Float) (step stride : ℤ) (len count : ℕ) (z : ℤ) (a : StableProductFloatAcc)
+    → strip values step stride len (count - 0) (z +ℤ step *ℤ pos 0) a ≡ strip values step stride len count z a
 strip-first values step stride len count z a =
-    ap (λ (n : ℕ). strip values step stride len n (z +ℤ step *ℤ pos 0) a) (sub-zero count) ∙ ap (λ (y : ℤ). strip values step stride len count y a) (place-zero z step)
+    ap (λ (n : ℕ). strip values step stride len n (z +ℤ step *ℤ pos 0) a) (sub-zero count)
+    ∙ ap (λ (y : ℤ). strip values step stride len count y a) (sym (place-first z step))
 
 -- run j of count is in: what is left begins a step further
-pub strip-next : (values : List Float) (step stride : ℤ) (len count j : ℕ) (z : ℤ) (a r : StableProductFloatAcc) → j < count → r ≡ combined a (worked (eqZ stride (pos 1)) (strided values (z +ℤ step *ℤ pos j) stride len))
+pub strip-next : (values : List Float) (step stride : ℤ) (len count j : ℕ) (z : ℤ) (a r : StableProductFloatAcc) → j < count
+    → r ≡ combined a (worked (eqZ stride (pos 1)) (strided values (z +ℤ step *ℤ pos j) stride len))
     → strip values step stride len (count - (j + 1)) (z +ℤ step *ℤ pos (j + 1)) r ≡ strip values step stride len (count - j) (z +ℤ step *ℤ pos j) a
 unfolding strip
 strip-next values step stride len count j z a r h e =
     ap (strip values step stride len (count - (j + 1)) (z +ℤ step *ℤ pos (j + 1))) e
-    ∙ ap (λ (y : ℤ). strip values step stride len (count - (j + 1)) y (combined a (worked (eqZ stride (pos 1)) (strided values (z +ℤ step *ℤ pos j) stride len)))) (sym (place-next z step j))
+    ∙ ap
+    (λ (y : ℤ). strip values step stride len (count - (j + 1)) y (combined a (worked (eqZ stride (pos 1)) (strided values (z +ℤ step *ℤ pos j) stride len))))
+    (sym (place-next z step j))
     ∙ ap (λ (n : ℕ). strip values step stride len n (z +ℤ step *ℤ pos j) a) one
   where
     one : suc (count - (j + 1)) ≡ count - j
     one = omega arith
 
--- ---- exponents: at most 2^20 more for each value
-pub strip-small : (values : List Float) (step stride : ℤ) (len : ℕ) → 1 ≤ len → (n : ℕ) (z : ℤ) (acc : StableProductFloatAcc) → natAbs (strip values step stride len n z acc .e) ≤ natAbs (acc .e) + 1048576 * (n * len)
+-- ---- exponents: at most 1034 more for each value
+pub strip-small : (values : List Float) → ((i : ℕ) → T (fits binary64 (getD values i nan))) → (step stride : ℤ) (len : ℕ) → 1 ≤ len
+    → (n : ℕ) (z : ℤ) (acc : StableProductFloatAcc) → natAbs (strip values step stride len n z acc .e) ≤ natAbs (acc .e) + 1034 * (n * len)
 unfolding strip
-strip-small values step stride len h zero z acc = omega arith
-strip-small values step stride len h (suc n) z acc =
+strip-small values v step stride len h zero z acc = omega arith
+strip-small values v step stride len h (suc n) z acc =
     let b = worked (eqZ stride (pos 1)) (strided values z stride len) in
-    le-trans (strip-small values step stride len h n (z +ℤ step) (combined acc b)) (omega (arith, combined-size acc b, strided-near values z stride len h))
+    le-trans (strip-small values v step stride len h n (z +ℤ step) (combined acc b)) (omega (arith, combined-size acc b, strided-near values v z stride len h))
 
 pub run-some : (l : FullTraversal) → Traversal l → 1 ≤ l .«run_len»
 unfolding runOf axisOf
@@ -89,16 +86,20 @@ run-some l t = axes-at (runOf l) (outerOf l) (runOf l ∷ outerOf l) refl (t .ax
 -- ---- run q of a range
 pub record Run (l : FullTraversal) (base : ℤ) (values : List Float) (end q : ℕ) : Type 0 where
   pub inside : PlacesInside (length values) (offset (outerOf l) base q) (l .«run_stride») (l .«run_len»)
-  pub worked-is : worked (eqZ (l .«run_stride») (pos 1)) (strided values (offset (outerOf l) base q) (l .«run_stride») (l .«run_len»)) ≡ workedPiece (pieceAt l base values end (q * l .«run_len»))
-  pub pieces : piecesOf l base values (q * l .«run_len») end ≡ pieceAt l base values end (q * l .«run_len») ∷ piecesOf l base values ((q + 1) * l .«run_len») end
+  pub worked-is : worked (eqZ (l .«run_stride») (pos 1)) (strided values (offset (outerOf l) base q) (l .«run_stride») (l .«run_len»))
+      ≡ workedPiece (pieceAt l base values end (q * l .«run_len»))
+  pub pieces : piecesOf l base values (q * l .«run_len») end
+      ≡ pieceAt l base values end (q * l .«run_len») ∷ piecesOf l base values ((q + 1) * l .«run_len») end
 
 -- |m| stays in [1, 2)
-pub strip-sound : (values : List Float) → ((i : ℕ) → T (fits binary64 (getD values i nan))) → (step stride : ℤ) (len n : ℕ) (z : ℤ) (acc : StableProductFloatAcc) → Sound acc → Sound (strip values step stride len n z acc)
+pub strip-sound : (values : List Float) → ((i : ℕ) → T (fits binary64 (getD values i nan)))
+    → (step stride : ℤ) (len n : ℕ) (z : ℤ) (acc : StableProductFloatAcc) → Sound acc → Sound (strip values step stride len n z acc)
 unfolding strip
 strip-sound values v step stride len zero z acc s = s
 strip-sound values v step stride len (suc n) z acc s =
     strip-sound values v step stride len n (z +ℤ step) (combined acc (worked (eqZ stride (pos 1)) (strided values z stride len)))
-    (combined-sound acc (worked (eqZ stride (pos 1)) (strided values z stride len)) s (worked-sound (record { inBlocks = eqZ stride (pos 1); rates = strided values z stride len }) (strided-values values v z stride len)))
+    (combined-sound acc (worked (eqZ stride (pos 1)) (strided values z stride len)) s
+    (worked-sound (record { inBlocks = eqZ stride (pos 1); rates = strided values z stride len }) (strided-values values v z stride len)))
 
 module _ (l : FullTraversal) (t : Traversal l) (base : ℤ) (b : Bounded (runOf l ∷ outerOf l) base) (values : List Float)
     (w : allInside (runOf l ∷ outerOf l) (l .total) base (length values) ≡ true) (end : ℕ) (few : end ≤ l .total) where
@@ -127,7 +128,7 @@ module _ (l : FullTraversal) (t : Traversal l) (base : ℤ) (b : Bounded (runOf 
     unfolding pieceOf rangeAt cursorAt
     first-is =
         ap (λ (n : ℕ). offset (outerOf l) base (q * l .«run_len» / l .«run_len») +ℤ l .«run_stride» *ℤ pos n) run-mod
-        ∙ place-zero (offset (outerOf l) base (q * l .«run_len» / l .«run_len»)) (l .«run_stride»)
+        ∙ sym (place-first (offset (outerOf l) base (q * l .«run_len» / l .«run_len»)) (l .«run_stride»))
         ∙ ap (offset (outerOf l) base) run-div
 
     next-is : pieceOf l end (rangeAt l base (q * l .«run_len»)) .next .at ≡ (q + 1) * l .«run_len»
@@ -149,18 +150,24 @@ module _ (l : FullTraversal) (t : Traversal l) (base : ℤ) (b : Bounded (runOf 
         let m : q + j + 1 ≤ q + n = omega arith in
         rw (lies j k) (run (q + j) (omega (arith, mul-le-mul-right (l .«run_len») m)) .inside)
 
-    pub strip-joins : (n q : ℕ) (z : ℤ) (acc : StableProductFloatAcc) → (q + n) * l .«run_len» ≤ end → ((j : ℕ) → j < n → z +ℤ step *ℤ pos j ≡ offset (outerOf l) base (q + j))
-        → foldl combined (strip values step (l .«run_stride») (l .«run_len») n z acc) (map workedPiece (piecesOf l base values ((q + n) * l .«run_len») end)) ≡ foldl combined acc (map workedPiece (piecesOf l base values (q * l .«run_len») end))
+    pub strip-joins : (n q : ℕ) (z : ℤ) (acc : StableProductFloatAcc) → (q + n) * l .«run_len» ≤ end
+        → ((j : ℕ) → j < n → z +ℤ step *ℤ pos j ≡ offset (outerOf l) base (q + j))
+        → foldl combined (strip values step (l .«run_stride») (l .«run_len») n z acc) (map workedPiece (piecesOf l base values ((q + n) * l .«run_len») end))
+        ≡ foldl combined acc (map workedPiece (piecesOf l base values (q * l .«run_len») end))
     unfolding strip
     strip-joins zero q z acc h lies = ap (λ (m : ℕ). foldl combined acc (map workedPiece (piecesOf l base values (m * l .«run_len») end))) (add-zero q)
     strip-joins (suc n) q z acc h lies =
         let r = run q (omega arith) in
         let c = combined acc (worked (eqZ (l .«run_stride») (pos 1)) (strided values z (l .«run_stride») (l .«run_len»))) in
         let e : q + suc n ≡ q + 1 + n = omega arith in
-        ap (λ (m : ℕ). foldl combined (strip values step (l .«run_stride») (l .«run_len») n (z +ℤ step) c) (map workedPiece (piecesOf l base values (m * l .«run_len») end))) e
+        ap (λ (m : ℕ). foldl combined (strip values step (l .«run_stride») (l .«run_len») n (z +ℤ step) c)
+        (map workedPiece (piecesOf l base values (m * l .«run_len») end))) e
         ∙ strip-joins n (q + 1) (z +ℤ step) c (omega arith) (λ j k. place-later z step j ∙ lies (suc j) (omega arith) ∙ ap (offset (outerOf l) base) (one j))
-        ∙ ap (λ (y : ℤ). foldl combined (combined acc (worked (eqZ (l .«run_stride») (pos 1)) (strided values y (l .«run_stride») (l .«run_len»)))) (map workedPiece (piecesOf l base values ((q + 1) * l .«run_len») end))) (sym (place-zero z step) ∙ lies 0 (omega arith) ∙ ap (offset (outerOf l) base) (add-zero q))
-        ∙ ap (λ (a : StableProductFloatAcc). foldl combined (combined acc a) (map workedPiece (piecesOf l base values ((q + 1) * l .«run_len») end))) (r .worked-is)
+        ∙ ap (λ (y : ℤ). foldl combined (combined acc (worked (eqZ (l .«run_stride») (pos 1)) (strided values y (l .«run_stride») (l .«run_len»))))
+        (map workedPiece (piecesOf l base values ((q + 1) * l .«run_len») end)))
+        (place-first z step ∙ lies 0 (omega arith) ∙ ap (offset (outerOf l) base) (add-zero q))
+        ∙ ap (λ (a : StableProductFloatAcc). foldl combined (combined acc a) (map workedPiece (piecesOf l base values ((q + 1) * l .«run_len») end)))
+        (r .worked-is)
         ∙ ap (λ (ps : List Piece). foldl combined acc (map workedPiece ps)) (sym (r .pieces))
       where
         one : (j : ℕ) → q + suc j ≡ q + 1 + j
@@ -179,13 +186,15 @@ module _ (l : FullTraversal) (t : Traversal l) (base : ℤ) (b : Bounded (runOf 
   first-axis = axes-at (firstAxis l) (drop 1 (outerOf l)) (outerOf l) outer-is (outer-axes l t base b 0) .0
 
   -- the runs' places along it
-  pub runs-lie : (q n : ℕ) → q % firstAxis l .extent + n ≤ firstAxis l .extent → (j : ℕ) → j < n → offset (outerOf l) base q +ℤ firstAxis l .«source_step» *ℤ pos j ≡ offset (outerOf l) base (q + j)
+  pub runs-lie : (q n : ℕ) → q % firstAxis l .extent + n ≤ firstAxis l .extent → (j : ℕ) → j < n
+      → offset (outerOf l) base q +ℤ firstAxis l .«source_step» *ℤ pos j ≡ offset (outerOf l) base (q + j)
   runs-lie q n h j k =
       subst (λ (ys : List ReduceOuterAxis). offset ys base q +ℤ firstAxis l .«source_step» *ℤ pos j ≡ offset ys base (q + j)) (sym outer-is)
       (sym (along (firstAxis l) (drop 1 (outerOf l)) base q (first-axis .1) j (omega arith)))
 
 -- ---- how many whole runs lie ahead of an element: to the end of the axis, and of the range
-pub runs-ahead : (l : FullTraversal) → Traversal l → (at end r : ℕ) → at < end → 0 < l .«axis_count» → 0 < firstAxis l .extent → at % l .«run_len» ≡ 0 → r ≤ firstAxis l .extent - at / l .«run_len» % firstAxis l .extent → r ≤ (end - at) / l .«run_len»
+pub runs-ahead : (l : FullTraversal) → Traversal l → (at end r : ℕ) → at < end → 0 < l .«axis_count» → 0 < firstAxis l .extent → at % l .«run_len» ≡ 0
+    → r ≤ firstAxis l .extent - at / l .«run_len» % firstAxis l .extent → r ≤ (end - at) / l .«run_len»
     → (0 < l .«axis_count») × (at % l .«run_len» ≡ 0) × (at / l .«run_len» % firstAxis l .extent + r ≤ firstAxis l .extent) × (at + r * l .«run_len» ≤ end)
 runs-ahead l t at end r h some-axis some-extent z a k =
     let m = le-div-iff-mul-le (run-some l t) .0 k in
@@ -195,7 +204,8 @@ runs-ahead l t at end r h some-axis some-extent z a k =
 module _ (l : FullTraversal) (t : Traversal l) (base : ℤ) (b : Bounded (runOf l ∷ outerOf l) base) (values : List Float)
     (w : allInside (runOf l ∷ outerOf l) (l .total) base (length values) ≡ true) (end : ℕ) (few : end ≤ l .total)
     (c : RangeCursor) (cursor-is : c ≡ rangeAt l base (c .at)) (n : ℕ)
-    (some-axis : 0 < l .«axis_count») (at-run : c .at % l .«run_len» ≡ 0) (left : c .at / l .«run_len» % firstAxis l .extent + n ≤ firstAxis l .extent) (room : c .at + n * l .«run_len» ≤ end) where
+    (some-axis : 0 < l .«axis_count») (at-run : c .at % l .«run_len» ≡ 0) (left : c .at / l .«run_len» % firstAxis l .extent + n ≤ firstAxis l .extent)
+    (room : c .at + n * l .«run_len» ≤ end) where
   whole : c .at ≡ c .at / l .«run_len» * l .«run_len»
   whole = omega (arith, div-add-mod' (c .at) (l .«run_len»))
 
@@ -209,25 +219,35 @@ module _ (l : FullTraversal) (t : Traversal l) (base : ℤ) (b : Bounded (runOf 
   lie : (j : ℕ) → j < n → c .runs .«source_offset» +ℤ firstAxis l .«source_step» *ℤ pos j ≡ offset (outerOf l) base (c .at / l .«run_len» + j)
   lie j k = ap (λ (z : ℤ). z +ℤ firstAxis l .«source_step» *ℤ pos j) from-is ∙ runs-lie l t base b some-axis (c .at / l .«run_len») n left j k
 
-  pub runs-inside : (j : ℕ) → j < n → PlacesInside (length values) (c .runs .«source_offset» +ℤ firstAxis l .«source_step» *ℤ pos j) (l .«run_stride») (l .«run_len»)
-  runs-inside = strip-inside l t base b values w end few (firstAxis l .«source_step») n (c .at / l .«run_len») (c .runs .«source_offset») (omega (arith, ends)) lie
+  pub runs-inside : (j : ℕ) → j < n
+      → PlacesInside (length values) (c .runs .«source_offset» +ℤ firstAxis l .«source_step» *ℤ pos j) (l .«run_stride») (l .«run_len»)
+  runs-inside =
+      strip-inside l t base b values w end few (firstAxis l .«source_step») n (c .at / l .«run_len») (c .runs .«source_offset») (omega (arith, ends)) lie
 
   next-at : (d : RangeCursor) → d ≡ rangeAt l base (c .at + n * l .«run_len») → d .at ≡ c .at + n * l .«run_len»
   unfolding rangeAt
   next-at d e = ap (λ (x : RangeCursor). x .at) e
 
-  pub reducing-strip : ((i : ℕ) → T (fits binary64 (getD values i nan))) → (start : ℕ) (acc : StableProductFloatAcc) → Reducing l base values start end acc c → (r : StableProductFloatAcc) → r ≡ strip values (firstAxis l .«source_step») (l .«run_stride») (l .«run_len») n (c .runs .«source_offset») acc
+  pub reducing-strip : ((i : ℕ) → T (fits binary64 (getD values i nan))) → (start : ℕ) (acc : StableProductFloatAcc)
+      → Reducing l base values start end acc c → (r : StableProductFloatAcc)
+      → r ≡ strip values (firstAxis l .«source_step») (l .«run_stride») (l .«run_len») n (c .runs .«source_offset») acc
       → (d : RangeCursor) → d ≡ rangeAt l base (c .at + n * l .«run_len») → Reducing l base values start end r d
   reducing-strip v start acc s r g d e =
       record {
         upto = omega (arith, next-at d e);
         cursor-is = λ k. e ∙ ap (rangeAt l base) (sym (next-at d e));
-        small = subst (λ (a : StableProductFloatAcc). natAbs (a .e) ≤ 1048576 * d .at) (sym g) (le-trans (strip-small values _ _ _ (run-some l t) n _ acc) (omega (arith, next-at d e, s .small)));
-        sound = subst Sound (sym g) (strip-sound values v (firstAxis l .«source_step») (l .«run_stride») (l .«run_len») n (c .runs .«source_offset») acc (s .sound));
+        small =
+            subst (λ (a : StableProductFloatAcc). natAbs (a .e) ≤ 1034 * d .at) (sym g)
+            (le-trans (strip-small values v _ _ _ (run-some l t) n _ acc) (omega (arith, next-at d e, s .small)));
+        sound =
+            subst Sound (sym g)
+            (strip-sound values v (firstAxis l .«source_step») (l .«run_stride») (l .«run_len») n (c .runs .«source_offset») acc (s .sound));
         rest =
             ap (λ (a : StableProductFloatAcc). foldl combined a (map workedPiece (piecesOf l base values (d .at) end))) g
-            ∙ ap (λ (k : ℕ). foldl combined (strip values (firstAxis l .«source_step») (l .«run_stride») (l .«run_len») n (c .runs .«source_offset») acc) (map workedPiece (piecesOf l base values k end))) (next-at d e ∙ sym ends)
-            ∙ strip-joins l t base b values w end few (firstAxis l .«source_step») n (c .at / l .«run_len») (c .runs .«source_offset») acc (omega (arith, ends)) lie
+            ∙ ap (λ (k : ℕ). foldl combined (strip values (firstAxis l .«source_step») (l .«run_stride») (l .«run_len») n (c .runs .«source_offset») acc)
+            (map workedPiece (piecesOf l base values k end))) (next-at d e ∙ sym ends)
+            ∙ strip-joins l t base b values w end few (firstAxis l .«source_step») n (c .at / l .«run_len») (c .runs .«source_offset») acc (omega (arith, ends))
+            lie
             ∙ ap (λ (k : ℕ). foldl combined acc (map workedPiece (piecesOf l base values k end))) (sym whole)
             ∙ s .rest;
       }

@@ -1,6 +1,6 @@
 -- Rule D3, whole: of every accepted range of every layout, over the reduction's answer and what finishing makes of it.
 -- Assumes that each value is one of binary64, as every f64 is.
-use Prim.Native.Nat.{ℕ, zero, suc, _-_}
+use Prim.Native.Nat.{ℕ, _-_}
 use mathlib.Core.Path.{_≡_, refl, sym, _∙_, ap, subst}
 use mathlib.Core.Bool.{Bool, true, false}
 use mathlib.Core.List.{List, map}
@@ -9,7 +9,6 @@ use lib.ListN.{length}
 use lib.Dec.{T}
 use lib.IntN.{ℤ}
 use lib.Ieee.{Float, nan, binary64, fits}
-use Rattle.layout.specs.declared.traversal.FullTraversal.{FullTraversal}
 use Rattle.layout.specs.Order.{axesOf}
 use Rattle.layout.specs.Compile.{compileOf}
 use Rattle.floats.specs.Magnitude.{inUnit}
@@ -17,16 +16,16 @@ use Rattle.floats.specs.Splitting.{isBad}
 use Rattle.accumulator.specs.declared.StableProductFloatAcc.{StableProductFloatAcc}
 use Rattle.accumulator.specs.declared.Reduced.{Reduced}
 use Rattle.accumulator.specs.declared.Reduced.the-variants.{Acc, Refused}
-use Rattle.accumulator.specs.Joining.{Answer, answerOf, accumulator, refusal, factorOfAcc, inLimits}
+use Rattle.accumulator.specs.Joining.{Answer, answerOf, accumulator, refusal, factorOfAcc}
 use Rattle.accumulator.proofs.Answers.{in-limits-unit}
 use Rattle.finishing.specs.Once.{roundedOnce}
 use Rattle.finishing.specs.Finishing.{value, finishedOf}
 use Rattle.finishing.proofs.Answers.{finished-bad, finished-once}
-use Rattle.offsets.specs.Lists.{offsetsFrom, rangeCode}
+use Rattle.offsets.specs.Lists.{rangeCode}
 use Rattle.offsets.proofs.Ranges.{ranged, ranged-accepted, ranged-bounded, ranged-few, offsets-same}
 use Rattle.kernels.specs.Lanes.{Each, some}
 use Rattle.kernels.specs.Plain.{plainProduct}
-use Rattle.kernels.specs.Pieces.{Piece, patternsOf, accOf}
+use Rattle.kernels.specs.Pieces.{patternsOf, accOf}
 use Rattle.reduction.specs.Ranges.{valueAt, piecesOf, ratesOf, visitedRates, rangeProduct, reduceOf}
 use Rattle.reduction.specs.Theorems.{RuleD3, RuleD3Law}
 use Rattle.reduction.proofs.Calls.{reduce-accepted}

@@ -1,7 +1,7 @@
 -- What values make of lanes: one list after another, whole vectors, and the product at the end. Assumes nothing.
 use Prim.Native.Nat.{ℕ, zero, suc, _+_, _*_, _^_, _≤_, _<_, zero-le}
 use mathlib.Core.Path.{_≡_, refl, sym, ap, _∙_, subst}
-use mathlib.Core.Bool.{Bool, true, false, _||_}
+use mathlib.Core.Bool.{Bool, true, false, _||_, or-false, or-assoc}
 use mathlib.Core.List.{List, [], _∷_, _++_, map, map-append}
 use native.Mathlib.Nat.{le-trans}
 use native.Mathlib.Omega.{arith}
@@ -24,7 +24,7 @@ use Rattle.kernels.specs.Blocks.{startLanes, mOf, eOf, contiguous}
 use Rattle.kernels.specs.InnerLanes.{SmallLanes, LanesRepresent, LanesAfter, zeros, plainAfter}
 use Rattle.kernels.specs.Stepped.{stepped}
 use Rattle.kernels.specs.InnerStrided.{strided}
-use Rattle.kernels.proofs.Feeding.{feed-append, some-append, or-none, or-assoc}
+use Rattle.kernels.proofs.Feeding.{feed-append, some-append}
 use Rattle.kernels.proofs.Factors.{NormalLanes, lane-normal, lane-lt}
 use Rattle.kernels.proofs.Standing.{represents-split, represents-acc}
 use Rattle.kernels.proofs.Stepping.{stepped-agrees}
@@ -48,7 +48,7 @@ fed-append s r q xs ys n l F G = record {
 -- no value changes nothing
 pub fed-none : (s : Lanes) → LanesAfter s [] s
 unfolding feed some
-fed-none s = record { represent = λ fs H. H; mark = λ fs H. sym (or-none (s .bad)) }
+fed-none s = record { represent = λ fs H. H; mark = λ fs H. sym (or-false (s .bad)) }
 
 -- ---- 1.0 changes nothing
 one-rate : rateFactor one ≡ unit 52
@@ -97,7 +97,7 @@ fed-pad s r xs n F = record {
   represent = λ fs H. subst (LanesRepresent zeros r) (ones-after fs xs n (fed-normal 0 fs xs (represent-normal s fs H) .at)) (F .represent fs H);
   mark = λ fs H.
       F .mark fs H
-      ∙ ap (λ (b : Bool). s .bad || b) (some-append isBad xs (replicate n one) ∙ ap (λ (b : Bool). some isBad xs || b) (ones-good n) ∙ or-none (some isBad xs));
+      ∙ ap (λ (b : Bool). s .bad || b) (some-append isBad xs (replicate n one) ∙ ap (λ (b : Bool). some isBad xs || b) (ones-good n) ∙ or-false (some isBad xs));
 }
 
 -- ---- from the start

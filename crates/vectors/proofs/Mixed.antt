@@ -2,7 +2,7 @@
 -- is an infinity or a NaN, which it stays. Where all vectors are split, the lanes stand for their factors. Assumes nothing.
 use Prim.Native.Nat.{ℕ, suc, _+_, _*_, _≤_, _<_, zero-le}
 use mathlib.Core.Path.{_≡_, refl, sym, ap, _∙_, subst}
-use mathlib.Core.Bool.{Bool, true, false, not, cond, _&&_, _||_, true≢false}
+use mathlib.Core.Bool.{Bool, true, false, not, cond, _&&_, _||_, true≢false, or-false, or-assoc}
 use mathlib.Core.List.{List, [], _++_, map}
 use mathlib.Core.Logic.{_⊎_, inl, inr}
 use native.Mathlib.Omega.{arith}
@@ -19,7 +19,7 @@ use Rattle.kernels.specs.InnerPlain.{laneTimes}
 use Rattle.kernels.specs.Pieces.{GoodRate}
 use Rattle.kernels.specs.Blocks.{mOf, eOf, unsplitStep, splitStep, renorm}
 use Rattle.kernels.specs.InnerLanes.{SmallLanes, LanesRepresent, LanesAfter, zeros, plainAfter}
-use Rattle.kernels.proofs.Feeding.{feed-related, feed-holds, feed-eights, some-append, or-none, or-assoc}
+use Rattle.kernels.proofs.Feeding.{feed-related, feed-holds, feed-eights, some-append}
 use Rattle.kernels.proofs.Factors.{lane-lt, lane-again, times-again}
 use Rattle.kernels.proofs.LaneSizes.{Eight, lanes-le, unsplit-small, split-small, unsplit-eight, split-eight}
 use Rattle.kernels.proofs.Lanewise.{depth, lanes-widen}
@@ -168,7 +168,7 @@ mixed-none all n s l h = record {
   small = lanes-le n (n + 8192 * 0) s (omega arith) h;
   waits = λ fs H. inl (lanes-wait (depth 15 (8 * 0)) s fs H);
   represent = λ e fs H. lanes-widen Represents represents-more zeros (depth 1 (8 * 0)) (λ k a. zero-le) H;
-  mark = inl (sym (or-none (s .bad)));
+  mark = inl (sym (or-false (s .bad)));
 }
 
 pub mixed-more : (all : Bool) (n : ℕ) (s : Lanes) (xs : List Float) (i : ℕ) (t u : Lanes) (vector : List Float) → Mixed all n s xs i t → i < 32

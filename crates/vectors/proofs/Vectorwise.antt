@@ -24,10 +24,6 @@ use Rattle.kernels.proofs.Striding.{length-strided, first-natural, first-below,
 use Rattle.vectors.specs.declared.vector.Waiting.{Waiting}
 use Rattle.vectors.specs.InnerWaiting.{vectorOf, put, lesser, waitStep, LEAST, MOST, notBelow, notPast, guarded, square, squareAt, leastSquare, notLow}
 
--- ---- places
-pub place-next : (s t : ℤ) (a : ℕ) → s +ℤ t *ℤ pos a +ℤ t ≡ s +ℤ t *ℤ pos (a + 1)
-place-next s t a = simp ints (simp atoms (omega arith))
-
 module _ (len : ℕ) (s t : ℤ) (n : ℕ) (h : PlacesInside len s t n) (a : ℕ) (l : a < n) (m : len < 2 ^ 63) where
   -- a place, in i64
   pub place-fits : SFits w64 (s +ℤ t *ℤ pos a)

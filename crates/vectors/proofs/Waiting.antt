@@ -11,6 +11,7 @@ use lib.IntN.{ℤ, pos, negsuc, _+ℤ_}
 use lib.Signed.{leZ}
 use lib.Dec.{T, lit≤}
 use lib.Ieee.{Float, nan, inf, fin, binary64, fits, isNan, le, neg}
+use Rattle.laws.proofs.Tests.{and-both}
 use Rattle.floats.specs.Product.{productOf}
 use Rattle.floats.specs.Factor.{Factor, unit, times}
 use Rattle.floats.specs.Splitting.{isBad, rateFactor}
@@ -18,7 +19,7 @@ use Rattle.floats.proofs.Overflow.{isLost, lost-product, lost-factor}
 use Rattle.kernels.specs.Lanes.{Each, none, more, feed, laneOf, every}
 use Rattle.kernels.specs.InnerPlain.{laneTimes}
 use Rattle.kernels.specs.Pieces.{GoodRate}
-use Rattle.kernels.proofs.Feeding.{and-both, feed-holds, feed-related}
+use Rattle.kernels.proofs.Feeding.{feed-holds, feed-related}
 use Rattle.kernels.proofs.Factors.{lane-lt, set-cases}
 use Rattle.kernels.proofs.Lanewise.{depth, turn-small, lanes-turn, exponents-same}
 use Rattle.kernels.proofs.Least.{least-lesser}

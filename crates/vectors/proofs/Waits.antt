@@ -25,7 +25,8 @@ use Rattle.floats.proofs.Splitting.{rate-normal, rate-range, rate-float}
 use Rattle.kernels.specs.declared.lanes.Lanes.{Lanes}
 use Rattle.kernels.specs.InnerLanes.{Represents, LanesAre, LanesRepresent, zeros}
 use Rattle.kernels.proofs.Lanewise.{lanes-map}
-use Rattle.kernels.proofs.Standing.{near-in, exponents, range-split}
+use Rattle.integers.proofs.Places.{exponents}
+use Rattle.kernels.proofs.Standing.{near-in, range-split}
 
 pub record Waits (n : ℕ) (m : Float) (e : ℤ) (f : Factor) : Type 0 where
   pub off : ℤ

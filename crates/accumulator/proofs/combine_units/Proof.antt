@@ -34,7 +34,8 @@ add-raised c =
     let p = after c in
     let k = p .before .before .before .before in
     let s = k .before .before in
-    split-fits (s .args .lhs) (s .args .rhs) (k .before .struct-known .given .0) (k .struct-known2 .given .0) (s .pre .2) (s .pre .3) (p .split-f64 .result) (p .split-f64 .ensures) (s .pre .0) (s .pre .1) (split-e c)
+    split-fits (s .args .lhs) (s .args .rhs) (k .before .struct-known .given .0) (k .struct-known2 .given .0) (s .pre .2) (s .pre .3) (p .split-f64 .result)
+    (p .split-f64 .ensures) (s .pre .0) (s .pre .1) (split-e c)
 
 returns-2 : tie.Need-returns-2
 returns-2 c =
@@ -42,7 +43,8 @@ returns-2 c =
     let e1 = p .before .before .before in
     let k = e1 .before in
     let s = k .before .before in
-    code-split (s .args .lhs) (s .args .rhs) (k .before .struct-known .given .0) (k .struct-known2 .given .0) (s .pre .2) (s .pre .3) (p .split-f64 .result) (p .split-f64 .ensures) (s .pre .0) (s .pre .1) (split-e c) (e1 .if1 .left)
+    code-split (s .args .lhs) (s .args .rhs) (k .before .struct-known .given .0) (k .struct-known2 .given .0) (s .pre .2) (s .pre .3) (p .split-f64 .result)
+    (p .split-f64 .ensures) (s .pre .0) (s .pre .1) (split-e c) (e1 .if1 .left)
 
 pub combine-units-spec : {M : Type 1} → statement M
 combine-units-spec = tie.close (tie.spec returns split-f64-requires add-e add-raised returns-2)

@@ -21,7 +21,9 @@ returns c =
     let a = c .before .before .before .before .args .a in
     let exact = toZ-ofZ w64 (a .e) (record { sfits = c .before .struct-told .given .1 .0 .1 }) in
     let unit = c .before .before .before .in-unit in
-    c .within-limit .ensures ∙ ap (λ (z : ℤ). withinLimit z) exact ∙ ap (λ (t : Bool). t && withinLimit (a .e)) (sym (c .before .before .if1 .taken) ∙ unit .ensures)
+    c .within-limit .ensures
+    ∙ ap (λ (z : ℤ). withinLimit z) exact
+    ∙ ap (λ (t : Bool). t && withinLimit (a .e)) (sym (c .before .before .if1 .taken) ∙ unit .ensures)
 
 returns-2 : tie.Need-returns-2
 unfolding inLimits

@@ -34,7 +34,8 @@ returns-2 : tie.Need-returns-2
 returns-2 c =
     let e1 = c .before .before in
     let s = e1 .before .before in
-    refused-right (s .args .a) (s .args .b) (left-in-limits e1) (sym (c .before .in-limits2 .ensures) ∙ not-true (c .before .in-limits2 .result) (c .if2 .taken))
+    refused-right (s .args .a) (s .args .b) (left-in-limits e1)
+    (sym (c .before .in-limits2 .ensures) ∙ not-true (c .before .in-limits2 .result) (c .if2 .taken))
 
 stable-float-combine-requires : tie.Need-stable-float-combine-requires
 stable-float-combine-requires c κs =
@@ -47,7 +48,7 @@ within-limit-requires c κs = search needs
 
 -- the joined exponent is that of `combined`
 exponent : (c : tie.After-within-limit) (t : Bool) → c .within-limit .result ≡ t
-    → withinLimit (combined (c .before .before .before .before .before .before .before .args .a) (c .before .before .before .before .before .before .before .args .b) .e) ≡ t
+    → let s = c .before .before .before .before .before .before .before in withinLimit (combined (s .args .a) (s .args .b) .e) ≡ t
 exponent c t h =
     let r = c .before .before .stable-float-combine in
     let exact = toZ-ofZ w64 (r .result .e) (record { sfits = c .before .struct-told .given .1 .0 .1 }) in

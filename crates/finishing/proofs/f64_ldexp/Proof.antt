@@ -11,7 +11,8 @@ use borrow.Author.Needs.{needs}
 use Rattle.floats.specs.Magnitude.{factorAt}
 use Rattle.accumulator.specs.Joining.{withinLimit}
 use Rattle.finishing.specs.Once.{pastLargest, roundedOnce}
-use Rattle.finishing.proofs.Loops.{Scaling, scaling-none, scaling-fits, raised-all, raised-more, raised-less, lowered-all, lowered-more, lowered-less, lowered-below, under-taken, under-left, last}
+use Rattle.finishing.proofs.Loops.{Scaling, scaling-none, scaling-fits, raised-all, raised-more, raised-less, lowered-all, lowered-more, lowered-less}
+use Rattle.finishing.proofs.Loops.{lowered-below, under-taken, under-left, last}
 use Rattle.finishing.proofs.f64_ldexp.Statement.{statement}
 use Rattle.finishing.proofs.f64_ldexp.Tie as tie
 
@@ -65,7 +66,8 @@ returns : tie.Need-returns Inv-loop μ-loop Inv-loop2 μ-loop2
 returns c =
     let l = c .before .before .before .loop in
     let s = c .before .before .before .before in
-    answer s _ (raised-all (s .args .m) (float s) (s .pre .0) (e s) (l .x) (toZ w64 (l .k)) (l .inv) (c .before .before .loop-test .taken) (sym (c .before .is-infinite .ensures) ∙ c .if1 .taken))
+    answer s _ (raised-all (s .args .m) (float s) (s .pre .0) (e s) (l .x) (toZ w64 (l .k)) (l .inv) (c .before .before .loop-test .taken)
+    (sym (c .before .is-infinite .ensures) ∙ c .if1 .taken))
 
 loop-less : tie.Need-loop-less Inv-loop μ-loop Inv-loop2 μ-loop2
 loop-less c =
@@ -80,7 +82,8 @@ loop-again c =
     let s = c .before .before .before .before in
     let k = toZ w64 (l .k) in
     rw (toZ-ofZ w64 (k -ℤ pos 1023) (scaling-fits (s .args .m) (e s) (l .x) k (limit s) (l .inv) .0))
-    (raised-more (s .args .m) (float s) (s .pre .0) (e s) (l .x) k (l .inv) (c .before .before .loop-test .taken) (sym (c .before .is-infinite .ensures) ∙ c .if1 .left))
+    (raised-more (s .args .m) (float s) (s .pre .0) (e s) (l .x) k (l .inv) (c .before .before .loop-test .taken)
+    (sym (c .before .is-infinite .ensures) ∙ c .if1 .left))
 
 -- ---- the second loop
 loop2-holds : tie.Need-loop2-holds Inv-loop μ-loop Inv-loop2 μ-loop2
@@ -108,7 +111,8 @@ loop2-less c =
     let l = c .before .before .loop2 in
     let s = c .before .before .before .before .before in
     let k = toZ w64 (l .k) in
-    rw (toZ-ofZ w64 (k +ℤ pos 1022) (scaling-fits (s .args .m) (e s) (l .x) k (limit s) (l .inv .0) .1)) (lowered-less k (under-taken k (c .before .loop2-test .taken)))
+    rw (toZ-ofZ w64 (k +ℤ pos 1022) (scaling-fits (s .args .m) (e s) (l .x) k (limit s) (l .inv .0) .1))
+    (lowered-less k (under-taken k (c .before .loop2-test .taken)))
 
 loop2-again : tie.Need-loop2-again Inv-loop μ-loop Inv-loop2 μ-loop2
 loop2-again c =

@@ -1,6 +1,6 @@
 -- `finishing::power_of_two` meets its contract: the field e + 1023 is one of `Patterns`. Assumes nothing.
 use mathlib.Core.Path.{_≡_}
-use lib.IntN.{ℤ, pos, _+ℤ_}
+use lib.IntN.{pos, _+ℤ_}
 use mir.Syntax.{w64}
 use mir.Val.{toZ, ofZ}
 use mir.ValLaws.{toZ-ofZ}

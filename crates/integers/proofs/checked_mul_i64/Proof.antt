@@ -3,10 +3,11 @@
 use Prim.Native.Nat.{ℕ, _*_, _<_, _^_}
 use mathlib.Core.Path.{_≡_, sym, _∙_, ap}
 use native.Mathlib.Omega.{arith}
-use lib.IntN.{ℤ, pos, natAbs}
+use lib.IntN.{natAbs}
 use mir.Facts.{toZ-ofZ}
 use borrow.Author.Needs.{needs}
-use Rattle.integers.proofs.Machine.{narrowU64-ok, narrowU64-not-ok, signed-neg, signed-pos, signed-least, signed-over, unsigned-over, far-over, neg-fits, toZ-small}
+use Rattle.integers.proofs.Machine.{narrowU64-ok, narrowU64-not-ok, signed-neg, signed-pos, signed-least, signed-over, unsigned-over, far-over}
+use Rattle.integers.proofs.Machine.{negated-fits, toZ-small}
 use Rattle.integers.proofs.checked_mul_i64.Statement.{statement}
 use Rattle.integers.proofs.checked_mul_i64.Tie as tie
 
@@ -29,7 +30,7 @@ cast-v c = search needs
 sub-t10 : tie.Need-sub-t10
 sub-t10 c =
     let p = c .before .before .before .checked-mul-u64 .result .value in
-    rw (toZ-small p (omega arith)) (neg-fits p (omega arith))
+    rw (toZ-small p (omega arith)) (negated-fits p (omega arith))
 
 returns : tie.Need-returns
 returns c =
@@ -37,7 +38,7 @@ returns c =
     let f = s .fits .a in
     let h : c .before .before .before .checked-mul-u64 .result .value < 2 ^ 63 = omega arith in
     let p = c .before .before .before .checked-mul-u64 .result .value in
-    simp (toZ-small p h, toZ-ofZ (neg-fits p (omega arith)))
+    simp (toZ-small p h, toZ-ofZ (negated-fits p (omega arith)))
     (sym (signed-neg (s .args .a) (s .args .n) p (product (c .before .before)) (simp (toZ-ofZ f) at (c .if3 .taken)) h))
 
 returns-2 : tie.Need-returns-2

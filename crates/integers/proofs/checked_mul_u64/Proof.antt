@@ -1,12 +1,10 @@
 -- `integers::checked_mul_u64` meets its contract: a product is over the limit exactly where one factor is over the limit divided by the other.
 -- Assumes nothing.
-use Prim.Native.Nat.{_*_}
-use mathlib.Core.Path.{_≡_, sym, _∙_, ap}
+use mathlib.Core.Path.{sym}
 use native.Mathlib.Omega.{arith}
 use native.Mathlib.Nat.{mul-zero}
 use borrow.Author.Needs.{needs}
-use Rattle.integers.specs.InnerChecked.{narrowU64}
-use Rattle.integers.proofs.Machine.{narrowU64-yes, narrowU64-no, product-over, product-fits}
+use Rattle.integers.proofs.Machine.{narrowU64-yes, narrowU64-no, product-over, product-fits-u64}
 use Rattle.integers.proofs.checked_mul_u64.Statement.{statement}
 use Rattle.integers.proofs.checked_mul_u64.Tie as tie
 use Rattle.integers.proofs.checked_mul_u64.Reads as reads
@@ -23,11 +21,11 @@ returns-2 c =
     sym (narrowU64-no _ (product-over (c .before .before .args .a) (c .before .before .args .b) (omega arith) (c .if2 .taken)))
 
 mul-t4 : tie.Need-mul-t4
-mul-t4 c = omega (arith, product-fits (c .before .before .args .a) (c .before .before .args .b) (omega arith) (c .if2 .left))
+mul-t4 c = omega (arith, product-fits-u64 (c .before .before .args .a) (c .before .before .args .b) (omega arith) (c .if2 .left))
 
 returns-3 : tie.Need-returns-3
 returns-3 c =
-    sym (narrowU64-yes _ (product-fits (c .before .before .args .a) (c .before .before .args .b) (omega arith) (c .if2 .left)))
+    sym (narrowU64-yes _ (product-fits-u64 (c .before .before .args .a) (c .before .before .args .b) (omega arith) (c .if2 .left)))
 
 pub checked-mul-u64-spec : {M : Type 1} → statement M
 checked-mul-u64-spec = tie.close (tie.spec returns div-if2 returns-2 mul-t4 returns-3)

@@ -1,8 +1,7 @@
 -- `integers::checked_neg_i64` meets its contract: only the least i64 has no opposite.
 -- Assumes nothing.
-use mathlib.Core.Path.{_≡_, sym, _∙_, ap}
-use native.Mathlib.Omega.{arith}
-use lib.IntN.{ℤ, pos, _-ℤ_, natAbs, negℤ, +ℤ-idl}
+use mathlib.Core.Path.{sym, _∙_}
+use lib.IntN.{pos, _-ℤ_, negℤ, +ℤ-idl}
 use mir.Facts.{toZ-ofZ}
 use borrow.Author.Needs.{needs}
 use Rattle.integers.proofs.Machine.{narrowI64-yes, narrowI64-no, opposite-fits, least-only}

@@ -1,12 +1,9 @@
 -- `integers::magnitude` meets its contract: a negative number is turned one short of its magnitude, which an i64 holds even at the least.
 -- Assumes nothing.
 use Prim.Native.Nat.{_-_}
-use mathlib.Core.Path.{_≡_, sym, _∙_, ap}
 use native.Mathlib.Omega.{arith}
-use lib.IntN.{ℤ, pos, _+ℤ_, _-ℤ_, natAbs}
+use lib.IntN.{natAbs}
 use mir.Facts.{toZ-ofZ}
-use mir.Val.{SFits, toZ, ofZ}
-use mir.Syntax.{w64}
 use Rattle.integers.proofs.Machine.{up-fits, turned-fits, turned, natAbs-pos, nonneg-pos, natAbs-fits, pos-fits}
 use Rattle.integers.proofs.magnitude.Statement.{statement}
 use Rattle.integers.proofs.magnitude.Tie as tie

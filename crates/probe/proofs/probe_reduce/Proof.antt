@@ -4,8 +4,7 @@ use mir.Facts.{toZ-ofZ}
 use mir.Val.{SFits}
 use mir.Syntax.{w64}
 use borrow.Author.Needs.{needs}
-use Rattle.accumulator.specs.declared.Reduced.{Reduced}
-use Rattle.accumulator.specs.Joining.{Answer, answerOf}
+use Rattle.accumulator.specs.Joining.{answerOf}
 use Rattle.reduction.specs.Ranges.{reduceOf}
 use Rattle.probe.specs.Answers.{codeGiven, mGiven, eGiven, badGiven}
 use Rattle.probe.proofs.probe_reduce.Statement.{statement}
@@ -15,7 +14,8 @@ use Rattle.probe.proofs.probe_reduce.Lts as lts
 use Rattle.reduction.proofs.full.reduce.Reads as reduce-reads
 
 -- the reduction's answer, over the arguments themselves
-answered : (c : tie.After-reduce) → answerOf (c .reduce .result) ≡ reduceOf (c .before .before .before .args .sizes .now) (c .before .before .before .args .strides .now) (c .before .before .before .args .base) (c .before .before .before .args .start) (c .before .before .before .args .end) (c .before .before .before .args .values .now)
+answered : (c : tie.After-reduce) → let s = c .before .before .before in
+    answerOf (c .reduce .result) ≡ reduceOf (s .args .sizes .now) (s .args .strides .now) (s .args .base) (s .args .start) (s .args .end) (s .args .values .now)
 answered c = simp (toZ-ofZ (c .before .before .before .fits .base)) at (c .reduce .ensures)
 
 reduce-requires : tie.Need-reduce-requires

@@ -4,13 +4,13 @@ use Prim.Native.Nat.{ℕ, _-_}
 use mathlib.Core.Path.{_≡_, sym, _∙_, ap}
 use mathlib.Core.Bool.{Bool}
 use native.Mathlib.Omega.{arith}
-use lib.IntN.{ℤ, pos, negℤ, _*ℤ_}
+use lib.IntN.{pos, negℤ, _*ℤ_}
 use mir.Val.{SFits}
 use mir.Facts.{toZ-ofZ}
 use mir.Syntax.{w64}
 use borrow.Author.Needs.{needs}
 use Rattle.integers.specs.InnerChecked.{keepI, narrowI64}
-use Rattle.layout.specs.Axes.{span, resetFits}
+use Rattle.layout.specs.Axes.{span}
 use Rattle.layout.proofs.Resets.{reset-large, reset-no-span, reset-span}
 use Rattle.layout.proofs.axis.checked_reduce_reset.Statement.{statement}
 use Rattle.layout.proofs.axis.checked_reduce_reset.Tie as tie
@@ -21,7 +21,8 @@ last-of-requires c κs = search needs
 returns : tie.Need-returns
 returns c =
     let s = c .before .before in
-    sym (ap (λ (b : Bool). keepI b (negℤ (span (s .args .extent) (s .args .step)))) (reset-large (s .args .extent) (s .args .step) (omega (arith, c .before .last-of .ensures))))
+    sym (ap (λ (b : Bool). keepI b (negℤ (span (s .args .extent) (s .args .step))))
+    (reset-large (s .args .extent) (s .args .step) (omega (arith, c .before .last-of .ensures))))
 
 checked-mul-i64-requires : tie.Need-checked-mul-i64-requires
 checked-mul-i64-requires c κs = search needs
@@ -30,7 +31,8 @@ checked-neg-i64-requires : tie.Need-checked-neg-i64-requires
 checked-neg-i64-requires c κs = search needs
 
 -- what the product is
-spanned : (c : tie.After-checked-mul-i64) → c .checked-mul-i64 .result ≡ narrowI64 (c .before .before .before .args .step *ℤ pos (c .before .before .before .args .extent - 1))
+spanned : (c : tie.After-checked-mul-i64) → let s = c .before .before .before in
+    c .checked-mul-i64 .result ≡ narrowI64 (s .args .step *ℤ pos (s .args .extent - 1))
 spanned c =
     let s = c .before .before .before in
     simp (toZ-ofZ (s .fits .step)) at (c .checked-mul-i64 .ensures)
@@ -38,8 +40,9 @@ spanned c =
 
 returns-2 : tie.Need-returns-2
 returns-2 c =
-    let s = c .before .before .before .before .before .before in
-    let h = c .before .before .before .before .before .last-of .ensures in
+    let t = c .before .before .before .before .before in
+    let s = t .before in
+    let h = t .last-of .ensures in
     let r = c .before .before .before .checked-mul-i64 .result in
     let f : SFits w64 (r .value) = record { sfits = c .before .struct-told .given .1 .0 .1 } in
     simp (toZ-ofZ f) at (c .checked-neg-i64 .ensures)

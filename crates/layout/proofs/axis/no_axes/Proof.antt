@@ -1,6 +1,5 @@
 -- `layout::axis::no_axes` meets its contract.
 -- Assumes nothing.
-use mathlib.Core.Path.{refl}
 use borrow.Author.Needs.{needs}
 use Rattle.layout.specs.InnerTables.{tableOf}
 use Rattle.layout.specs.Axes.{placesOf}

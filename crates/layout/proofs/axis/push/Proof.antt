@@ -1,14 +1,14 @@
 -- `layout::axis::push` meets its contract.
 -- Assumes nothing.
-use Prim.Native.Nat.{ℕ, _+_, _<_}
-use mathlib.Core.Path.{_≡_, refl, sym, _∙_, ap}
-use mathlib.Core.List.{List, [], _∷_, _++_}
+use Prim.Native.Nat.{_+_, _<_}
+use mathlib.Core.Path.{_≡_}
+use mathlib.Core.List.{[], _∷_, _++_}
 use native.Mathlib.Omega.{arith}
 use lib.ListN.{length, set, length-append}
 use borrow.Author.Needs.{needs}
 use Rattle.layout.specs.declared.axis.ReduceOuterAxis.{ReduceOuterAxis}
 use Rattle.layout.specs.declared.axis.AxisTable.{AxisTable}
-use Rattle.layout.specs.Axes.{PLACES, placesOf}
+use Rattle.layout.specs.Axes.{PLACES}
 use Rattle.layout.specs.InnerTables.{CleanTable, tableOf, tableAxes}
 use Rattle.layout.proofs.Tables.{table-places, table-count, pushed}
 use Rattle.layout.proofs.axis.push.Statement.{statement}

@@ -44,7 +44,8 @@ element-copy-out-first : tie.Need-element-copy-out-first Inv-loop μ-loop
 element-copy-out-first c = omega arith
 
 loop-holds : tie.Need-loop-holds Inv-loop μ-loop
-loop-holds c = fused-first (c .before .before .before .args .t1) _ (c .before .before .before .pre) (c .before .if1 .left) refl (c .before .before .no-axes .ensures) refl
+loop-holds c =
+    fused-first (c .before .before .before .args .t1) _ (c .before .before .before .pre) (c .before .if1 .left) refl (c .before .before .no-axes .ensures) refl
 
 mul-b : tie.Need-mul-b Inv-loop μ-loop
 mul-b c = omega arith
@@ -62,7 +63,8 @@ returns-2 c =
     let l = t .before .before .before in
     let s = l .before .before .before .before in
     ap (λ (t : AxisTable). record { ok = false; table = t }) (l .before .before .before .no-axes .ensures)
-    ∙ ap orderedOr (sym (fused-stop (s .args .t1) (l .loop .f) (t .fuse-next .result) (l .loop .i) (s .pre) (t .before .before .loop-test .taken) (l .loop .inv) (t .fuse-next .ensures) (not-true _ (c .if2 .taken))))
+    ∙ ap orderedOr (sym (fused-stop (s .args .t1) (l .loop .f) (t .fuse-next .result) (l .loop .i) (s .pre) (t .before .before .loop-test .taken) (l .loop .inv)
+    (t .fuse-next .ensures) (not-true _ (c .if2 .taken))))
 
 add-i : tie.Need-add-i Inv-loop μ-loop
 add-i c = omega arith
@@ -75,7 +77,8 @@ loop-again c =
     let t = c .before .before in
     let l = t .before .before .before in
     let s = l .before .before .before .before in
-    fused-more (s .args .t1) (l .loop .f) (t .fuse-next .result) (l .loop .i) (s .pre) (t .before .before .loop-test .taken) (l .loop .inv) (t .fuse-next .ensures) (not-false _ (c .if2 .left))
+    fused-more (s .args .t1) (l .loop .f) (t .fuse-next .result) (l .loop .i) (s .pre) (t .before .before .loop-test .taken) (l .loop .inv)
+    (t .fuse-next .ensures) (not-false _ (c .if2 .left))
 
 push-requires : tie.Need-push-requires Inv-loop μ-loop
 push-requires c κs = (c .before .loop .inv .table, omega arith)

@@ -1,14 +1,11 @@
 -- `layout::fuse::fuse_next` meets its contract.
 -- Assumes nothing.
-use Prim.Native.Nat.{ℕ}
-use mathlib.Core.Path.{_≡_, refl, sym, _∙_, ap}
+use mathlib.Core.Path.{sym, _∙_, ap}
 use mathlib.Core.Bool.{true, false}
 use Rattle.layout.specs.declared.axis.ReduceOuterAxis.{ReduceOuterAxis}
 use Rattle.layout.specs.declared.axis.AxisTable.{AxisTable}
-use Rattle.layout.specs.declared.fuse.Fusing.{Fusing}
 use mathlib.Core.List.{[]}
 use Rattle.layout.specs.InnerTables.{tableAxes, tableOf}
-use Rattle.layout.specs.Fuse.{joinOf}
 use Rattle.layout.specs.InnerAnswers.{nextFrom, nextOf}
 use borrow.Author.Needs.{needs}
 use Rattle.layout.proofs.fuse.fuse_next.Statement.{statement}
@@ -53,7 +50,8 @@ unfolding nextOf nextFrom
 returns-2 c =
     let s = c .before .before .before .before .before .before in
     ap (λ (t : AxisTable). record { ok = true; done = t; last = s .args .b }) (c .push .ensures)
-    ∙ ap (nextFrom (tableAxes (s .args .f .done)) (s .args .f .last) (s .args .b)) (sym (c .before .enum-told .given .1) ∙ c .before .before .before .join .ensures)
+    ∙ ap (nextFrom (tableAxes (s .args .f .done)) (s .args .f .last) (s .args .b))
+    (sym (c .before .enum-told .given .1) ∙ c .before .before .before .join .ensures)
 
 returns-3 : tie.Need-returns-3
 unfolding nextOf nextFrom
@@ -61,7 +59,8 @@ returns-3 c =
     let s = c .before .before .before .before .before .before .before in
     ap (λ (t : AxisTable). record { ok = false; done = t; last = c .no-axis .result }) (c .before .no-axes .ensures)
     ∙ ap (λ (a : ReduceOuterAxis). record { ok = false; done = tableOf []; last = a }) (c .no-axis .ensures)
-    ∙ ap (nextFrom (tableAxes (s .args .f .done)) (s .args .f .last) (s .args .b)) (sym (c .before .before .enum-told2 .given .1) ∙ c .before .before .before .before .join .ensures)
+    ∙ ap (nextFrom (tableAxes (s .args .f .done)) (s .args .f .last) (s .args .b))
+    (sym (c .before .before .enum-told2 .given .1) ∙ c .before .before .before .before .join .ensures)
 
 pub fuse-next-spec : {M : Type 1} → statement M
 fuse-next-spec =

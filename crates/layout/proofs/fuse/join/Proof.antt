@@ -1,8 +1,8 @@
 -- `layout::fuse::join` meets its contract: rule 4, check by check. A product of sizes past u64 has no reset either.
 -- Assumes nothing.
 use Prim.Native.Nat.{ℕ, _*_}
-use mathlib.Core.Path.{_≡_, refl, sym, _∙_, ap}
-use mathlib.Core.Bool.{Bool, true, false}
+use mathlib.Core.Path.{_≡_, sym, _∙_, ap}
+use mathlib.Core.Bool.{true}
 use lib.IntN.{ℤ, negℤ}
 use mir.Val.{SFits, ofZ}
 use mir.Facts.{toZ-ofZ}
@@ -12,7 +12,6 @@ use borrow.Author.Tests.{not-true, not-false}
 use Rattle.integers.specs.InnerChecked.{keepI, narrowI64}
 use Rattle.integers.specs.Integers.{fitsI64, eqZ}
 use Rattle.integers.proofs.Machine.{narrowI64-ok, narrowI64-not-ok, narrowU64-ok, narrowU64-not-ok, same-bits, ne-eqZ, eqZ-refl}
-use Rattle.layout.specs.declared.axis.ReduceOuterAxis.{ReduceOuterAxis}
 use Rattle.layout.specs.declared.fuse.Joined.{Joined}
 use Rattle.layout.specs.declared.fuse.Joined.the-variants.{One}
 use Rattle.layout.specs.Axes.{axisOf, span, resetFits}
@@ -38,7 +37,8 @@ returns c =
     sym (join-over (s .args .a) (s .args .b) (narrowI64-not-ok _ (reach (s .args .a)) (reached m) (not-true _ (c .if1 .taken))))
 
 -- the reach fits, and is the checked product's value
-fitting : (c : tie.Else1) → (c .before .before .checked-mul-i64 .result .value ≡ reach (c .before .before .before .before .args .a)) × (fitsI64 (reach (c .before .before .before .before .args .a)) ≡ true)
+fitting : (c : tie.Else1) → let s = c .before .before .before .before in
+    (c .before .before .checked-mul-i64 .result .value ≡ reach (s .args .a)) × (fitsI64 (reach (s .args .a)) ≡ true)
 fitting c = narrowI64-ok _ (reach (c .before .before .before .before .args .a)) (reached (c .before .before)) (not-false _ (c .if1 .left))
 
 returns-2 : tie.Need-returns-2
@@ -52,7 +52,8 @@ checked-mul-u64-requires : tie.Need-checked-mul-u64-requires
 checked-mul-u64-requires c κs = search needs
 
 -- the axes meet
-meet : (c : tie.Else2) → eqZ (reach (c .before .before .before .before .before .before .before .before .before .args .a)) (c .before .before .before .before .before .before .before .before .before .args .b .«source_step») ≡ true
+meet : (c : tie.Else2) → let s = c .before .before .before .before .before .before .before .before .before in
+    eqZ (reach (s .args .a)) (s .args .b .«source_step») ≡ true
 meet c =
     let e = c .before .before .before .before .before in
     let s = e .before .before .before .before in
@@ -66,17 +67,22 @@ returns-3 c =
     let m = c .before .before in
     let e = m .before .before .before .before .before .before in
     let s = e .before .before .before .before in
-    sym (join-large (s .args .a) (s .args .b) (fitting e .1) (meet (m .before)) (narrowU64-not-ok _ _ (m .checked-mul-u64 .ensures) (not-true _ (c .if3 .taken))))
+    sym
+    (join-large (s .args .a) (s .args .b) (fitting e .1) (meet (m .before)) (narrowU64-not-ok _ _ (m .checked-mul-u64 .ensures) (not-true _ (c .if3 .taken))))
 
 -- the reset of the joined axis
 reset : (c : tie.After-checked-reduce-reset)
-    → c .checked-reduce-reset .result ≡ keepI (resetFits (c .before .before .before .before .before .before .before .before .before .before .before .before .before .before .args .a .extent * c .before .before .before .before .before .before .before .before .before .before .before .before .before .before .args .b .extent) (c .before .before .before .before .before .before .before .before .before .before .before .before .before .before .args .a .«source_step»)) (negℤ (span (c .before .before .before .before .before .before .before .before .before .before .before .before .before .before .args .a .extent * c .before .before .before .before .before .before .before .before .before .before .before .before .before .before .args .b .extent) (c .before .before .before .before .before .before .before .before .before .before .before .before .before .before .args .a .«source_step»)))
+    → let s = c .before .before .before .before .before .before .before .before .before .before .before .before .before .before in
+    c .checked-reduce-reset .result
+    ≡ keepI (resetFits (s .args .a .extent * s .args .b .extent) (s .args .a .«source_step»))
+    (negℤ (span (s .args .a .extent * s .args .b .extent) (s .args .a .«source_step»)))
 reset c =
     let m = c .before .before .before .before in
     let s = m .before .before .before .before .before .before .before .before .before .before in
     let f : SFits w64 (s .args .a .«source_step») = record { sfits = c .before .struct-told4 .given .1 .0 .1 } in
     let n = narrowU64-ok _ _ (m .checked-mul-u64 .ensures) (not-false _ (c .before .before .if3 .left)) .0 in
-    simp (toZ-ofZ f) at (c .checked-reduce-reset .ensures) ∙ ap (λ (k : ℕ). keepI (resetFits k (s .args .a .«source_step»)) (negℤ (span k (s .args .a .«source_step»)))) n
+    simp (toZ-ofZ f) at (c .checked-reduce-reset .ensures)
+    ∙ ap (λ (k : ℕ). keepI (resetFits k (s .args .a .«source_step»)) (negℤ (span k (s .args .a .«source_step»)))) n
 
 checked-reduce-reset-requires : tie.Need-checked-reduce-reset-requires
 checked-reduce-reset-requires c κs = search needs
@@ -89,10 +95,12 @@ returns-4 c =
     let s = e .before .before .before .before in
     sym (join-no-reset (s .args .a) (s .args .b) (fitting e .1) (meet (m .before)) (reset-not-ok _ _ _ (reset r) (not-true _ (c .if4 .taken))))
 
-made : (n k : ℕ) (s z : ℤ) → n ≡ k → z ≡ negℤ (span k s) → _≡_ {A = Joined} (One (record { extent = n; «source_step» = s; «source_reset» = z })) (One (axisOf k s))
+made : (n k : ℕ) (s z : ℤ) → n ≡ k → z ≡ negℤ (span k s)
+    → _≡_ {A = Joined} (One (record { extent = n; «source_step» = s; «source_reset» = z })) (One (axisOf k s))
 unfolding axisOf
 made n k s z e f =
-    ap (λ (m : ℕ). One (record { extent = m; «source_step» = s; «source_reset» = z })) e ∙ ap (λ (y : ℤ). One (record { extent = k; «source_step» = s; «source_reset» = y })) f
+    ap (λ (m : ℕ). One (record { extent = m; «source_step» = s; «source_reset» = z })) e
+    ∙ ap (λ (y : ℤ). One (record { extent = k; «source_step» = s; «source_reset» = y })) f
 
 returns-5 : tie.Need-returns-5
 returns-5 c =

@@ -1,7 +1,6 @@
 -- `layout::traversal::after_first` meets its contract. The loop's invariant, `Copied`: what is copied and what is left are the axes after the first.
 -- Assumes nothing.
-use Prim.Native.Nat.{ℕ, _-_}
-use mathlib.Core.Path.{_≡_, refl, sym, _∙_, ap}
+use Prim.Native.Nat.{_-_}
 use native.Mathlib.Omega.{arith}
 use borrow.Author.Needs.{needs}
 use Rattle.layout.proofs.Compiling.{Copied, copied-none, copied-more, copied-all}

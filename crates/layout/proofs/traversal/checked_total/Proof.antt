@@ -2,7 +2,6 @@
 -- Assumes nothing.
 use Prim.Native.Nat.{ℕ, _+_, _-_, _≤_, _*_}
 use mathlib.Core.Path.{_≡_, refl, sym, _∙_, ap}
-use mathlib.Core.Option.{Option, none, some}
 use native.Mathlib.Omega.{arith}
 use lib.ListN.{length, drop, getD}
 use borrow.Author.Needs.{needs}
@@ -43,7 +42,9 @@ returns c =
     let l = m .before .before .before in
     let s = l .before .before in
     let k = narrowU64-not-ok _ (l .loop .total * getD (s .args .sizes .now) (l .loop .i) 0) (m .checked-mul-u64 .ensures) (not-true _ (c .if1 .taken)) in
-    m .checked-mul-u64 .ensures ∙ narrowU64-no _ k ∙ ap checkedOr (sym (sym (l .loop .inv .1) ∙ total-over (s .args .sizes .now) (l .loop .total) (l .loop .i) (m .before .before .loop-test .taken) k))
+    m .checked-mul-u64 .ensures
+    ∙ narrowU64-no _ k
+    ∙ ap checkedOr (sym (sym (l .loop .inv .1) ∙ total-over (s .args .sizes .now) (l .loop .total) (l .loop .i) (m .before .before .loop-test .taken) k))
 
 add-i : tie.Need-add-i Inv-loop μ-loop
 add-i c = omega arith

@@ -34,8 +34,8 @@ checked-reduce-reset-requires : tie.Need-checked-reduce-reset-requires
 checked-reduce-reset-requires c κs = search needs
 
 -- what the reset is
-reset : (c : tie.After-checked-reduce-reset)
-    → c .checked-reduce-reset .result ≡ keepI (resetFits (c .before .before .before .args .size) (c .before .before .before .args .stride)) (negℤ (span (c .before .before .before .args .size) (c .before .before .before .args .stride)))
+reset : (c : tie.After-checked-reduce-reset) → let s = c .before .before .before in
+    c .checked-reduce-reset .result ≡ keepI (resetFits (s .args .size) (s .args .stride)) (negℤ (span (s .args .size) (s .args .stride)))
 reset c =
     let s = c .before .before .before in
     c .checked-reduce-reset .ensures ∙ ap (λ (z : ℤ). keepI (resetFits (s .args .size) z) (negℤ (span (s .args .size) z))) (toZ-ofZ (s .fits .stride))
@@ -49,7 +49,8 @@ returns-3 c =
     let e = r .before in
     let s = e .before .before in
     c .refused .ensures
-    ∙ sym (line-3 (s .args .size) (s .args .stride) (s .fits .size .fits) (e .before .if1 .left) (e .if2 .left) (reset-not-ok _ _ _ (reset r) (not-true _ (c .before .if3 .taken))))
+    ∙ sym (line-3 (s .args .size) (s .args .stride) (s .fits .size .fits) (e .before .if1 .left) (e .if2 .left)
+    (reset-not-ok _ _ _ (reset r) (not-true _ (c .before .if3 .taken))))
 
 refused-requires-2 : tie.Need-refused-requires-2
 refused-requires-2 c κs = search needs
@@ -60,7 +61,8 @@ returns-4 c =
     let e = r .before in
     let s = e .before .before in
     c .refused2 .ensures
-    ∙ sym (line-4 (s .args .size) (s .args .stride) (s .fits .size .fits) (e .before .if1 .left) (e .if2 .left) (reset-ok _ _ _ (reset r) (not-false _ (c .before .before .if3 .left)) .0) (c .before .if4 .taken))
+    ∙ sym (line-4 (s .args .size) (s .args .stride) (s .fits .size .fits) (e .before .if1 .left) (e .if2 .left)
+    (reset-ok _ _ _ (reset r) (not-false _ (c .before .before .if3 .left)) .0) (c .before .if4 .taken))
 
 one-run-requires-2 : tie.Need-one-run-requires-2
 one-run-requires-2 c κs = search needs
@@ -71,7 +73,8 @@ returns-5 c =
     let e = r .before in
     let s = e .before .before in
     c .one-run2 .ensures ∙ ap (λ (z : ℤ). record { code = 0; traversal = layoutOf (s .args .size) (axisOf (s .args .size) z ∷ []) }) (toZ-ofZ (s .fits .stride))
-    ∙ sym (line-run (s .args .size) (s .args .stride) (s .fits .size .fits) (e .before .if1 .left) (e .if2 .left) (reset-ok _ _ _ (reset r) (not-false _ (c .before .before .if3 .left)) .0) (c .before .if4 .left))
+    ∙ sym (line-run (s .args .size) (s .args .stride) (s .fits .size .fits) (e .before .if1 .left) (e .if2 .left)
+    (reset-ok _ _ _ (reset r) (not-false _ (c .before .before .if3 .left)) .0) (c .before .if4 .left))
 
 pub compile-line-spec : {M : Type 1} → statement M
 compile-line-spec =

@@ -1,6 +1,6 @@
 -- `layout::traversal::with_run` meets its contract.
 -- Assumes nothing.
-use mathlib.Core.Path.{_≡_, refl}
+use mathlib.Core.Path.{refl}
 use lib.ListN.{getD}
 use mir.Val.{SFits}
 use mir.Facts.{toZ-ofZ}
@@ -31,7 +31,8 @@ returns-2 c =
     let a = getD (s .args .t2 .places) 0 noAxis in
     let f : SFits w64 (a .«source_step») = record { sfits = c .struct-told .given .1 .0 .1 } in
     let m = c .before .before .before .before in
-    simp (toZ-ofZ f) (run-first (s .args .total) (s .args .t2) (m .after-first .result) a (s .pre) (c .before .before .if1 .left) (m .after-first .ensures) refl)
+    simp (toZ-ofZ f)
+    (run-first (s .args .total) (s .args .t2) (m .after-first .result) a (s .pre) (c .before .before .if1 .left) (m .after-first .ensures) refl)
 
 pub with-run-spec : {M : Type 1} → statement M
 with-run-spec = tie.close (tie.spec after-first-requires returns element-copy-out-run returns-2)

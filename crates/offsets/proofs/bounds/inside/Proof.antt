@@ -1,7 +1,7 @@
 -- `offsets::bounds::inside` meets its contract: the test of the ends is the test of every element.
 -- Assumes nothing.
 use Prim.Native.Nat.{ℕ, _<_, _^_}
-use mathlib.Core.Path.{_≡_, refl, sym, _∙_, ap}
+use mathlib.Core.Path.{_≡_, sym, _∙_, ap}
 use mathlib.Core.Bool.{false}
 use mathlib.Core.List.{_∷_}
 use native.Mathlib.Omega.{arith}
@@ -63,7 +63,8 @@ returns-3 c =
     let x = s .args .base in
     let l = s .args .l in
     simp (toZ-ofZ (s .fits .base)) at (c .inside-from .ensures)
-    ∙ last-short (runOf l ∷ outerOf l) (s .pre .axes) (s .args .length) (natAbs x) (omega (arith, c .before .before .if2 .left)) (omega (arith, c .before .if3 .taken))
+    ∙ last-short (runOf l ∷ outerOf l) (s .pre .axes) (s .args .length) (natAbs x) (omega (arith, c .before .before .if2 .left))
+    (omega (arith, c .before .if3 .taken))
     ∙ ap (λ (n : ℕ). allInside (runOf l ∷ outerOf l) n (pos (natAbs x)) (s .args .length)) (s .pre .total)
     ∙ ap (λ (z : ℤ). allInside (runOf l ∷ outerOf l) (l .total) z (s .args .length)) (sym (whole (c .before .before .before)))
 

@@ -1,6 +1,5 @@
 -- `offsets::bounds::widen` meets its contract.
 -- Assumes nothing.
-use Prim.Native.Nat.{ℕ}
 use mathlib.Core.Path.{_≡_, sym, _∙_}
 use lib.IntN.{natAbs}
 use mir.Facts.{toZ-ofZ}
@@ -26,13 +25,16 @@ returns : tie.Need-returns
 returns c =
     let u = c .before .before .before .before in
     let s = u .before in
-    c .outside .ensures ∙ sym (back-nowhere (s .args .s) (s .args .reset) (s .args .last) (u .magnitude .result) (size u) (simp (toZ-ofZ (s .fits .reset)) at (c .before .before .before .if1 .taken)) (c .before .if2 .taken))
+    c .outside .ensures
+    ∙ sym (back-nowhere (s .args .s) (s .args .reset) (s .args .last) (u .magnitude .result) (size u)
+    (simp (toZ-ofZ (s .fits .reset)) at (c .before .before .before .if1 .taken)) (c .before .if2 .taken))
 
 returns-2 : tie.Need-returns-2
 returns-2 c =
     let u = c .before .before .before .before in
     let s = u .before in
-    sym (back-widened (s .args .s) (s .args .reset) (s .args .last) (u .magnitude .result) (size u) (simp (toZ-ofZ (s .fits .reset)) at (c .before .before .before .if1 .taken)) (c .before .if2 .left))
+    sym (back-widened (s .args .s) (s .args .reset) (s .args .last) (u .magnitude .result) (size u)
+    (simp (toZ-ofZ (s .fits .reset)) at (c .before .before .before .if1 .taken)) (c .before .if2 .left))
 
 sub-if3 : tie.Need-sub-if3
 sub-if3 c = search needs
@@ -44,7 +46,9 @@ returns-3 : tie.Need-returns-3
 returns-3 c =
     let u = c .before .before .before .before in
     let s = u .before in
-    c .outside2 .ensures ∙ sym (forth-nowhere (s .args .s) (s .args .reset) (s .args .last) (u .magnitude .result) (size u) (simp (toZ-ofZ (s .fits .reset)) at (c .before .before .before .if1 .left)) (c .before .if3 .taken))
+    c .outside2 .ensures
+    ∙ sym (forth-nowhere (s .args .s) (s .args .reset) (s .args .last) (u .magnitude .result) (size u)
+    (simp (toZ-ofZ (s .fits .reset)) at (c .before .before .before .if1 .left)) (c .before .if3 .taken))
 
 add-t8 : tie.Need-add-t8
 add-t8 c = search needs
@@ -53,7 +57,8 @@ returns-4 : tie.Need-returns-4
 returns-4 c =
     let u = c .before .before .before .before in
     let s = u .before in
-    sym (forth-widened (s .args .s) (s .args .reset) (s .args .last) (u .magnitude .result) (size u) (simp (toZ-ofZ (s .fits .reset)) at (c .before .before .before .if1 .left)) (c .before .if3 .left))
+    sym (forth-widened (s .args .s) (s .args .reset) (s .args .last) (u .magnitude .result) (size u)
+    (simp (toZ-ofZ (s .fits .reset)) at (c .before .before .before .if1 .left)) (c .before .if3 .left))
 
 pub widen-spec : {M : Type 1} → statement M
 widen-spec =

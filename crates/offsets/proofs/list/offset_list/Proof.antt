@@ -1,7 +1,7 @@
 -- `offsets::list::offset_list` meets its contract: the code, and the whole buffer.
 -- Assumes nothing.
-use Prim.Native.Nat.{ℕ, _-_, _<_, _≤_}
-use mathlib.Core.Path.{_≡_, refl, sym, _∙_, ap, subst}
+use Prim.Native.Nat.{ℕ, _-_}
+use mathlib.Core.Path.{_≡_, sym, _∙_, ap}
 use mathlib.Core.Option.{some}
 use mathlib.Core.List.{List, _∷_, _++_}
 use native.Mathlib.Omega.{arith}
@@ -12,11 +12,11 @@ use Rattle.layout.specs.declared.traversal.FullTraversal.{FullTraversal}
 use Rattle.layout.specs.declared.traversal.Compiled.{Compiled}
 use Rattle.layout.specs.Order.{axesOf}
 use Rattle.layout.specs.Compile.{compileOf, layoutBeside}
-use Rattle.offsets.specs.InnerCursors.{Bounded, Traversal}
 use Rattle.offsets.specs.Pieces.{runOf, outerOf}
 use Rattle.offsets.specs.Lists.{rangeCode, offsetsFrom}
 use Rattle.offsets.specs.InnerLists.{rangeOf}
-use Rattle.offsets.proofs.Ranges.{Ranged, ranged, ranged-accepted, ranged-bounded, list-0, list-8, list-refused, buffer-kept, buffer-filled, offsets-same}
+use Rattle.offsets.proofs.Ranges.{Ranged, ranged, ranged-accepted, ranged-bounded, list-0, list-8, list-refused, buffer-kept, buffer-filled}
+use Rattle.offsets.proofs.Ranges.{offsets-same}
 use borrow.Author.Needs.{needs}
 use Rattle.offsets.proofs.list.offset_list.Statement.{statement}
 use Rattle.offsets.proofs.list.offset_list.Tie as tie
@@ -26,18 +26,22 @@ use Rattle.offsets.proofs.list.checked_range.Reads as checked-range-rea
 use Rattle.offsets.proofs.list.write_offsets.Reads as write-offsets-reads
 
 -- the range's answer, over the arguments themselves
-answered : (c : tie.After-checked-range) → c .checked-range .result ≡ rangeOf (c .before .before .args .sizes .now) (c .before .before .args .strides .now) (c .before .before .args .base) (c .before .before .args .start) (c .before .before .args .end) (c .before .before .args .length)
+answered : (c : tie.After-checked-range) → let s = c .before .before in
+    c .checked-range .result ≡ rangeOf (s .args .sizes .now) (s .args .strides .now) (s .args .base) (s .args .start) (s .args .end) (s .args .length)
 answered c = simp (toZ-ofZ (c .before .before .fits .base)) at (c .checked-range .ensures)
 
-code-of : (c : tie.After-checked-range) → c .checked-range .result .code ≡ rangeCode (c .before .before .args .sizes .now) (c .before .before .args .strides .now) (c .before .before .args .base) (c .before .before .args .start) (c .before .before .args .end) (c .before .before .args .length)
+code-of : (c : tie.After-checked-range) → let s = c .before .before in
+    c .checked-range .result .code ≡ rangeCode (s .args .sizes .now) (s .args .strides .now) (s .args .base) (s .args .start) (s .args .end) (s .args .length)
 unfolding rangeOf
 code-of c = ap (λ (r : Compiled). r .code) (answered c)
 
-accepted-range : (c : tie.Else1) → Ranged (c .before .before .before .before .args .sizes .now) (c .before .before .before .before .args .strides .now) (c .before .before .before .before .args .base) (c .before .before .before .before .args .start) (c .before .before .before .before .args .end) (c .before .before .before .before .args .length)
+accepted-range : (c : tie.Else1) → let s = c .before .before .before .before in
+    Ranged (s .args .sizes .now) (s .args .strides .now) (s .args .base) (s .args .start) (s .args .end) (s .args .length)
 accepted-range c = ranged _ _ _ _ _ _ (sym (code-of (c .before .before)) ∙ c .if1 .left)
 
 -- the layout of an accepted range
-layout-of : (c : tie.Else1) → c .before .before .checked-range .result .traversal ≡ (compileOf (c .before .before .before .before .args .sizes .now) (c .before .before .before .before .args .strides .now)) .traversal
+layout-of : (c : tie.Else1) → let s = c .before .before .before .before in
+    c .before .before .checked-range .result .traversal ≡ (compileOf (s .args .sizes .now) (s .args .strides .now)) .traversal
 unfolding rangeOf layoutBeside
 layout-of c =
     let m = c .before .before in
@@ -52,9 +56,15 @@ returns : tie.Need-returns
 returns c =
     let m = c .before .before in
     let s = m .before .before in
-    let n : rangeCode (s .args .sizes .now) (s .args .strides .now) (s .args .base) (s .args .start) (s .args .end) (s .args .length) ≡ 0 → ⊥ = λ e. c .if1 .taken (code-of m ∙ e) in
-    let k = list-refused (s .args .sizes .now) (s .args .strides .now) (s .args .base) (s .args .start) (s .args .end) (s .args .length) (length (s .args .out .now)) n in
-    (code-of m ∙ sym k, buffer-kept (s .args .sizes .now) (s .args .strides .now) (s .args .base) (s .args .start) (s .args .end) (s .args .length) (s .args .out .now) (λ e. n (sym k ∙ e)))
+    let n : rangeCode (s .args .sizes .now) (s .args .strides .now) (s .args .base) (s .args .start) (s .args .end) (s .args .length) ≡ 0 → ⊥ = λ e.
+    c .if1 .taken
+    (code-of m ∙ e) in
+    let k = list-refused (s .args .sizes .now) (s .args .strides .now) (s .args .base) (s .args .start) (s .args .end) (s .args .length)
+    (length (s .args .out .now)) n in (
+      code-of m ∙ sym k,
+      buffer-kept (s .args .sizes .now) (s .args .strides .now) (s .args .base) (s .args .start) (s .args .end) (s .args .length) (s .args .out .now)
+          (λ e. n (sym k ∙ e)),
+    )
 
 sub-if2 : tie.Need-sub-if2
 sub-if2 c = omega (arith, accepted-range c .forward)
@@ -66,8 +76,12 @@ returns-2 : tie.Need-returns-2
 returns-2 c =
     let e = c .before in
     let s = e .before .before .before .before in
-    let k = list-8 (s .args .sizes .now) (s .args .strides .now) (s .args .base) (s .args .start) (s .args .end) (s .args .length) (accepted-range e) (length (s .args .out .now)) (c .if2 .taken) in
-    (sym k, buffer-kept (s .args .sizes .now) (s .args .strides .now) (s .args .base) (s .args .start) (s .args .end) (s .args .length) (s .args .out .now) (λ q. no (sym k ∙ q)))
+    let k = list-8 (s .args .sizes .now) (s .args .strides .now) (s .args .base) (s .args .start) (s .args .end) (s .args .length) (accepted-range e)
+    (length (s .args .out .now)) (c .if2 .taken) in (
+      sym k,
+      buffer-kept (s .args .sizes .now) (s .args .strides .now) (s .args .base) (s .args .start) (s .args .end) (s .args .length) (s .args .out .now)
+          (λ q. no (sym k ∙ q)),
+    )
 
 write-offsets-requires : tie.Need-write-offsets-requires
 write-offsets-requires c κs =
@@ -83,15 +97,20 @@ same-length : tie.Need-same-length
 same-length c = search needs
 
 -- what was written, over rule 2's axes
-wrote : (c : tie.After-write-offsets) → c .write-offsets .last .1 .1 .1 .1 .0 ≡ offsetsFrom (axesOf (c .before .before .before .before .before .before .before .before .args .sizes .now) (c .before .before .before .before .before .before .before .before .args .strides .now)) (c .before .before .before .before .before .before .before .before .args .base) (c .before .before .before .before .before .before .before .before .args .start) (c .before .before .before .before .before .before .before .before .args .end - c .before .before .before .before .before .before .before .before .args .start) ++ drop (c .before .before .before .before .before .before .before .before .args .end - c .before .before .before .before .before .before .before .before .args .start) (c .before .before .before .before .before .before .before .before .args .out .now)
+wrote : (c : tie.After-write-offsets) → let s = c .before .before .before .before .before .before .before .before in
+    c .write-offsets .last .1 .1 .1 .1 .0
+    ≡ offsetsFrom (axesOf (s .args .sizes .now) (s .args .strides .now)) (s .args .base) (s .args .start) (s .args .end - s .args .start)
+    ++ drop (s .args .end - s .args .start) (s .args .out .now)
 wrote c =
     let t = c .before .before .before in
     let e = t .before in
     let s = e .before .before .before .before in
     let a = ranged-accepted _ _ _ _ _ _ (accepted-range e) in
     simp (toZ-ofZ (s .fits .base)) at (c .write-offsets .ensures)
-    ∙ ap (λ (l : FullTraversal). offsetsFrom (runOf l ∷ outerOf l) (s .args .base) (s .args .start) (s .args .end - s .args .start) ++ drop (s .args .end - s .args .start) (s .args .out .now)) (layout-of e)
-    ∙ ap (λ (o : List ℤ). o ++ drop (s .args .end - s .args .start) (s .args .out .now)) (offsets-same _ _ (s .args .base) (a .same) (s .args .end - s .args .start) (s .args .start))
+    ∙ ap (λ (l : FullTraversal). offsetsFrom (runOf l ∷ outerOf l) (s .args .base) (s .args .start) (s .args .end - s .args .start)
+    ++ drop (s .args .end - s .args .start) (s .args .out .now)) (layout-of e)
+    ∙ ap (λ (o : List ℤ). o ++ drop (s .args .end - s .args .start) (s .args .out .now))
+    (offsets-same _ _ (s .args .base) (a .same) (s .args .end - s .args .start) (s .args .start))
 
 returns-3 : tie.Need-returns-3
 returns-3 c =
@@ -99,8 +118,12 @@ returns-3 c =
     let e = t .before in
     let s = e .before .before .before .before in
     let r = accepted-range e in
-    let k = list-0 (s .args .sizes .now) (s .args .strides .now) (s .args .base) (s .args .start) (s .args .end) (s .args .length) r (length (s .args .out .now)) (t .if2 .left) in
-    (sym k, wrote (c .before) ∙ buffer-filled (s .args .sizes .now) (s .args .strides .now) (s .args .base) (s .args .start) (s .args .end) (s .args .length) (s .args .out .now) k)
+    let k = list-0 (s .args .sizes .now) (s .args .strides .now) (s .args .base) (s .args .start) (s .args .end) (s .args .length) r
+    (length (s .args .out .now)) (t .if2 .left) in (
+      sym k,
+      wrote (c .before)
+          ∙ buffer-filled (s .args .sizes .now) (s .args .strides .now) (s .args .base) (s .args .start) (s .args .end) (s .args .length) (s .args .out .now) k,
+    )
 
 pub offset-list-spec : {M : Type 1} → statement M
 offset-list-spec =

@@ -33,7 +33,8 @@ loop-holds c =
     listing-none (s .args .l) _ (s .args .start) (s .args .end) (s .args .out .now) (c .begin .result) (s .pre .2) (c .begin .ensures)
 
 -- the invariant, over the base itself
-listing : (c : tie.At-loop Inv-loop μ-loop) → Listing (c .before .before .before .args .l) (c .before .before .before .args .base) (c .before .before .before .args .start) (c .before .before .before .args .end) (c .before .before .before .args .out .now) (c .loop .out) (c .loop .c)
+listing : (c : tie.At-loop Inv-loop μ-loop) → let s = c .before .before .before in
+    Listing (s .args .l) (s .args .base) (s .args .start) (s .args .end) (s .args .out .now) (c .loop .out) (c .loop .c)
 listing c = let s = c .before .before .before in simp (toZ-ofZ (s .fits .base)) at (c .loop .inv)
 
 next-piece-requires : tie.Need-next-piece-requires Inv-loop μ-loop
@@ -42,22 +43,28 @@ next-piece-requires c κs =
     (s .pre .0, c .if1 .taken, record { base = s .args .base; bounded = s .pre .1; cursor-is = listing (c .before .before) .cursor-is (c .if1 .taken) })
 
 sub-write-run : tie.Need-sub-write-run Inv-loop μ-loop
-sub-write-run c = listing (c .before .before .before .before .before) .from
+sub-write-run c =
+    let t = c .before .before .before .before .before in
+    listing t .from
 
 stride-fits : (c : tie.After-struct-told Inv-loop μ-loop) → SFits w64 (c .before .args .l .«run_stride»)
 stride-fits c = record { sfits = c .struct-told .given .1 .1 .0 .1 }
 
-taken : (c : tie.After-next-piece Inv-loop μ-loop) → ListTaken (c .before .before .before .before .before .before .args .l) (c .before .before .before .before .before .before .args .base) (c .before .before .before .before .before .before .args .start) (c .before .before .before .before .before .before .args .end) (c .before .before .before .before .before .before .args .out .now) (c .before .before .before .loop .out) (c .before .before .before .loop .c) (c .next-piece .result)
+taken : (c : tie.After-next-piece Inv-loop μ-loop) → let s = c .before .before .before .before .before .before in
+    ListTaken (s .args .l) (s .args .base) (s .args .start) (s .args .end) (s .args .out .now) (c .before .before .before .loop .out)
+    (c .before .before .before .loop .c) (c .next-piece .result)
 taken c =
     let k = c .before .before .before in
     let s = k .before .before .before in
-    listing-taken (s .args .l) (s .pre .0) (s .args .base) (s .pre .1) (s .args .start) (s .args .end) (s .args .out .now) (k .loop .out) (k .loop .c) (s .pre .4) (listing k) (c .before .if1 .taken) (c .next-piece .result) (c .next-piece .ensures)
+    listing-taken (s .args .l) (s .pre .0) (s .args .base) (s .pre .1) (s .args .start) (s .args .end) (s .args .out .now) (k .loop .out) (k .loop .c)
+    (s .pre .4) (listing k) (c .before .if1 .taken) (c .next-piece .result) (c .next-piece .ensures)
 
 write-run-requires : tie.Need-write-run-requires Inv-loop μ-loop
 write-run-requires c κs =
     let n = c .before .before .before in
+    let k = n .before .before .before .before .before in
     let p = taken n in
-    simp (toZ-ofZ (stride-fits (n .before .before .before .before .before)), toZ-ofZ (p .first-fits)) (p .some-len, p .enough, p .offsets-fit)
+    simp (toZ-ofZ (stride-fits k), toZ-ofZ (p .first-fits)) (p .some-len, p .enough, p .offsets-fit)
 
 loop-less : tie.Need-loop-less Inv-loop μ-loop
 loop-less c =
@@ -69,8 +76,9 @@ loop-again : tie.Need-loop-again Inv-loop μ-loop
 loop-again c =
     let n = c .before .before .before .before .before .before in
     let p = taken n in
-    let s = n .before .before .before .before .before .before in
-    let wrote = simp (toZ-ofZ (stride-fits (n .before .before .before .before .before)), toZ-ofZ (p .first-fits)) at (c .before .before .write-run .ensures) in
+    let k = n .before .before .before .before .before in
+    let s = k .before in
+    let wrote = simp (toZ-ofZ (stride-fits k), toZ-ofZ (p .first-fits)) at (c .before .before .write-run .ensures) in
     simp (toZ-ofZ (s .fits .base)) (p .more (c .before .before .write-run .last .0) wrote)
 
 same-length : tie.Need-same-length Inv-loop μ-loop

@@ -1,7 +1,7 @@
 -- `offsets::list::write_run` meets its contract. The loop's invariant: i numbers are written, and the offset is the last of them.
 -- Assumes nothing.
-use Prim.Native.Nat.{ℕ, _+_, _-_, _≤_, _<_}
-use mathlib.Core.Path.{_≡_, refl, sym, _∙_, ap, subst}
+use Prim.Native.Nat.{ℕ, _+_, _-_, _≤_}
+use mathlib.Core.Path.{_≡_, _∙_, ap, subst}
 use native.Mathlib.Omega.{arith}
 use mathlib.Core.List.{List}
 use lib.ListN.{length, set, length-set}
@@ -9,7 +9,7 @@ use lib.IntN.{ℤ, pos, _+ℤ_, _*ℤ_}
 use mir.Val.{toZ, ofZ, SFits}
 use mir.Facts.{toZ-ofZ}
 use mir.Syntax.{w64}
-use Rattle.integers.proofs.Difference.{ints, atoms}
+use Rattle.integers.proofs.Places.{place-first, place-next}
 use Rattle.offsets.proofs.Writing.{filled, filled-more, filled-first, filled-over, length-filled}
 use Rattle.offsets.proofs.list.write_run.Statement.{statement}
 use Rattle.offsets.proofs.list.write_run.Tie as tie
@@ -30,19 +30,14 @@ slice-set-from-first : tie.Need-slice-set-from-first Inv-loop μ-loop
 slice-set-from-first c = omega arith
 
 -- the next number
-none : (z s : ℤ) → z ≡ z +ℤ s *ℤ pos 0
-none z s = simp ints (simp atoms (omega arith))
-
 step : (z s : ℤ) (i : ℕ) → 1 ≤ i → (z +ℤ s *ℤ pos (i - 1)) +ℤ s ≡ z +ℤ s *ℤ pos i
-step z s i h = subst (λ (n : ℕ). (z +ℤ s *ℤ pos (i - 1)) +ℤ s ≡ z +ℤ s *ℤ pos n) e (ring z s (i - 1))
+step z s i h = subst (λ (n : ℕ). (z +ℤ s *ℤ pos (i - 1)) +ℤ s ≡ z +ℤ s *ℤ pos n) e (place-next z s (i - 1))
   where
     e : i - 1 + 1 ≡ i
     e = omega arith
 
-    ring : (z s : ℤ) (n : ℕ) → (z +ℤ s *ℤ pos n) +ℤ s ≡ z +ℤ s *ℤ pos (n + 1)
-    ring z s n = simp ints (simp atoms (omega arith))
-
-next : (c : tie.In-loop Inv-loop μ-loop) → toZ w64 (c .before .loop .offset) +ℤ c .before .before .args .stride ≡ c .before .before .args .first +ℤ c .before .before .args .stride *ℤ pos (c .before .loop .i)
+next : (c : tie.In-loop Inv-loop μ-loop) → let s = c .before .before in
+    toZ w64 (c .before .loop .offset) +ℤ s .args .stride ≡ s .args .first +ℤ s .args .stride *ℤ pos (c .before .loop .i)
 next c =
     let s = c .before .before in
     ap (λ (z : ℤ). z +ℤ s .args .stride) (simp (toZ-ofZ (s .fits .first), toZ-ofZ (s .fits .stride)) at (c .before .loop .inv .2))
@@ -53,7 +48,9 @@ next-fits c = rw (next c) (c .before .before .pre .2 (c .before .loop .i) (c .lo
 
 -- the buffer's length stays
 long : (s : tie.Start Inv-loop μ-loop) (i : ℕ) → i ≤ s .args .count
-    → length (filled (set (s .args .out .now) (s .args .at) (toZ w64 (ofZ w64 (s .args .first)))) (s .args .at) (toZ w64 (ofZ w64 (s .args .first))) (toZ w64 (ofZ w64 (s .args .stride))) i) ≡ length (s .args .out .now)
+    → length (filled (set (s .args .out .now) (s .args .at) (toZ w64 (ofZ w64 (s .args .first)))) (s .args .at) (toZ w64 (ofZ w64 (s .args .first)))
+    (toZ w64 (ofZ w64 (s .args .stride))) i)
+    ≡ length (s .args .out .now)
 long s i h =
     let e = length-set (s .args .out .now) (s .args .at) (toZ w64 (ofZ w64 (s .args .first))) in
     length-filled (set (s .args .out .now) (s .args .at) (toZ w64 (ofZ w64 (s .args .first)))) (s .args .at) _ _ i (omega (arith, s .pre .1)) ∙ e
@@ -62,7 +59,12 @@ loop-holds : tie.Need-loop-holds Inv-loop μ-loop
 loop-holds c =
     let f = c .fits .first in
     let g = c .fits .stride in
-    simp (toZ-ofZ f, toZ-ofZ g) (omega arith, c .pre .0, none (c .args .first) (c .args .stride), filled-first (c .args .out .now) (c .args .at) (c .args .first) (c .args .stride) (omega (arith, c .pre .1, c .pre .0)))
+    simp (toZ-ofZ f, toZ-ofZ g) (
+      omega arith,
+      c .pre .0,
+      place-first (c .args .first) (c .args .stride),
+      filled-first (c .args .out .now) (c .args .at) (c .args .first) (c .args .stride) (omega (arith, c .pre .1, c .pre .0)),
+    )
 
 add-offset : tie.Need-add-offset Inv-loop μ-loop
 add-offset c = simp (toZ-ofZ (c .before .before .fits .stride)) (next-fits c)

@@ -23,14 +23,19 @@ decode-requires : tie.Need-decode-requires
 unfolding outerOf
 decode-requires c κs =
     let s = c .before in
-    simp (toZ-ofZ (s .fits .base))
-    (s .pre .0 .places, s .pre .0 .few, outer-axes (s .args .l) (s .pre .0) (s .args .base) (s .pre .1) (s .args .start), outer-bounded (s .args .l) (s .pre .0) (s .args .base) (s .pre .1) (s .args .start))
+    simp (toZ-ofZ (s .fits .base)) (
+      s .pre .0 .places,
+      s .pre .0 .few,
+      outer-axes (s .args .l) (s .pre .0) (s .args .base) (s .pre .1) (s .args .start),
+      outer-bounded (s .args .l) (s .pre .0) (s .args .base) (s .pre .1) (s .args .start),
+    )
 
 returns : tie.Need-returns
 unfolding rangeAt outerOf
 returns c =
     let s = c .before .before in
-    ap (λ (r : ReduceOuterCursor). record { at = s .args .start; col = s .args .start % s .args .l .«run_len»; runs = r }) (simp (toZ-ofZ (s .fits .base)) at (c .decode .ensures))
+    ap (λ (r : ReduceOuterCursor). record { at = s .args .start; col = s .args .start % s .args .l .«run_len»; runs = r })
+    (simp (toZ-ofZ (s .fits .base)) at (c .decode .ensures))
 
 pub begin-spec : {M : Type 1} → statement M
 begin-spec = tie.close (tie.spec rem-t7 div-decode decode-requires returns)

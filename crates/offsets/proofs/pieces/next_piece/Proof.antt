@@ -37,28 +37,40 @@ min-u64-requires c κs = search needs
 cast-first : tie.Need-cast-first
 cast-first c = let s = c .before .before .before in pos-fits _ (on-column-small (s .args .l) (s .pre .0) (s .args .c) (s .pre .2))
 
-stride-fits : (c : tie.After-struct-told) → SFits w64 (c .before .before .before .before .before .args .l .«run_stride»)
+stride-fits : (c : tie.After-struct-told) → let s = c .before .before .before .before .before in
+    SFits w64 (s .args .l .«run_stride»)
 stride-fits c = record { sfits = c .struct-told .given .1 .1 .0 .1 }
 
 mul-first : tie.Need-mul-first
 mul-first c =
     let s = c .before .before .before .before .before in
     simp (toZ-ofZ (stride-fits c), toZ-small _ (on-column-small (s .args .l) (s .pre .0) (s .args .c) (s .pre .2)))
-    (share-fits (s .args .c .runs .«source_offset») _ (on-run (s .args .l) (s .pre .0) (s .args .c) (s .pre .2)) (on-first (s .args .l) (s .pre .0) (s .args .c) (s .pre .2)))
+    (share-fits (s .args .c .runs .«source_offset») _ (on-run (s .args .l) (s .pre .0) (s .args .c) (s .pre .2))
+    (on-first (s .args .l) (s .pre .0) (s .args .c) (s .pre .2)))
 
 -- the sum as the machine forms it is the piece's first offset
-first-fits : (c : tie.After-struct-told2) → SFits w64 (c .before .before .before .before .before .before .before .args .c .runs .«source_offset» +ℤ c .before .before .before .before .before .before .before .args .l .«run_stride» *ℤ pos (c .before .before .before .before .before .before .before .args .c .col))
+first-fits : (c : tie.After-struct-told2) → let s = c .before .before .before .before .before .before .before in
+    SFits w64 (s .args .c .runs .«source_offset» +ℤ s .args .l .«run_stride» *ℤ pos (s .args .c .col))
 first-fits c = let s = c .before .before .before .before .before .before .before in small-fits _ (on-first (s .args .l) (s .pre .0) (s .args .c) (s .pre .2))
 
-first-is : (c : tie.After-struct-told2) → toZ w64 (ofZ w64 (c .before .before .before .before .before .before .before .args .c .runs .«source_offset»)) +ℤ toZ w64 (ofZ w64 (toZ w64 (ofZ w64 (c .before .before .before .before .before .before .before .args .l .«run_stride»)) *ℤ toZ w64 (c .before .before .before .before .before .before .before .args .c .col)))
-    ≡ c .before .before .before .before .before .before .before .args .c .runs .«source_offset» +ℤ c .before .before .before .before .before .before .before .args .l .«run_stride» *ℤ pos (c .before .before .before .before .before .before .before .args .c .col)
+first-is : (c : tie.After-struct-told2) → let s = c .before .before .before .before .before .before .before in
+    toZ w64 (ofZ w64 (s .args .c .runs .«source_offset»)) +ℤ toZ w64 (ofZ w64 (toZ w64 (ofZ w64 (s .args .l .«run_stride»)) *ℤ toZ w64 (s .args .c .col)))
+    ≡ s .args .c .runs .«source_offset» +ℤ s .args .l .«run_stride» *ℤ pos (s .args .c .col)
 first-is c =
     let s = c .before .before .before .before .before .before .before in
     let here = on-run (s .args .l) (s .pre .0) (s .args .c) (s .pre .2) in
-    simp (toZ-ofZ (stride-fits (c .before .before)), toZ-small _ (on-column-small (s .args .l) (s .pre .0) (s .args .c) (s .pre .2)), toZ-ofZ (small-fits _ here), toZ-ofZ (share-fits (s .args .c .runs .«source_offset») (s .args .l .«run_stride» *ℤ pos (s .args .c .col)) here (on-first (s .args .l) (s .pre .0) (s .args .c) (s .pre .2)))) refl
+    simp (
+      toZ-ofZ (stride-fits (c .before .before)),
+      toZ-small _ (on-column-small (s .args .l) (s .pre .0) (s .args .c) (s .pre .2)),
+      toZ-ofZ (small-fits _ here),
+      toZ-ofZ (share-fits (s .args .c .runs .«source_offset») (s .args .l .«run_stride» *ℤ pos (s .args .c .col)) here
+          (on-first (s .args .l) (s .pre .0) (s .args .c) (s .pre .2))),
+    ) refl
 
-first-told : (c : tie.After-struct-told2) → toZ w64 (ofZ w64 (toZ w64 (ofZ w64 (c .before .before .before .before .before .before .before .args .c .runs .«source_offset»)) +ℤ toZ w64 (ofZ w64 (toZ w64 (ofZ w64 (c .before .before .before .before .before .before .before .args .l .«run_stride»)) *ℤ toZ w64 (c .before .before .before .before .before .before .before .args .c .col)))))
-    ≡ c .before .before .before .before .before .before .before .args .c .runs .«source_offset» +ℤ c .before .before .before .before .before .before .before .args .l .«run_stride» *ℤ pos (c .before .before .before .before .before .before .before .args .c .col)
+first-told : (c : tie.After-struct-told2) → let s = c .before .before .before .before .before .before .before in
+    toZ w64 (ofZ w64
+    (toZ w64 (ofZ w64 (s .args .c .runs .«source_offset»)) +ℤ toZ w64 (ofZ w64 (toZ w64 (ofZ w64 (s .args .l .«run_stride»)) *ℤ toZ w64 (s .args .c .col)))))
+    ≡ s .args .c .runs .«source_offset» +ℤ s .args .l .«run_stride» *ℤ pos (s .args .c .col)
 first-told c = ap (λ (z : ℤ). toZ w64 (ofZ w64 z)) (first-is c) ∙ toZ-ofZ (first-fits c)
 
 add-first : tie.Need-add-first
@@ -81,9 +93,26 @@ returns c =
     let n = t .before .before .before .before .min-u64 .result in
     let e = t .before .before .before .before .min-u64 .ensures in
     ap (λ (z : ℤ). record { first = z; len = n; next = record { at = s .args .c .at + n; col = 0; runs = c .advance .result } }) (first-told t)
-    ∙ ap (λ (r : ReduceOuterCursor). record { first = s .args .c .runs .«source_offset» +ℤ s .args .l .«run_stride» *ℤ pos (s .args .c .col); len = n; next = record { at = s .args .c .at + n; col = 0; runs = r } }) (c .advance .ensures)
-    ∙ ap (λ (x : Bool). record { first = s .args .c .runs .«source_offset» +ℤ s .args .l .«run_stride» *ℤ pos (s .args .c .col); len = n; next = record { at = s .args .c .at + n; col = 0; runs = cond x (advanced (outerOf (s .args .l)) (s .args .c .runs)) (s .args .c .runs) } }) (sym (lt-ltb (s .args .c .at + n) (s .args .end) (c .before .before .if1 .taken)))
-    ∙ ap (λ (m : ℕ). record { first = s .args .c .runs .«source_offset» +ℤ s .args .l .«run_stride» *ℤ pos (s .args .c .col); len = m; next = record { at = s .args .c .at + m; col = 0; runs = cond (ltb (s .args .c .at + m) (s .args .end)) (advanced (outerOf (s .args .l)) (s .args .c .runs)) (s .args .c .runs) } }) e
+    ∙ ap (λ (r : ReduceOuterCursor). record {
+      first = s .args .c .runs .«source_offset» +ℤ s .args .l .«run_stride» *ℤ pos (s .args .c .col);
+      len = n;
+      next = record { at = s .args .c .at + n; col = 0; runs = r };
+    }) (c .advance .ensures)
+    ∙ ap (λ (x : Bool). record {
+      first = s .args .c .runs .«source_offset» +ℤ s .args .l .«run_stride» *ℤ pos (s .args .c .col);
+      len = n;
+      next = record { at = s .args .c .at + n; col = 0; runs = cond x (advanced (outerOf (s .args .l)) (s .args .c .runs)) (s .args .c .runs) };
+    })
+    (sym (lt-ltb (s .args .c .at + n) (s .args .end) (c .before .before .if1 .taken)))
+    ∙ ap (λ (m : ℕ). record {
+      first = s .args .c .runs .«source_offset» +ℤ s .args .l .«run_stride» *ℤ pos (s .args .c .col);
+      len = m;
+      next = record {
+        at = s .args .c .at + m;
+        col = 0;
+        runs = cond (ltb (s .args .c .at + m) (s .args .end)) (advanced (outerOf (s .args .l)) (s .args .c .runs)) (s .args .c .runs);
+      };
+    }) e
 
 returns-2 : tie.Need-returns-2
 unfolding pieceOf outerOf
@@ -93,8 +122,21 @@ returns-2 c =
     let n = t .before .before .before .before .min-u64 .result in
     let e = t .before .before .before .before .min-u64 .ensures in
     ap (λ (z : ℤ). record { first = z; len = n; next = record { at = s .args .c .at + n; col = 0; runs = s .args .c .runs } }) (first-told t)
-    ∙ ap (λ (x : Bool). record { first = s .args .c .runs .«source_offset» +ℤ s .args .l .«run_stride» *ℤ pos (s .args .c .col); len = n; next = record { at = s .args .c .at + n; col = 0; runs = cond x (advanced (outerOf (s .args .l)) (s .args .c .runs)) (s .args .c .runs) } }) (sym (le-ltb (s .args .c .at + n) (s .args .end) (c .if1 .left)))
-    ∙ ap (λ (m : ℕ). record { first = s .args .c .runs .«source_offset» +ℤ s .args .l .«run_stride» *ℤ pos (s .args .c .col); len = m; next = record { at = s .args .c .at + m; col = 0; runs = cond (ltb (s .args .c .at + m) (s .args .end)) (advanced (outerOf (s .args .l)) (s .args .c .runs)) (s .args .c .runs) } }) e
+    ∙ ap (λ (x : Bool). record {
+      first = s .args .c .runs .«source_offset» +ℤ s .args .l .«run_stride» *ℤ pos (s .args .c .col);
+      len = n;
+      next = record { at = s .args .c .at + n; col = 0; runs = cond x (advanced (outerOf (s .args .l)) (s .args .c .runs)) (s .args .c .runs) };
+    })
+    (sym (le-ltb (s .args .c .at + n) (s .args .end) (c .if1 .left)))
+    ∙ ap (λ (m : ℕ). record {
+      first = s .args .c .runs .«source_offset» +ℤ s .args .l .«run_stride» *ℤ pos (s .args .c .col);
+      len = m;
+      next = record {
+        at = s .args .c .at + m;
+        col = 0;
+        runs = cond (ltb (s .args .c .at + m) (s .args .end)) (advanced (outerOf (s .args .l)) (s .args .c .runs)) (s .args .c .runs);
+      };
+    }) e
 
 pub next-piece-spec : {M : Type 1} → statement M
 next-piece-spec =

@@ -14,7 +14,7 @@ use Rattle.accumulator.specs.Joining.{answerOf, refusal}
 use Rattle.kernels.specs.Pieces.{joinedPieces}
 use Rattle.offsets.specs.Lists.{rangeCode}
 use Rattle.offsets.specs.InnerLists.{rangeOf}
-use Rattle.offsets.proofs.Ranges.{Ranged, ranged, ranged-accepted, ranged-bounded, ranged-inside, ranged-few}
+use Rattle.offsets.proofs.Ranges.{ranged, ranged-accepted, ranged-bounded, ranged-inside, ranged-few}
 use Rattle.reduction.specs.Ranges.{piecesOf}
 use Rattle.reduction.proofs.Calls.{reduce-refused, reduce-accepted}
 use borrow.Author.Needs.{needs}
@@ -26,18 +26,24 @@ use Rattle.offsets.proofs.list.checked_range.Reads as checked-range-reads
 use Rattle.reduction.proofs.full.reduce_full_range.Reads as reduce-full-range-reads
 
 -- the range's answer, over the arguments themselves
-answered : (c : tie.After-checked-range) → c .checked-range .result ≡ rangeOf (c .before .before .before .args .sizes .now) (c .before .before .before .args .strides .now) (c .before .before .before .args .base) (c .before .before .before .args .start) (c .before .before .before .args .end) (length (c .before .before .before .args .values .now))
+answered : (c : tie.After-checked-range) → let s = c .before .before .before in
+    c .checked-range .result
+    ≡ rangeOf (s .args .sizes .now) (s .args .strides .now) (s .args .base) (s .args .start) (s .args .end) (length (s .args .values .now))
 answered c = simp (toZ-ofZ (c .before .before .before .fits .base)) at (c .checked-range .ensures)
 
-code-of : (c : tie.After-checked-range) → c .checked-range .result .code ≡ rangeCode (c .before .before .before .args .sizes .now) (c .before .before .before .args .strides .now) (c .before .before .before .args .base) (c .before .before .before .args .start) (c .before .before .before .args .end) (length (c .before .before .before .args .values .now))
+code-of : (c : tie.After-checked-range) → let s = c .before .before .before in
+    c .checked-range .result .code
+    ≡ rangeCode (s .args .sizes .now) (s .args .strides .now) (s .args .base) (s .args .start) (s .args .end) (length (s .args .values .now))
 unfolding rangeOf
 code-of c = ap (λ (r : Compiled). r .code) (answered c)
 
-accepted-range : (c : tie.Else1) → rangeCode (c .before .before .before .before .before .args .sizes .now) (c .before .before .before .before .before .args .strides .now) (c .before .before .before .before .before .args .base) (c .before .before .before .before .before .args .start) (c .before .before .before .before .before .args .end) (length (c .before .before .before .before .before .args .values .now)) ≡ 0
+accepted-range : (c : tie.Else1) → let s = c .before .before .before .before .before in
+    rangeCode (s .args .sizes .now) (s .args .strides .now) (s .args .base) (s .args .start) (s .args .end) (length (s .args .values .now)) ≡ 0
 accepted-range c = sym (code-of (c .before .before)) ∙ c .if1 .left
 
 -- the layout of an accepted range
-layout-of : (c : tie.Else1) → c .before .before .checked-range .result .traversal ≡ (compileOf (c .before .before .before .before .before .args .sizes .now) (c .before .before .before .before .before .args .strides .now)) .traversal
+layout-of : (c : tie.Else1) → let s = c .before .before .before .before .before in
+    c .before .before .checked-range .result .traversal ≡ (compileOf (s .args .sizes .now) (s .args .strides .now)) .traversal
 unfolding rangeOf layoutBeside
 layout-of c =
     let m = c .before .before in
@@ -53,7 +59,8 @@ returns c =
     let m = c .before .before in
     let s = m .before .before .before in
     ap refusal (code-of m)
-    ∙ sym (reduce-refused (s .args .sizes .now) (s .args .strides .now) (s .args .base) (s .args .start) (s .args .end) (s .args .values .now) (λ e. c .if1 .taken (code-of m ∙ e)))
+    ∙ sym (reduce-refused (s .args .sizes .now) (s .args .strides .now) (s .args .base) (s .args .start) (s .args .end) (s .args .values .now)
+    (λ e. c .if1 .taken (code-of m ∙ e)))
 
 reduce-full-range-requires : tie.Need-reduce-full-range-requires
 reduce-full-range-requires c κs =
@@ -70,7 +77,8 @@ returns-2 c =
     ap (λ (a : StableProductFloatAcc). answerOf (Acc a))
     (simp (toZ-ofZ (s .fits .base)) at (c .reduce-full-range .ensures)
     ∙ ap (λ (l : FullTraversal). joinedPieces (piecesOf l (s .args .base) (s .args .values .now) (s .args .start) (s .args .end))) (layout-of b))
-    ∙ sym (reduce-accepted (s .args .sizes .now) (s .args .strides .now) (s .args .base) (s .args .start) (s .args .end) (s .args .values .now) (accepted-range b))
+    ∙ sym
+    (reduce-accepted (s .args .sizes .now) (s .args .strides .now) (s .args .base) (s .args .start) (s .args .end) (s .args .values .now) (accepted-range b))
 
 pub reduce-spec : {M : Type 1} → statement M
 reduce-spec =

@@ -34,12 +34,15 @@ abbrev μ-loop : tie.MeasureT-loop
 abbrev from-told : tie.After-struct-told Inv-loop μ-loop → tie.Start Inv-loop μ-loop
 from-told c = c .before .before
 
+abbrev loop-told : tie.At-loop Inv-loop μ-loop → tie.After-struct-told Inv-loop μ-loop
+loop-told c = c .before .before .before .before .before .before
+
 abbrev from-loop : tie.At-loop Inv-loop μ-loop → tie.Start Inv-loop μ-loop
-from-loop c = from-told (c .before .before .before .before .before .before)
+from-loop c = from-told (loop-told c)
 
 -- the values are of binary64
 values-fit : (c : tie.At-loop Inv-loop μ-loop) → (i : ℕ) → T (fits binary64 (getD (from-loop c .args .values .now) i nan))
-values-fit c = c .before .before .before .before .before .before .before .shared-slice-known .given
+values-fit c = loop-told c .before .shared-slice-known .given
 
 begin-requires : tie.Need-begin-requires Inv-loop μ-loop
 begin-requires c κs = let s = from-told c in simp (toZ-ofZ (s .fits .base)) (s .pre .0, s .pre .1)
@@ -55,7 +58,8 @@ start-is : (c : tie.After-begin Inv-loop μ-loop) → c .begin .result .at ≡ f
 unfolding rangeAt
 start-is c = ap (λ (x : RangeCursor). x .at) (began c)
 
-cursor-is : (c : tie.After-begin Inv-loop μ-loop) → let s = from-told (c .before) in c .begin .result ≡ rangeAt (s .args .l) (s .args .base) (c .begin .result .at)
+cursor-is : (c : tie.After-begin Inv-loop μ-loop)
+    → let s = from-told (c .before) in c .begin .result ≡ rangeAt (s .args .l) (s .args .base) (c .begin .result .at)
 cursor-is c = let s = from-told (c .before) in began c ∙ ap (rangeAt (s .args .l) (s .args .base)) (sym (start-is c))
 
 before-end : (c : tie.After-begin Inv-loop μ-loop) → c .begin .result .at < from-told (c .before) .args .end
@@ -66,10 +70,13 @@ next-piece-requires c κs =
     let s = from-told (c .before) in
     (s .pre .0, before-end c, record { base = s .args .base; bounded = s .pre .1; cursor-is = cursor-is c })
 
-first-taken : (c : tie.After-next-piece Inv-loop μ-loop) → let s = from-told (c .before .before) in PieceTaken (s .args .l) (s .args .base) (s .args .values .now) (s .args .end) (c .before .begin .result) (c .next-piece .result)
+first-taken : (c : tie.After-next-piece Inv-loop μ-loop)
+    → let s = from-told (c .before .before) in
+    PieceTaken (s .args .l) (s .args .base) (s .args .values .now) (s .args .end) (c .before .begin .result) (c .next-piece .result)
 first-taken c =
     let s = from-told (c .before .before) in
-    taken (s .args .l) (s .pre .0) (s .args .base) (s .pre .1) (s .args .values .now) (s .pre .5) (s .args .end) (s .pre .3) (c .before .begin .result) (cursor-is (c .before)) (before-end (c .before)) (c .next-piece .result) (c .next-piece .ensures)
+    taken (s .args .l) (s .pre .0) (s .args .base) (s .pre .1) (s .args .values .now) (s .pre .5) (s .args .end) (s .pre .3) (c .before .begin .result)
+    (cursor-is (c .before)) (before-end (c .before)) (c .next-piece .result) (c .next-piece .ensures)
 
 first-fits : (c : tie.After-struct-told2 Inv-loop μ-loop) → SFits w64 (c .before .next-piece .result .first)
 first-fits c = record { sfits = c .struct-told2 .given .0 .1 }
@@ -87,14 +94,16 @@ loop-holds c =
     let s = from-told (n .before .before) in
     let w = simp (toZ-ofZ (first-fits (r .before)), toZ-ofZ (stride-fits (n .before .before))) at (r .reduce-piece .ensures) in
     simp (toZ-ofZ (s .fits .base))
-    (reducing-first (s .args .l) (s .args .base) (s .args .values .now) (s .args .start) (s .args .end) (n .before .begin .result) (n .next-piece .result) (first-taken n) (r .reduce-piece .result) w (n .before .before .before .shared-slice-known .given) (start-is (n .before)))
+    (reducing-first (s .args .l) (s .args .base) (s .args .values .now) (s .args .start) (s .args .end) (n .before .begin .result) (n .next-piece .result)
+    (first-taken n) (r .reduce-piece .result) w (n .before .before .before .shared-slice-known .given) (start-is (n .before)))
 
 -- the invariant, over the base itself
-reducing : (c : tie.At-loop Inv-loop μ-loop) → let s = from-loop c in Reducing (s .args .l) (s .args .base) (s .args .values .now) (s .args .start) (s .args .end) (c .loop .acc) (c .loop .c)
+reducing : (c : tie.At-loop Inv-loop μ-loop)
+    → let s = from-loop c in Reducing (s .args .l) (s .args .base) (s .args .values .now) (s .args .start) (s .args .end) (c .loop .acc) (c .loop .c)
 reducing c = let s = from-loop c in simp (toZ-ofZ (s .fits .base)) at (c .loop .inv)
 
 stride-kept : (c : tie.At-loop Inv-loop μ-loop) → SFits w64 (from-loop c .args .l .«run_stride»)
-stride-kept c = stride-fits (c .before .before .before .before .before .before)
+stride-kept c = stride-fits (loop-told c)
 
 on-range : (c : tie.Then1 Inv-loop μ-loop) → OnRange (from-loop (c .before .before) .args .l) (c .before .before .loop .c)
 on-range c =
@@ -111,12 +120,15 @@ next-piece-requires-2 c κs =
     let t = c .before .before in
     (from-loop (t .before .before) .pre .0, t .if1 .taken, on-range t)
 
-next-taken : (c : tie.After-next-piece2 Inv-loop μ-loop) → let k = c .before .before .before .before .before in let s = from-loop k in PieceTaken (s .args .l) (s .args .base) (s .args .values .now) (s .args .end) (k .loop .c) (c .next-piece2 .result)
+next-taken : (c : tie.After-next-piece2 Inv-loop μ-loop)
+    → let k = c .before .before .before .before .before in
+    let s = from-loop k in PieceTaken (s .args .l) (s .args .base) (s .args .values .now) (s .args .end) (k .loop .c) (c .next-piece2 .result)
 next-taken c =
     let t = c .before .before .before in
     let k = t .before .before in
     let s = from-loop k in
-    taken (s .args .l) (s .pre .0) (s .args .base) (s .pre .1) (s .args .values .now) (s .pre .5) (s .args .end) (s .pre .3) (k .loop .c) (reducing k .cursor-is (t .if1 .taken)) (t .if1 .taken) (c .next-piece2 .result) (c .next-piece2 .ensures)
+    taken (s .args .l) (s .pre .0) (s .args .base) (s .pre .1) (s .args .values .now) (s .pre .5) (s .args .end) (s .pre .3) (k .loop .c)
+    (reducing k .cursor-is (t .if1 .taken)) (t .if1 .taken) (c .next-piece2 .result) (c .next-piece2 .ensures)
 
 next-fits : (c : tie.After-struct-told3 Inv-loop μ-loop) → SFits w64 (c .before .next-piece2 .result .first)
 next-fits c = record { sfits = c .struct-told3 .given .0 .1 }
@@ -129,7 +141,9 @@ reduce-piece-requires-2 c κs =
     simp (toZ-ofZ (next-fits c), toZ-ofZ (stride-kept k)) (p .some-len, p .inside, omega (arith, p .ends, s .pre .3, s .pre .4))
 
 -- what the next piece gave
-next-worked : (c : tie.After-reduce-piece2 Inv-loop μ-loop) → let p = c .before .before .next-piece2 .result in let s = from-loop (c .before .before .before .before .before .before .before) in
+next-worked : (c : tie.After-reduce-piece2 Inv-loop μ-loop) → let t = c .before .before .before .before .before .before .before in
+    let p = c .before .before .next-piece2 .result in
+    let s = from-loop t in
     c .reduce-piece2 .result ≡ worked (eqZ (s .args .l .«run_stride») (pos 1)) (strided (s .args .values .now) (p .first) (s .args .l .«run_stride») (p .len))
 next-worked c =
     let k = c .before .before .before .before .before .before .before in
@@ -142,7 +156,7 @@ stable-float-combine-requires c κs =
     let s = from-loop k in
     let p = next-taken n in
     let r = reducing k in
-    let m = near _ _ _ (s .args .start) (s .args .end) _ _ p (c .reduce-piece2 .result) (next-worked c) in
+    let m = near _ _ _ (s .args .start) (s .args .end) _ _ p (c .reduce-piece2 .result) (next-worked c) (values-fit k) in
     (omega (arith, r .small, r .upto, m, p .ends, s .pre .3, s .pre .4), omega (arith, r .small, r .upto, m, p .ends, s .pre .3, s .pre .4))
 
 loop-less : tie.Need-loop-less Inv-loop μ-loop
@@ -158,7 +172,9 @@ loop-again c =
     let k = n .before .before .before .before .before in
     let s = from-loop k in
     simp (toZ-ofZ (s .fits .base))
-    (reducing-more (s .args .l) (s .args .base) (s .args .values .now) (s .args .start) (s .args .end) (k .loop .c) (n .next-piece2 .result) (next-taken n) (w .reduce-piece2 .result) (next-worked w) (values-fit k) (k .loop .acc) (reducing k) (c .before .stable-float-combine .result) (c .before .stable-float-combine .ensures))
+    (reducing-more (s .args .l) (s .args .base) (s .args .values .now) (s .args .start) (s .args .end) (k .loop .c) (n .next-piece2 .result) (next-taken n)
+    (w .reduce-piece2 .result) (next-worked w) (values-fit k) (k .loop .acc) (reducing k) (c .before .stable-float-combine .result)
+    (c .before .stable-float-combine .ensures))
 
 -- ---- a strip
 abbrev strip-loop : tie.Else2 Inv-loop μ-loop → tie.At-loop Inv-loop μ-loop
@@ -166,10 +182,12 @@ strip-loop c = c .before .before .before .before
 
 -- what lies ahead of the cursor
 ahead : (c : tie.Else2 Inv-loop μ-loop) → let k = strip-loop c in let l = from-loop k .args .l in let n = c .before .whole-runs .result in
-    (0 < l .«axis_count») × (k .loop .c .at % l .«run_len» ≡ 0) × (k .loop .c .at / l .«run_len» % firstAxis l .extent + n ≤ firstAxis l .extent) × (k .loop .c .at + n * l .«run_len» ≤ from-loop k .args .end)
+    (0 < l .«axis_count») × (k .loop .c .at % l .«run_len» ≡ 0) × (k .loop .c .at / l .«run_len» % firstAxis l .extent + n ≤ firstAxis l .extent)
+    × (k .loop .c .at + n * l .«run_len» ≤ from-loop k .args .end)
 ahead c = c .before .whole-runs .ensures (omega (arith, c .if2 .left))
 
-strip-cursor-is : (c : tie.Else2 Inv-loop μ-loop) → let k = strip-loop c in let s = from-loop k in k .loop .c ≡ rangeAt (s .args .l) (s .args .base) (k .loop .c .at)
+strip-cursor-is : (c : tie.Else2 Inv-loop μ-loop)
+    → let k = strip-loop c in let s = from-loop k in k .loop .c ≡ rangeAt (s .args .l) (s .args .base) (k .loop .c .at)
 strip-cursor-is c = reducing (strip-loop c) .cursor-is (c .before .before .if1 .taken)
 
 at-fits : (c : tie.Else2 Inv-loop μ-loop) → SFits w64 (strip-loop c .loop .c .runs .«source_offset»)
@@ -178,7 +196,8 @@ at-fits c =
     let s = from-loop k in
     small-fits _ (on-run (s .args .l) (s .pre .0) (k .loop .c) (on-range (c .before .before)))
 
-step-fits : (c : tie.After-struct-told5 Inv-loop μ-loop) → SFits w64 (firstAxis (from-loop (strip-loop (c .before .before .before .before)) .args .l) .«source_step»)
+step-fits : (c : tie.After-struct-told5 Inv-loop μ-loop)
+    → SFits w64 (firstAxis (from-loop (strip-loop (c .before .before .before .before)) .args .l) .«source_step»)
 step-fits c = record { sfits = c .struct-told5 .given .1 .0 .1 }
 
 array-copy-out-outer : tie.Need-array-copy-out-outer Inv-loop μ-loop
@@ -200,7 +219,8 @@ reduce-strip-requires c κs =
       omega (arith, m, a .3, s .pre .3, s .pre .4),
       omega (arith, a .3, s .pre .3, s .pre .4),
       omega (arith, r .small, r .upto, s .pre .3, s .pre .4),
-      runs-inside (s .args .l) (s .pre .0) (s .args .base) (s .pre .1) (s .args .values .now) (s .pre .5) (s .args .end) (s .pre .3) (k .loop .c) (strip-cursor-is e) n (a .0) (a .1) (a .2) (a .3),
+      runs-inside (s .args .l) (s .pre .0) (s .args .base) (s .pre .1) (s .args .values .now) (s .pre .5) (s .args .end) (s .pre .3) (k .loop .c)
+          (strip-cursor-is e) n (a .0) (a .1) (a .2) (a .3),
       r .sound,
     )
 
@@ -217,18 +237,28 @@ add-begin c =
     omega (arith, ahead e .3, s .pre .3, s .pre .4)
 
 begin-requires-2 : tie.Need-begin-requires-2 Inv-loop μ-loop
-begin-requires-2 c κs = let s = from-loop (strip-loop (c .before .before .before .before .before .before)) in simp (toZ-ofZ (s .fits .base)) (s .pre .0, s .pre .1)
+begin-requires-2 c κs =
+    let t = c .before .before .before .before .before .before in
+    let s = from-loop (strip-loop t) in simp (toZ-ofZ (s .fits .base)) (s .pre .0, s .pre .1)
 
 -- the strip's product, and the cursor behind it
 strip-is : (c : tie.After-reduce-strip Inv-loop μ-loop) → let e = c .before .before .before .before .before in let k = strip-loop e in let s = from-loop k in
-    c .reduce-strip .result ≡ strip (s .args .values .now) (firstAxis (s .args .l) .«source_step») (s .args .l .«run_stride») (s .args .l .«run_len») (e .before .whole-runs .result) (k .loop .c .runs .«source_offset») (k .loop .acc)
-strip-is c = simp (toZ-ofZ (at-fits (c .before .before .before .before .before)), toZ-ofZ (step-fits (c .before)), toZ-ofZ (stride-kept (strip-loop (c .before .before .before .before .before)))) at (c .reduce-strip .ensures)
+    c .reduce-strip .result
+    ≡ strip (s .args .values .now) (firstAxis (s .args .l) .«source_step») (s .args .l .«run_stride») (s .args .l .«run_len») (e .before .whole-runs .result)
+    (k .loop .c .runs .«source_offset») (k .loop .acc)
+strip-is c =
+    let t = c .before .before .before .before .before in
+    simp (toZ-ofZ (at-fits t), toZ-ofZ (step-fits (c .before)), toZ-ofZ (stride-kept (strip-loop t))) at (c .reduce-strip .ensures)
 
-behind : (c : tie.After-begin2 Inv-loop μ-loop) → let e = c .before .before .before .before .before .before .before in let k = strip-loop e in let s = from-loop k in
+behind : (c : tie.After-begin2 Inv-loop μ-loop)
+    → let e = c .before .before .before .before .before .before .before in let k = strip-loop e in let s = from-loop k in
     c .begin2 .result ≡ rangeAt (s .args .l) (s .args .base) (k .loop .c .at + e .before .whole-runs .result * s .args .l .«run_len»)
-behind c = let s = from-loop (strip-loop (c .before .before .before .before .before .before .before)) in simp (toZ-ofZ (s .fits .base)) at (c .begin2 .ensures)
+behind c =
+    let t = c .before .before .before .before .before .before .before in
+    let s = from-loop (strip-loop t) in simp (toZ-ofZ (s .fits .base)) at (c .begin2 .ensures)
 
-behind-at : (c : tie.After-begin2 Inv-loop μ-loop) → let e = c .before .before .before .before .before .before .before in let k = strip-loop e in let s = from-loop k in
+behind-at : (c : tie.After-begin2 Inv-loop μ-loop)
+    → let e = c .before .before .before .before .before .before .before in let k = strip-loop e in let s = from-loop k in
     c .begin2 .result .at ≡ k .loop .c .at + e .before .whole-runs .result * s .args .l .«run_len»
 unfolding rangeAt
 behind-at c = ap (λ (x : RangeCursor). x .at) (behind c)
@@ -252,7 +282,9 @@ loop-again-2 c =
     let s = from-loop k in
     let a = ahead e in
     simp (toZ-ofZ (s .fits .base))
-    (reducing-strip (s .args .l) (s .pre .0) (s .args .base) (s .pre .1) (s .args .values .now) (s .pre .5) (s .args .end) (s .pre .3) (k .loop .c) (strip-cursor-is e) (e .before .whole-runs .result) (a .0) (a .1) (a .2) (a .3) (values-fit k) (s .args .start) (k .loop .acc) (reducing k) (r .reduce-strip .result) (strip-is r) (c .begin2 .result) (behind c))
+    (reducing-strip (s .args .l) (s .pre .0) (s .args .base) (s .pre .1) (s .args .values .now) (s .pre .5) (s .args .end) (s .pre .3) (k .loop .c)
+    (strip-cursor-is e) (e .before .whole-runs .result) (a .0) (a .1) (a .2) (a .3) (values-fit k) (s .args .start) (k .loop .acc) (reducing k)
+    (r .reduce-strip .result) (strip-is r) (c .begin2 .result) (behind c))
 
 returns : tie.Need-returns Inv-loop μ-loop
 returns c =

@@ -32,7 +32,8 @@ inside c =
     let s = c .before .before in
     subst (λ (z : ℤ). PlacesInside (length (s .args .values .now)) (s .args .first) z (s .args .len)) (one c) (s .pre .1)
 
-ends : (c : tie.Then1) → natAbs (toZ w64 (ofZ w64 (c .before .before .args .first))) + c .before .before .args .len ≤ length (c .before .before .args .values .now)
+ends : (c : tie.Then1) → let s = c .before .before in
+    natAbs (toZ w64 (ofZ w64 (s .args .first))) + s .args .len ≤ length (s .args .values .now)
 ends c =
     let s = c .before .before in
     at-last _ _ (s .args .first) (s .args .len) (inside c) (s .pre .0) (sym (ap natAbs (toZ-ofZ (s .fits .first))))
@@ -69,7 +70,8 @@ returns c =
     c .stable-float-contiguous .ensures
     ∙ ap (λ (n : ℕ). contiguous (take n (drop at (s .args .values .now)))) (count at (s .args .len))
     ∙ ap contiguous (strided-window (s .args .values .now) at (s .args .len) (ends t))
-    ∙ ap (λ (z : ℤ). contiguous (strided (s .args .values .now) z (pos 1) (s .args .len))) (sym (at-first _ at (s .args .first) (s .args .len) (inside t) (s .pre .0) (sym (ap natAbs (toZ-ofZ (s .fits .first))))))
+    ∙ ap (λ (z : ℤ). contiguous (strided (s .args .values .now) z (pos 1) (s .args .len)))
+    (sym (at-first _ at (s .args .first) (s .args .len) (inside t) (s .pre .0) (sym (ap natAbs (toZ-ofZ (s .fits .first))))))
     ∙ ap (λ (z : ℤ). worked (eqZ z (pos 1)) (strided (s .args .values .now) (s .args .first) z (s .args .len))) (sym (one t))
   where
     count : (a n : ℕ) → a + n - a ≡ n
@@ -82,7 +84,8 @@ returns-2 : tie.Need-returns-2
 returns-2 c =
     let s = c .before .before .before in
     simp (toZ-ofZ (s .fits .first), toZ-ofZ (s .fits .stride)) at (c .lanes-strided .ensures)
-    ∙ ap (λ (b : Bool). worked b (strided (s .args .values .now) (s .args .first) (s .args .stride) (s .args .len))) (sym (ne-eqZ _ _ (λ q. c .before .if1 .left (ap (ofZ w64) q))))
+    ∙ ap (λ (b : Bool). worked b (strided (s .args .values .now) (s .args .first) (s .args .stride) (s .args .len)))
+    (sym (ne-eqZ _ _ (λ q. c .before .if1 .left (ap (ofZ w64) q))))
 
 pub reduce-piece-spec : {M : Type 1} → statement M
 reduce-piece-spec =

@@ -1,5 +1,5 @@
--- `reduction::full::reduce_strip` meets its contract. The loop's invariant: what is left of the strip joins to the whole, and its next run, if there is one, begins at `at`.
--- Assumes nothing.
+-- `reduction::full::reduce_strip` meets its contract. The loop's invariant: what is left of the strip joins to the whole, and its next run, if there is one,
+-- begins at `at`. Assumes nothing.
 use Prim.Native.Nat.{ℕ, _+_, _-_, _*_, _^_, _≤_, _<_}
 use mathlib.Core.Path.{_≡_, sym, _∙_, ap, subst}
 use native.Mathlib.Omega.{arith}
@@ -9,6 +9,7 @@ use lib.IntN.{ℤ, pos, natAbs, _+ℤ_, _*ℤ_}
 use mir.Val.{SFits, toZ, ofZ}
 use mir.Syntax.{w64}
 use mir.ValLaws.{toZ-ofZ}
+use Rattle.integers.proofs.Places.{place-first, place-next}
 use Rattle.accumulator.specs.declared.StableProductFloatAcc.{StableProductFloatAcc}
 use Rattle.accumulator.specs.Joining.{combined}
 use Rattle.integers.specs.Integers.{eqZ}
@@ -20,7 +21,7 @@ use Rattle.kernels.proofs.Bounded.{combined-sound, worked-sound}
 use Rattle.kernels.proofs.Striding.{strided-values}
 use Rattle.reduction.specs.InnerStrips.{strip}
 use Rattle.reduction.proofs.Pieces.{strided-near}
-use Rattle.reduction.proofs.Strips.{place-zero, place-next, place-fits, strip-first, strip-next}
+use Rattle.reduction.proofs.Strips.{place-inside-fits, strip-first, strip-next}
 use Rattle.reduction.proofs.full.reduce_strip.Statement.{statement}
 use Rattle.reduction.proofs.full.reduce_strip.Tie as tie
 
@@ -28,9 +29,10 @@ abbrev Inv-loop : tie.InvT-loop
 Inv-loop values first step stride len count a₀ at₀ j₀ a at j =
     (j ≤ count)
     × (j < count → toZ w64 at ≡ toZ w64 first +ℤ toZ w64 step *ℤ pos j)
-    × (natAbs (a .e) ≤ 2 ^ 60 + 1048576 * (j * len))
+    × (natAbs (a .e) ≤ 2 ^ 60 + 1034 * (j * len))
     × Sound a
-    × (strip values (toZ w64 step) (toZ w64 stride) len (count - j) (toZ w64 first +ℤ toZ w64 step *ℤ pos j) a ≡ strip values (toZ w64 step) (toZ w64 stride) len count (toZ w64 first) a₀)
+    × (strip values (toZ w64 step) (toZ w64 stride) len (count - j) (toZ w64 first +ℤ toZ w64 step *ℤ pos j) a
+    ≡ strip values (toZ w64 step) (toZ w64 stride) len count (toZ w64 first) a₀)
 
 abbrev μ-loop : tie.MeasureT-loop
 μ-loop values first step stride len count a₀ at₀ j₀ a at j = count - j
@@ -41,17 +43,20 @@ loop-holds c =
     let f = toZ w64 (ofZ w64 (s .args .first)) in
     let d = toZ w64 (ofZ w64 (s .args .step)) in (
       omega arith,
-      λ h. sym (place-zero f d),
+      λ h. place-first f d,
       omega (arith, s .pre .3),
       s .pre .5,
       strip-first (s .args .values .now) d (toZ w64 (ofZ w64 (s .args .stride))) (s .args .len) (s .args .count) f (s .args .acc),
     )
 
 -- what is required, of the numbers as the code holds them
-inside : (c : tie.In-loop Inv-loop μ-loop) → let s = c .before .before .before in (j : ℕ) → j < s .args .count → PlacesInside (length (s .args .values .now)) (toZ w64 (ofZ w64 (s .args .first)) +ℤ toZ w64 (ofZ w64 (s .args .step)) *ℤ pos j) (toZ w64 (ofZ w64 (s .args .stride))) (s .args .len)
+inside : (c : tie.In-loop Inv-loop μ-loop) → let s = c .before .before .before in (j : ℕ) → j < s .args .count
+    → PlacesInside (length (s .args .values .now)) (toZ w64 (ofZ w64 (s .args .first)) +ℤ toZ w64 (ofZ w64 (s .args .step)) *ℤ pos j)
+    (toZ w64 (ofZ w64 (s .args .stride))) (s .args .len)
 inside c =
     let s = c .before .before .before in
-    simp (toZ-ofZ w64 (s .args .first) (s .fits .first), toZ-ofZ w64 (s .args .step) (s .fits .step), toZ-ofZ w64 (s .args .stride) (s .fits .stride)) (s .pre .4)
+    simp (toZ-ofZ w64 (s .args .first) (s .fits .first), toZ-ofZ w64 (s .args .step) (s .fits .step), toZ-ofZ w64 (s .args .stride) (s .fits .stride))
+    (s .pre .4)
 
 -- the next run
 reduce-piece-requires : tie.Need-reduce-piece-requires Inv-loop μ-loop
@@ -59,22 +64,33 @@ reduce-piece-requires c κs =
     let t = c .before in
     let s = t .before .before in (
       s .pre .0,
-      subst (λ (z : ℤ). PlacesInside (length (s .args .values .now)) z (toZ w64 (ofZ w64 (s .args .stride))) (s .args .len)) (sym (t .loop .inv .1 (c .loop-test .taken))) (inside c (t .loop .j) (c .loop-test .taken)),
+      subst (λ (z : ℤ). PlacesInside (length (s .args .values .now)) z (toZ w64 (ofZ w64 (s .args .stride))) (s .args .len))
+          (sym (t .loop .inv .1 (c .loop-test .taken))) (inside c (t .loop .j) (c .loop-test .taken)),
       s .pre .1,
     )
 
 -- its product, at the place of run j
-run-is : (c : tie.After-reduce-piece Inv-loop μ-loop) → let t = c .before .before in let s = t .before .before in c .reduce-piece .result ≡ worked (eqZ (toZ w64 (ofZ w64 (s .args .stride))) (pos 1)) (strided (s .args .values .now) (toZ w64 (ofZ w64 (s .args .first)) +ℤ toZ w64 (ofZ w64 (s .args .step)) *ℤ pos (t .loop .j)) (toZ w64 (ofZ w64 (s .args .stride))) (s .args .len))
+run-is : (c : tie.After-reduce-piece Inv-loop μ-loop)
+    → let t = c .before .before in
+    let s = t .before .before in
+    c .reduce-piece .result
+    ≡ worked (eqZ (toZ w64 (ofZ w64 (s .args .stride))) (pos 1))
+    (strided (s .args .values .now) (toZ w64 (ofZ w64 (s .args .first)) +ℤ toZ w64 (ofZ w64 (s .args .step)) *ℤ pos (t .loop .j))
+    (toZ w64 (ofZ w64 (s .args .stride))) (s .args .len))
 run-is c =
     let t = c .before .before in
     let s = t .before .before in
     c .reduce-piece .ensures
-    ∙ ap (λ (z : ℤ). worked (eqZ (toZ w64 (ofZ w64 (s .args .stride))) (pos 1)) (strided (s .args .values .now) z (toZ w64 (ofZ w64 (s .args .stride))) (s .args .len))) (t .loop .inv .1 (c .before .loop-test .taken))
+    ∙ ap (λ (z : ℤ). worked (eqZ (toZ w64 (ofZ w64 (s .args .stride))) (pos 1))
+    (strided (s .args .values .now) z (toZ w64 (ofZ w64 (s .args .stride))) (s .args .len)))
+    (t .loop .inv .1 (c .before .loop-test .taken))
 
-near : (c : tie.After-reduce-piece Inv-loop μ-loop) → natAbs (c .reduce-piece .result .e) ≤ 1048575 * c .before .before .before .before .args .len
+near : (c : tie.After-reduce-piece Inv-loop μ-loop) → natAbs (c .reduce-piece .result .e) ≤ 1033 * c .before .before .before .before .args .len
 near c =
-    let s = c .before .before .before .before in
-    subst (λ (a : StableProductFloatAcc). natAbs (a .e) ≤ 1048575 * s .args .len) (sym (run-is c)) (strided-near _ _ _ (s .args .len) (s .pre .0))
+    let k = c .before .before .before in
+    let s = k .before in
+    subst (λ (a : StableProductFloatAcc). natAbs (a .e) ≤ 1033 * s .args .len) (sym (run-is c))
+    (strided-near _ (k .shared-slice-known .given) _ _ (s .args .len) (s .pre .0))
 
 run-sound : (c : tie.After-reduce-piece Inv-loop μ-loop) → Sound (c .reduce-piece .result)
 run-sound c =
@@ -83,7 +99,8 @@ run-sound c =
     let d = toZ w64 (ofZ w64 (s .args .stride)) in
     let z = toZ w64 (ofZ w64 (s .args .first)) +ℤ toZ w64 (ofZ w64 (s .args .step)) *ℤ pos (c .before .before .loop .j) in
     subst Sound (sym (run-is c))
-    (worked-sound (record { inBlocks = eqZ d (pos 1); rates = strided (s .args .values .now) z d (s .args .len) }) (strided-values (s .args .values .now) (k .shared-slice-known .given) z d (s .args .len)))
+    (worked-sound (record { inBlocks = eqZ d (pos 1); rates = strided (s .args .values .now) z d (s .args .len) })
+    (strided-values (s .args .values .now) (k .shared-slice-known .given) z d (s .args .len)))
 
 -- the values so far are at most those of the strip
 so-far : (c : tie.In-loop Inv-loop μ-loop) → c .before .loop .j * c .before .before .before .args .len ≤ 2 ^ 40
@@ -99,7 +116,11 @@ add-j : tie.Need-add-j Inv-loop μ-loop
 add-j c = omega arith
 
 -- the place a step further
-next : (c : tie.Then1 Inv-loop μ-loop) → let t = c .before .before .before .before in let s = t .before .before in toZ w64 (t .loop .at) +ℤ toZ w64 (ofZ w64 (s .args .step)) ≡ toZ w64 (ofZ w64 (s .args .first)) +ℤ toZ w64 (ofZ w64 (s .args .step)) *ℤ pos (t .loop .j + 1)
+next : (c : tie.Then1 Inv-loop μ-loop)
+    → let t = c .before .before .before .before in
+    let s = t .before .before in
+    toZ w64 (t .loop .at) +ℤ toZ w64 (ofZ w64 (s .args .step))
+    ≡ toZ w64 (ofZ w64 (s .args .first)) +ℤ toZ w64 (ofZ w64 (s .args .step)) *ℤ pos (t .loop .j + 1)
 next c =
     let t = c .before .before .before .before in
     let s = t .before .before in
@@ -110,22 +131,29 @@ add-at : tie.Need-add-at Inv-loop μ-loop
 add-at c =
     let t = c .before .before .before .before in
     let s = t .before .before in
-    subst (SFits w64) (sym (next c)) (place-fits (length (s .args .values .now)) _ (toZ w64 (ofZ w64 (s .args .stride))) (s .args .len) (inside (c .before .before .before) (t .loop .j + 1) (c .if1 .taken)) (s .pre .0) (omega (arith, s .good .0 .1)))
+    subst (SFits w64) (sym (next c)) (place-inside-fits (length (s .args .values .now)) _ (toZ w64 (ofZ w64 (s .args .stride))) (s .args .len)
+    (inside (c .before .before .before) (t .loop .j + 1) (c .if1 .taken)) (s .pre .0) (omega (arith, s .good .0 .1)))
 
 -- the run is in
 more : (c : tie.After-combine-units Inv-loop μ-loop) → let t = c .before .before .before in let s = t .before .before in
-    (natAbs (c .combine-units .result .e) ≤ 2 ^ 60 + 1048576 * ((t .loop .j + 1) * s .args .len))
+    (natAbs (c .combine-units .result .e) ≤ 2 ^ 60 + 1034 * ((t .loop .j + 1) * s .args .len))
     × Sound (c .combine-units .result)
-    × (strip (s .args .values .now) (toZ w64 (ofZ w64 (s .args .step))) (toZ w64 (ofZ w64 (s .args .stride))) (s .args .len) (s .args .count - (t .loop .j + 1)) (toZ w64 (ofZ w64 (s .args .first)) +ℤ toZ w64 (ofZ w64 (s .args .step)) *ℤ pos (t .loop .j + 1)) (c .combine-units .result)
-    ≡ strip (s .args .values .now) (toZ w64 (ofZ w64 (s .args .step))) (toZ w64 (ofZ w64 (s .args .stride))) (s .args .len) (s .args .count) (toZ w64 (ofZ w64 (s .args .first))) (s .args .acc))
+    × (strip (s .args .values .now) (toZ w64 (ofZ w64 (s .args .step))) (toZ w64 (ofZ w64 (s .args .stride))) (s .args .len)
+    (s .args .count - (t .loop .j + 1)) (toZ w64 (ofZ w64 (s .args .first)) +ℤ toZ w64 (ofZ w64 (s .args .step)) *ℤ pos (t .loop .j + 1))
+    (c .combine-units .result)
+    ≡ strip (s .args .values .now) (toZ w64 (ofZ w64 (s .args .step))) (toZ w64 (ofZ w64 (s .args .stride))) (s .args .len) (s .args .count)
+    (toZ w64 (ofZ w64 (s .args .first))) (s .args .acc))
 more c =
     let t = c .before .before .before in
     let s = t .before .before in
     let b = c .before .reduce-piece .result in
     let e = c .combine-units .ensures in (
-      subst (λ (a : StableProductFloatAcc). natAbs (a .e) ≤ 2 ^ 60 + 1048576 * ((t .loop .j + 1) * s .args .len)) (sym e) (le-trans (combined-size (t .loop .a) b) (omega (arith, t .loop .inv .2, near (c .before), s .pre .0))),
+      subst (λ (a : StableProductFloatAcc). natAbs (a .e) ≤ 2 ^ 60 + 1034 * ((t .loop .j + 1) * s .args .len)) (sym e)
+          (le-trans (combined-size (t .loop .a) b) (omega (arith, t .loop .inv .2, near (c .before), s .pre .0))),
       subst Sound (sym e) (combined-sound (t .loop .a) b (t .loop .inv .3) (run-sound (c .before))),
-      strip-next (s .args .values .now) _ _ (s .args .len) (s .args .count) (t .loop .j) (toZ w64 (ofZ w64 (s .args .first))) (t .loop .a) (c .combine-units .result) (c .before .before .loop-test .taken) (e ∙ ap (combined (t .loop .a)) (run-is (c .before))) ∙ t .loop .inv .4,
+      strip-next (s .args .values .now) _ _ (s .args .len) (s .args .count) (t .loop .j) (toZ w64 (ofZ w64 (s .args .first))) (t .loop .a)
+          (c .combine-units .result) (c .before .before .loop-test .taken) (e ∙ ap (combined (t .loop .a)) (run-is (c .before)))
+          ∙ t .loop .inv .4,
     )
 
 loop-less : tie.Need-loop-less Inv-loop μ-loop
@@ -152,7 +180,9 @@ returns c =
     let s = t .before .before in
     let f = toZ w64 (ofZ w64 (s .args .first)) in
     let d = toZ w64 (ofZ w64 (s .args .step)) in
-    let e = sym (ap (λ (n : ℕ). strip (s .args .values .now) d (toZ w64 (ofZ w64 (s .args .stride))) (s .args .len) n (f +ℤ d *ℤ pos (t .loop .j)) (t .loop .a)) (let z : s .args .count - t .loop .j ≡ 0 = omega (arith, c .loop-test .left) in z)) ∙ t .loop .inv .4 in
+    let e = sym (ap (λ (n : ℕ). strip (s .args .values .now) d (toZ w64 (ofZ w64 (s .args .stride))) (s .args .len) n (f +ℤ d *ℤ pos (t .loop .j)) (t .loop .a))
+    (let z : s .args .count - t .loop .j ≡ 0 = omega (arith, c .loop-test .left) in z))
+    ∙ t .loop .inv .4 in
     simp (toZ-ofZ w64 (s .args .first) (s .fits .first), toZ-ofZ w64 (s .args .step) (s .fits .step), toZ-ofZ w64 (s .args .stride) (s .fits .stride)) at e
 
 pub reduce-strip-spec : {M : Type 1} → statement M

@@ -60,7 +60,8 @@ returns-4 c = λ _.
     let r = c .before .before .before in
     let e = r .before in
     let s = entry e in
-    runs-ahead (s .args .l) (s .pre .0) (s .args .at) (s .args .end) _ (s .pre .1) (some-axis e) (some-extent e) (r .if3 .left) (omega arith) (omega (arith, c .if4 .taken))
+    runs-ahead (s .args .l) (s .pre .0) (s .args .at) (s .args .end) _ (s .pre .1) (some-axis e) (some-extent e) (r .if3 .left) (omega arith)
+    (omega (arith, c .if4 .taken))
 
 returns-5 : tie.Need-returns-5
 returns-5 c = λ _.

@@ -9,11 +9,11 @@ use lib.Ieee.{Float}
 use mir.ValLaws.{toZ-ofZ}
 use mir.Syntax.{w64}
 use borrow.Author.Needs.{needs}
+use Rattle.laws.proofs.Tests.{and-both}
 use Rattle.kernels.specs.Lanes.{feed, every}
 use Rattle.kernels.specs.InnerStrided.{strided}
 use Rattle.kernels.specs.Blocks.{renorm}
 use Rattle.kernels.specs.InnerLanes.{LanesAfter}
-use Rattle.kernels.proofs.Feeding.{and-both}
 use Rattle.kernels.proofs.Striding.{length-strided, strided-values}
 use Rattle.kernels.proofs.LaneSizes.{lanes-le}
 use Rattle.vectors.specs.declared.vector.Waiting.{Waiting}

@@ -14,7 +14,8 @@ use Rattle.kernels.specs.declared.lanes.Lanes.{Lanes}
 use Rattle.kernels.specs.Lanes.{every}
 use Rattle.kernels.specs.InnerStrided.{strided, PlacesInside}
 use Rattle.kernels.proofs.LaneSizes.{lanes-le}
-use Rattle.kernels.proofs.Striding.{inside-part, place-first}
+use Rattle.integers.proofs.Places.{place-first}
+use Rattle.kernels.proofs.Striding.{inside-part}
 use Rattle.vectors.specs.InnerWaiting.{vectorOf, notPast, guarded}
 use Rattle.vectors.specs.InnerSteps.{NotYetNormalised}
 use Rattle.vectors.proofs.Vectorwise.{place-fits, step-fits}

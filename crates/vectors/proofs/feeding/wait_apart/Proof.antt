@@ -9,7 +9,8 @@ use mir.Syntax.{w64}
 use mir.ValLaws.{toZ-ofZ}
 use Rattle.kernels.specs.Lanes.{feed}
 use Rattle.kernels.specs.InnerStrided.{strided, PlacesInside}
-use Rattle.kernels.proofs.Striding.{place-first, inside-part}
+use Rattle.integers.proofs.Places.{place-first}
+use Rattle.kernels.proofs.Striding.{inside-part}
 use Rattle.vectors.specs.declared.vector.Waiting.{Waiting}
 use Rattle.vectors.specs.InnerWaiting.{waitStep}
 use Rattle.vectors.proofs.Vectorwise.{place-fits, step-fits}

@@ -8,11 +8,11 @@ use mir.Val.{SFits}
 use mir.ValLaws.{toZ-ofZ}
 use mir.Syntax.{w64}
 use borrow.Author.Needs.{needs}
+use Rattle.laws.proofs.Tests.{and-both}
 use Rattle.floats.specs.declared.Split.{Split}
 use Rattle.floats.specs.Splitting.{split}
 use Rattle.kernels.specs.Lanes.{feed, every}
 use Rattle.kernels.specs.InnerStrided.{strided}
-use Rattle.kernels.proofs.Feeding.{and-both}
 use Rattle.kernels.proofs.Striding.{length-strided, strided-values}
 use Rattle.vectors.specs.declared.vector.Waiting.{Waiting}
 use Rattle.vectors.specs.InnerWaiting.{one, waitStep, padded, startWaiting, notBelow, notPast, chained}

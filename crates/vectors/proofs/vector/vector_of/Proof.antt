@@ -13,9 +13,10 @@ use mir.Syntax.{w64}
 use mir.ValLaws.{toZ-ofZ}
 use Rattle.kernels.specs.Lanes.{feed}
 use Rattle.kernels.specs.InnerStrided.{strided, PlacesInside}
-use Rattle.kernels.proofs.Striding.{place-first}
+use Rattle.integers.proofs.Places.{place-first}
 use Rattle.vectors.specs.InnerWaiting.{vectorOf}
-use Rattle.vectors.proofs.Vectorwise.{place-next, place-natural, place-below, place-fits, vector-more}
+use Rattle.integers.proofs.Places.{place-next}
+use Rattle.vectors.proofs.Vectorwise.{place-natural, place-below, place-fits, vector-more}
 use Rattle.vectors.proofs.vector.vector_of.Statement.{statement}
 use Rattle.vectors.proofs.vector.vector_of.Tie as tie
 

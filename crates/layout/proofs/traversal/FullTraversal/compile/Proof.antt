@@ -1,23 +1,21 @@
 -- `layout::traversal::FullTraversal::compile` meets its contract: each refusal by the first condition that holds, else the layout.
 -- Assumes nothing.
-use Prim.Native.Nat.{ℕ, _^_, _≤_, _<_}
+use Prim.Native.Nat.{ℕ}
 use mathlib.Core.List.{List, [], _∷_}
-use Rattle.layout.specs.declared.axis.ReduceOuterAxis.{ReduceOuterAxis}
-use mathlib.Core.Path.{_≡_, refl, sym, _∙_, ap}
-use mathlib.Core.Option.{Option, none, some}
+use mathlib.Core.Path.{_≡_, sym, _∙_, ap}
+use mathlib.Core.Option.{some}
 use native.Mathlib.Omega.{arith}
-use lib.ListN.{length, getD}
+use lib.ListN.{getD}
 use lib.IntN.{pos}
 use mir.Val.{SFits}
 use mir.Syntax.{w64}
 use mir.Facts.{toZ-ofZ}
 use borrow.Author.Tests.{not-true, not-false}
 use Rattle.layout.specs.declared.traversal.FullTraversal.{FullTraversal}
-use Rattle.layout.specs.declared.traversal.Compiled.{Compiled}
-use Rattle.layout.specs.Axes.{PLACES}
 use Rattle.layout.specs.InnerTables.{tableAxes}
 use Rattle.layout.specs.Compile.{totalOf, layoutOf, emptyLayout, traversalOf, compileOf}
-use Rattle.layout.proofs.Compiling.{total-yes, total-no, no-elements, no-resets, ordered-in-table, no-fusing, fused-in-table, is-layout, code-1, code-2, code-3, code-4, code-0}
+use Rattle.layout.proofs.Compiling.{total-yes, total-no, no-elements, no-resets, ordered-in-table, no-fusing, fused-in-table, is-layout, code-1, code-2}
+use Rattle.layout.proofs.Compiling.{code-3, code-4, code-0}
 use Rattle.layout.proofs.Line.{single}
 use borrow.Author.Needs.{needs}
 use Rattle.layout.proofs.traversal.FullTraversal.compile.Statement.{statement}
@@ -31,19 +29,25 @@ use Rattle.layout.proofs.traversal.refused.Reads as refused-reads
 use Rattle.layout.proofs.traversal.with_run.Reads as with-run-reads
 
 -- the total, where it fits
-counted : (c : tie.Else4) → totalOf (c .before .before .before .before .before .before .before .args .sizes .now) ≡ some (c .before .before .checked-total .result .value)
-counted c = let s = c .before .before .before .before .before .before .before in total-yes (s .args .sizes .now) (s .args .strides .now) _ (c .before .before .checked-total .ensures) (not-false _ (c .if4 .left))
+counted : (c : tie.Else4) → let s = c .before .before .before .before .before .before .before in
+    totalOf (s .args .sizes .now) ≡ some (c .before .before .checked-total .result .value)
+counted c =
+    let s = c .before .before .before .before .before .before .before in
+    total-yes (s .args .sizes .now) (s .args .strides .now) _ (c .before .before .checked-total .ensures) (not-false _ (c .if4 .left))
 
 -- the layout, where every check holds
-compiled : (c : tie.Else7) → traversalOf (c .before .before .before .before .before .before .before .before .before .before .before .before .before .before .args .sizes .now) (c .before .before .before .before .before .before .before .before .before .before .before .before .before .before .args .strides .now)
-    ≡ some (layoutOf (c .before .before .before .before .before .before .before .before .before .checked-total .result .value) (tableAxes (c .before .before .compress-reduce-outer-axes .result .table)))
+compiled : (c : tie.Else7)
+    → let t = c .before .before .before .before .before .before .before .before .before in let s = t .before .before .before .before .before in
+    traversalOf (s .args .sizes .now) (s .args .strides .now)
+    ≡ some (layoutOf (t .checked-total .result .value) (tableAxes (c .before .before .compress-reduce-outer-axes .result .table)))
 compiled c =
     let f = c .before .before in
     let o = f .before .before .before in
     let t = o .before .before in
     let m = t .before .before in
     let s = m .before .before .before .before .before in
-    is-layout (s .args .sizes .now) (s .args .strides .now) (m .checked-total .result .value) (counted t) (o .before .if5 .left) (o .ordered-axes .result) (o .ordered-axes .ensures) (not-false _ (f .before .if6 .left))
+    is-layout (s .args .sizes .now) (s .args .strides .now) (m .checked-total .result .value) (counted t) (o .before .if5 .left) (o .ordered-axes .result)
+    (o .ordered-axes .ensures) (not-false _ (f .before .if6 .left))
     (f .compress-reduce-outer-axes .result) (f .compress-reduce-outer-axes .ensures) (not-false _ (c .if7 .left))
 
 refused-requires : tie.Need-refused-requires
@@ -107,7 +111,8 @@ returns-5 c =
     let s = e .before .before in
     c .no-elements .ensures
     ∙ sym (code-0 (s .args .sizes .now) (s .args .strides .now) (e .if1 .left) (m .before .if3 .left) emptyLayout (m .checked-total .result .value)
-    (no-elements (s .args .sizes .now) (s .args .strides .now) (m .checked-total .result .value) (counted t) (c .before .if5 .taken)) (counted t) (omega (arith, c .before .if5 .taken)))
+    (no-elements (s .args .sizes .now) (s .args .strides .now) (m .checked-total .result .value) (counted t) (c .before .if5 .taken)) (counted t)
+    (omega (arith, c .before .if5 .taken)))
 
 ordered-axes-requires : tie.Need-ordered-axes-requires
 ordered-axes-requires c κs = search needs
@@ -124,7 +129,8 @@ returns-6 c =
     let s = e .before .before in
     c .refused4 .ensures
     ∙ sym (code-3 (s .args .sizes .now) (s .args .strides .now) (e .if1 .left) (m .before .if3 .left)
-    (no-resets (s .args .sizes .now) (s .args .strides .now) (m .checked-total .result .value) (counted t) (o .before .if5 .left) (o .ordered-axes .result) (o .ordered-axes .ensures) (not-true _ (c .before .if6 .taken))))
+    (no-resets (s .args .sizes .now) (s .args .strides .now) (m .checked-total .result .value) (counted t) (o .before .if5 .left) (o .ordered-axes .result)
+    (o .ordered-axes .ensures) (not-true _ (c .before .if6 .taken))))
 
 compress-reduce-outer-axes-requires : tie.Need-compress-reduce-outer-axes-requires
 compress-reduce-outer-axes-requires c κs =
@@ -132,7 +138,8 @@ compress-reduce-outer-axes-requires c κs =
     let t = o .before .before in
     let m = t .before .before in
     let s = m .before .before .before .before .before in
-    ordered-in-table (s .args .sizes .now) (s .args .strides .now) (m .checked-total .result .value) (counted t) (o .before .if5 .left) (o .ordered-axes .result) (o .ordered-axes .ensures) (not-false _ (c .if6 .left)) (m .before .if3 .left)
+    ordered-in-table (s .args .sizes .now) (s .args .strides .now) (m .checked-total .result .value) (counted t) (o .before .if5 .left)
+    (o .ordered-axes .result) (o .ordered-axes .ensures) (not-false _ (c .if6 .left)) (m .before .if3 .left)
 
 refused-requires-5 : tie.Need-refused-requires-5
 refused-requires-5 c κs = search needs
@@ -147,7 +154,8 @@ returns-7 c =
     let s = e .before .before in
     c .refused5 .ensures
     ∙ sym (code-3 (s .args .sizes .now) (s .args .strides .now) (e .if1 .left) (m .before .if3 .left)
-    (no-fusing (s .args .sizes .now) (s .args .strides .now) (m .checked-total .result .value) (counted t) (o .before .if5 .left) (o .ordered-axes .result) (o .ordered-axes .ensures) (not-false _ (f .before .if6 .left))
+    (no-fusing (s .args .sizes .now) (s .args .strides .now) (m .checked-total .result .value) (counted t) (o .before .if5 .left) (o .ordered-axes .result)
+    (o .ordered-axes .ensures) (not-false _ (f .before .if6 .left))
     (f .compress-reduce-outer-axes .result) (f .compress-reduce-outer-axes .ensures) (not-true _ (c .before .if7 .taken))))
 
 refused-requires-6 : tie.Need-refused-requires-6
@@ -163,7 +171,9 @@ returns-8 c =
     let e = m .before .before .before in
     let s = e .before .before in
     c .refused6 .ensures
-    ∙ sym (code-4 (s .args .sizes .now) (s .args .strides .now) (e .if1 .left) (m .before .if3 .left) _ (m .checked-total .result .value) (compiled k) (counted t) (c .before .if8 .taken))
+    ∙ sym
+    (code-4 (s .args .sizes .now) (s .args .strides .now) (e .if1 .left) (m .before .if3 .left) _ (m .checked-total .result .value) (compiled k) (counted t)
+    (c .before .if8 .taken))
 
 with-run-requires : tie.Need-with-run-requires
 with-run-requires c κs =
@@ -173,7 +183,8 @@ with-run-requires c κs =
     let t = o .before .before in
     let m = t .before .before in
     let s = m .before .before .before .before .before in
-    fused-in-table (s .args .sizes .now) (s .args .strides .now) (m .checked-total .result .value) (counted t) (o .before .if5 .left) (o .ordered-axes .result) (o .ordered-axes .ensures) (not-false _ (f .before .if6 .left))
+    fused-in-table (s .args .sizes .now) (s .args .strides .now) (m .checked-total .result .value) (counted t) (o .before .if5 .left) (o .ordered-axes .result)
+    (o .ordered-axes .ensures) (not-false _ (f .before .if6 .left))
     (f .compress-reduce-outer-axes .result) (f .compress-reduce-outer-axes .ensures) (m .before .if3 .left) (not-false _ (k .if7 .left))
 
 returns-9 : tie.Need-returns-9
@@ -186,7 +197,9 @@ returns-9 c =
     let e = m .before .before .before in
     let s = e .before .before in
     ap (λ (l : FullTraversal). record { code = 0; traversal = l }) (c .with-run .ensures)
-    ∙ sym (code-0 (s .args .sizes .now) (s .args .strides .now) (e .if1 .left) (m .before .if3 .left) _ (m .checked-total .result .value) (compiled k) (counted t) (c .before .if8 .left))
+    ∙ sym
+    (code-0 (s .args .sizes .now) (s .args .strides .now) (e .if1 .left) (m .before .if3 .left) _ (m .checked-total .result .value) (compiled k) (counted t)
+    (c .before .if8 .left))
 
 pub compile-spec : {M : Type 1} → statement M
 compile-spec =

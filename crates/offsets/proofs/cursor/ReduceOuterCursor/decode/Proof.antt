@@ -1,11 +1,11 @@
--- `offsets::cursor::ReduceOuterCursor::decode` meets its contract. The loop's invariant, `Decoded`: the rest in the axes that are left, from the offset so far, is the whole.
--- Assumes nothing.
-use Prim.Native.Nat.{ℕ, _+_, _-_, _%_, _^_, _<_, _≤_}
-use mathlib.Core.Path.{_≡_, refl, sym, _∙_, ap}
+-- `offsets::cursor::ReduceOuterCursor::decode` meets its contract. The loop's invariant, `Decoded`: the rest in the axes that are left, from the offset so far,
+-- is the whole. Assumes nothing.
+use Prim.Native.Nat.{_+_, _-_, _%_, _^_, _<_}
+use mathlib.Core.Path.{_≡_, refl}
 use mathlib.Core.List.{_∷_}
 use native.Mathlib.Omega.{arith}
 use lib.ListN.{length, take, drop, getD, length-take}
-use lib.IntN.{ℤ, pos, _+ℤ_, _*ℤ_}
+use lib.IntN.{pos, _+ℤ_, _*ℤ_}
 use mir.Val.{toZ, SFits}
 use mir.Facts.{toZ-ofZ}
 use mir.Syntax.{w64}
@@ -15,7 +15,8 @@ use Rattle.layout.specs.Axes.{PLACES, noAxis}
 use Rattle.offsets.specs.InnerCursors.{Axis}
 use Rattle.layout.proofs.Tables.{take-from}
 use Rattle.integers.proofs.Machine.{pos-fits, toZ-small}
-use Rattle.offsets.proofs.Stepping.{Decoded, decoded-none, decode-axis, decode-here, decode-next, decoded-more, decoded-all, Small, small-fits, share-fits, axis-small}
+use Rattle.offsets.proofs.Stepping.{Small, small-fits, share-fits, axis-small}
+use Rattle.offsets.proofs.Cursors.{Decoded, decoded-none, decode-axis, decode-here, decode-next, decoded-more, decoded-all}
 use Rattle.offsets.proofs.cursor.ReduceOuterCursor.decode.Statement.{statement}
 use Rattle.offsets.proofs.cursor.ReduceOuterCursor.decode.Tie as tie
 use Rattle.offsets.proofs.cursor.ReduceOuterCursor.decode.Reads as reads
@@ -33,8 +34,9 @@ loop-holds c =
     simp (toZ-ofZ f) (decoded-none (take (c .args .count) (c .args .t4)) (c .args .base) (c .args .index) _ (c .pre .2) (c .pre .3) refl refl)
 
 -- the axis at i, and those after it
-here : (c : tie.In-loop Inv-loop μ-loop)
-    → drop (c .before .loop .i) (take (c .before .before .args .count) (c .before .before .args .t4)) ≡ getD (c .before .before .args .t4) (c .before .loop .i) noAxis ∷ drop (c .before .loop .i + 1) (take (c .before .before .args .count) (c .before .before .args .t4))
+here : (c : tie.In-loop Inv-loop μ-loop) → let s = c .before .before in
+    drop (c .before .loop .i) (take (s .args .count) (s .args .t4))
+    ≡ getD (s .args .t4) (c .before .loop .i) noAxis ∷ drop (c .before .loop .i + 1) (take (s .args .count) (s .args .t4))
 here c =
     let s = c .before .before in
     take-from (s .args .t4) (s .args .count) (c .before .loop .i) (c .loop-test .taken) (omega (arith, s .pre .0, s .pre .1))
@@ -53,8 +55,10 @@ small-digit c = let w = axis c in omega (arith, mod-lt (c .before .loop .rest) (
 from-here : (c : tie.In-loop Inv-loop μ-loop) → Small (c .before .loop .c .«source_offset»)
 from-here c = decode-here _ _ _ _ _ _ (c .before .loop .inv) _ (room c) (here c)
 
-to-next : (c : tie.In-loop Inv-loop μ-loop)
-    → Small (c .before .loop .c .«source_offset» +ℤ (getD (c .before .before .args .t4) (c .before .loop .i) noAxis) .«source_step» *ℤ pos (c .before .loop .rest % (getD (c .before .before .args .t4) (c .before .loop .i) noAxis) .extent))
+to-next : (c : tie.In-loop Inv-loop μ-loop) → let s = c .before .before in
+    Small (c .before .loop .c .«source_offset»
+    +ℤ (getD (s .args .t4) (c .before .loop .i) noAxis) .«source_step»
+    *ℤ pos (c .before .loop .rest % (getD (s .args .t4) (c .before .loop .i) noAxis) .extent))
 to-next c = decode-next _ _ _ _ _ _ (c .before .loop .inv) _ (room c) (here c)
 
 counted : (c : tie.In-loop Inv-loop μ-loop) → length (take (c .before .before .args .count) (c .before .before .args .t4)) ≡ c .before .before .args .count
@@ -86,7 +90,8 @@ mul-c-2 c =
     let t = c .before .before .before .before .before .before in
     let a = getD (t .before .before .args .t4) (t .before .loop .i) noAxis in
     let f : SFits w64 (a .«source_step») = record { sfits = c .struct-told2 .given .1 .0 .1 } in
-    simp (toZ-ofZ f, toZ-small _ (small-digit t)) (share-fits (t .before .loop .c .«source_offset») (a .«source_step» *ℤ pos (t .before .loop .rest % a .extent)) (from-here t) (to-next t))
+    simp (toZ-ofZ f, toZ-small _ (small-digit t))
+    (share-fits (t .before .loop .c .«source_offset») (a .«source_step» *ℤ pos (t .before .loop .rest % a .extent)) (from-here t) (to-next t))
 
 add-c : tie.Need-add-c Inv-loop μ-loop
 add-c c =
@@ -94,7 +99,12 @@ add-c c =
     let a = getD (t .before .before .args .t4) (t .before .loop .i) noAxis in
     let f : SFits w64 (a .«source_step») = record { sfits = c .struct-told2 .given .1 .0 .1 } in
     let o = t .before .loop .c .«source_offset» in
-    simp (toZ-ofZ f, toZ-small _ (small-digit t), toZ-ofZ (small-fits o (from-here t)), toZ-ofZ (share-fits o (a .«source_step» *ℤ pos (t .before .loop .rest % a .extent)) (from-here t) (to-next t)))
+    simp (
+      toZ-ofZ f,
+      toZ-small _ (small-digit t),
+      toZ-ofZ (small-fits o (from-here t)),
+      toZ-ofZ (share-fits o (a .«source_step» *ℤ pos (t .before .loop .rest % a .extent)) (from-here t) (to-next t)),
+    )
     (small-fits _ (to-next t))
 
 add-i : tie.Need-add-i Inv-loop μ-loop
@@ -110,13 +120,20 @@ loop-again c =
     let a = getD (s .args .t4) (t .before .loop .i) noAxis in
     let f : SFits w64 (a .«source_step») = record { sfits = c .struct-told2 .given .1 .0 .1 } in
     let o = t .before .loop .c .«source_offset» in
-    simp (toZ-ofZ f, toZ-small _ (small-digit t), toZ-ofZ (small-fits o (from-here t)), toZ-ofZ (share-fits o (a .«source_step» *ℤ pos (t .before .loop .rest % a .extent)) (from-here t) (to-next t)), toZ-ofZ (small-fits _ (to-next t)))
+    simp (
+      toZ-ofZ f,
+      toZ-small _ (small-digit t),
+      toZ-ofZ (small-fits o (from-here t)),
+      toZ-ofZ (share-fits o (a .«source_step» *ℤ pos (t .before .loop .rest % a .extent)) (from-here t) (to-next t)),
+      toZ-ofZ (small-fits _ (to-next t)),
+    )
     (decoded-more _ _ _ _ _ _ (t .before .loop .inv) a (room t) (here t) (omega (arith, t .loop-test .taken, counted t)) _ refl refl)
 
 returns : tie.Need-returns Inv-loop μ-loop
 returns c =
     let s = c .before .before in
-    decoded-all (take (s .args .count) (s .args .t4)) (s .args .base) (s .args .index) (c .before .loop .c) (c .before .loop .rest) (c .before .loop .i) (simp (toZ-ofZ (s .fits .base)) at (c .before .loop .inv))
+    decoded-all (take (s .args .count) (s .args .t4)) (s .args .base) (s .args .index) (c .before .loop .c) (c .before .loop .rest) (c .before .loop .i)
+    (simp (toZ-ofZ (s .fits .base)) at (c .before .loop .inv))
     (simp length-take (omega (arith, c .loop-test .left)))
 
 pub decode-spec : {M : Type 1} → statement M

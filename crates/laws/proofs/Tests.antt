@@ -1,12 +1,14 @@
--- Tests on numbers, as comparisons of floats come out. Assumes nothing.
+-- Truth values, and tests on numbers as comparisons of floats come out. Assumes nothing.
 use mathlib.Core.Path.{_≡_, refl, sym, ap, _∙_}
-use mathlib.Core.Bool.{Bool, true, false, _&&_, _||_}
+use mathlib.Core.Bool.{Bool, true, false, _&&_, _||_, and-eq-true-iff}
 use mathlib.Core.Logic.{_⊎_, inl, inr}
 use Prim.Native.Nat.{ℕ, _<_}
 use native.Mathlib.Nat.{le-of-lt, le-of-eq, eq-or-lt-of-le, ne-of-gt}
-use native.Mathlib.Omega.{arith}
 use lib.Dec.{ltb, leb, eqb}
 use borrow.Author.Tests.{lt-ltb, le-ltb, eq-eqb, ne-eqb, leb-true, leb-false}
+
+pub and-both : (p q : Bool) → (p && q) ≡ true → (p ≡ true) × (q ≡ true)
+and-both p q = and-eq-true-iff p q .0
 
 -- a < b or a = b
 pub le-test : (a b : ℕ) → (ltb a b || (eqb a b && true)) ≡ leb a b
@@ -20,11 +22,6 @@ le-test a b = go (leb a b) refl
     go true e = at (eq-or-lt-of-le (leb-true a b e)) ∙ sym e
     go false e =
         let l : b < a = leb-false a b e in
-        ap (λ (t : Bool). t || (eqb a b && true)) (le-ltb a b (le-of-lt l)) ∙ ap (λ (t : Bool). t && true) (ne-eqb a b (ne-of-gt l)) ∙ sym e
-
-pub not-nought : (a : ℕ) → 0 < a → eqb a 0 ≡ false
-not-nought a h = ne-eqb a 0 (λ (z : a ≡ 0). omega arith)
-
-pub and-no : (p : Bool) → (p && false) ≡ false
-and-no true = refl
-and-no false = refl
+        ap (λ (t : Bool). t || (eqb a b && true)) (le-ltb a b (le-of-lt l))
+        ∙ ap (λ (t : Bool). t && true) (ne-eqb a b (ne-of-gt l))
+        ∙ sym e
