@@ -86,8 +86,8 @@ def refusal_2():
 
 
 def refusal_3():
-    """Checks of rules 1, 3 and 4 that overflow, each beside one that fits."""
-    # Rule 1: the product of the sizes, left to right.
+    """Checks of rules L1, L3 and L4 that overflow, each beside one that fits."""
+    # Rule L1: the product of the sizes, left to right.
     compile_([2**32, 2**32], [0, 0])
     compile_([2**32, 2**32 - 1], [0, 0])
     compile_([2**64 - 1], [0])
@@ -95,7 +95,7 @@ def refusal_3():
     compile_([2**63, 1, 2, 0], [1, 1, 1, 1])
     compile_([2**63, 0, 2], [1, 1, 1])
     compile_([3, 2**63 - 1], [0, 0])
-    # Rule 3: size - 1, the product, and its sign.
+    # Rule L3: size - 1, the product, and its sign.
     compile_([2**63], [0])
     compile_([2**63 + 1], [0])
     compile_([2], [MOST])
@@ -111,7 +111,7 @@ def refusal_3():
     compile_([2**40], [2**23])
     compile_([2**40], [2**22])
     compile_([2**40], [-(2**23)])
-    # Rule 4: step × size where another axis follows.
+    # Rule L4: step × size where another axis follows.
     compile_([2], [2**62])
     compile_([2, 2], [2**62, 0])
     compile_([2, 2], [2**62, 2**62])
@@ -137,7 +137,7 @@ def refusal_3():
 
 
 def refusal_4():
-    """Totals above 2^40, and the checks of rules 3 and 4 that come before."""
+    """Totals above 2^40, and the checks of rules L3 and L4 that come before."""
     compile_([2**20, 2**20], [1, 2**20])
     compile_([2**20, 2**20], [2**20, 1])
     compile_([2**20 + 1, 2**20], [1, 2**21])

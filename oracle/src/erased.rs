@@ -1,7 +1,7 @@
 //! Ours: a stand-in for the source's file of this name, which we do not have.
 //!
 //! The axis records, the cursor, the reset and the fusing are written from rules L3 and L4 of the engine
-//! and from the sentence on the cursor: "The cursor adds a step, or a reset with carry to the next axis."
+//! and the cursor from rule L7.
 //! What the benchmark times of this is marked `inline`, so that it does not slow the source down.
 //! The inner axes and the names of the scalar trait serve only to compile what no case calls.
 //! The source's: the module `reduce_kernel`, unchanged.

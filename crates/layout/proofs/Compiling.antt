@@ -1,4 +1,4 @@
--- Laws of rules 1 and 5, and of the compiled answer.
+-- Laws of rules L1 and L5, and of the compiled answer.
 -- Assumes nothing.
 use Prim.Native.Nat.{ℕ, _+_, _*_, _^_, _≤_, _<_}
 use mathlib.Core.Path.{_≡_, refl, sym, _∙_, ap, subst}
@@ -29,7 +29,7 @@ use Rattle.layout.specs.Compile.{overflows, aboveMost}
 use Rattle.layout.proofs.Tables.{table-axes-of, table-of, table-count, take-past}
 use Rattle.layout.proofs.Fusing.{count-of, from-i, length-fuse}
 
--- ---- rule 5: the axes after the first
+-- ---- rule L5: the axes after the first
 pub record Copied (t out : AxisTable) (i : ℕ) : Type 0 where
   pub after : 1 ≤ i
   pub table : CleanTable out
@@ -73,7 +73,7 @@ copied-all t out i h p =
     ∙ ap tableOf
     (sym (append-nil (tableAxes out)) ∙ ap (λ (z : List ReduceOuterAxis). tableAxes out ++ z) (sym (take-past (t .places) (t .count) i h)) ∙ p .copied)
 
--- ---- rule 1
+-- ---- rule L1
 pub total-more : (ns : List ℕ) (t i : ℕ) → i < length ns → t * getD ns i 0 < 2 ^ 64 → totalFrom t (drop i ns) ≡ totalFrom (t * getD ns i 0) (drop (i + 1) ns)
 unfolding totalFrom
 total-more ns t i h k = rw (add-one i, drop-cons ns i 0 h, lt-ltb (t * getD ns i 0) (2 ^ 64) k)
@@ -86,7 +86,7 @@ pub total-all : (ns : List ℕ) (t i : ℕ) → length ns ≤ i → totalFrom t 
 unfolding totalFrom
 total-all ns t i h = rw (drop-of-length-le ns h)
 
--- ---- rule 5: the layout
+-- ---- rule L5: the layout
 pub run-none : (n : ℕ) (t out : AxisTable) → t .count ≡ 0 → out ≡ tableOf (drop 1 (tableAxes t))
     → record { total = n; «run_len» = 1; «run_stride» = pos 1; «axis_count» = 0; «run_axes» = out .places } ≡ layoutOf n (tableAxes t)
 unfolding layoutOf tableOf tableAxes
@@ -146,7 +146,7 @@ module _ (ns : List ℕ) (ss : List ℤ) where
     pub fused-is : (xs : List ReduceOuterAxis) → fusedOf ns ss ≡ some xs → traversalOf ns ss ≡ some (layoutOf t xs)
     fused-is xs f = at-total ∙ ap (λ (o : Option (List ReduceOuterAxis)). elim o [ none ↦ none | some xs ↦ some (layoutOf t xs) ]) f
 
-    -- where rule 3 fails
+    -- where rule L3 fails
     pub no-resets : (o : Ordered) → o ≡ orderedIf (resetsFit (keptAxes ns ss)) (axesOf ns ss) → o .ok ≡ false → traversalOf ns ss ≡ none
     unfolding orderedIf fusedOf
     no-resets o q k = unfused (go (resetsFit (keptAxes ns ss)) refl)
@@ -155,7 +155,7 @@ module _ (ns : List ℕ) (ss : List ℤ) where
         go true f = absurd (subst T (sym (ap (λ (o : Ordered). o .ok) (q ∙ ap (λ (b : Bool). orderedIf b (axesOf ns ss)) f)) ∙ k) tt)
         go false f = ap (λ (b : Bool). cond b (fuse (axesOf ns ss)) none) f
 
-    -- where rule 3 holds
+    -- where rule L3 holds
     module _ (o : Ordered) (q : o ≡ orderedIf (resetsFit (keptAxes ns ss)) (axesOf ns ss)) (k : o .ok ≡ true) where
       resets : resetsFit (keptAxes ns ss) ≡ true
       unfolding orderedIf

@@ -1,4 +1,4 @@
--- Laws of rule 4: what two neighbours become.
+-- Laws of rule L4: what two neighbours become.
 -- Assumes nothing.
 use Prim.Native.Nat.{ℕ, suc, _+_, _*_, _^_, _≤_, _<_}
 use mathlib.Core.Path.{_≡_, refl, sym, _∙_, ap, subst}

@@ -81,7 +81,7 @@ module _ (n : ℕ) (s : ℤ) where
         line-total (omega arith)
         ∙ ap (λ (k : ℕ). record { code = 0; traversal = layoutOf k [] }) e
 
-    -- else rule 3, then rule 1's most
+    -- else rule L3, then rule L1's most
     module _ (z : n ≡ 0 → ⊥) (e : n ≡ 1 → ⊥) where
       pub line-3 : resetFits n s ≡ false → compileOf (n ∷ []) (s ∷ []) ≡ record { code = 3; traversal = emptyLayout }
       line-3 f = code-3 (n ∷ []) (s ∷ []) refl (omega arith) (unfused (n ∷ []) (s ∷ []) n line-total z (line-unfused e f))

@@ -1,4 +1,4 @@
--- Laws of rule 3: when an axis has a reset.
+-- Laws of rule L3: when an axis has a reset.
 -- Assumes nothing.
 use Prim.Native.Nat.{ℕ, _-_, _^_, _≤_, _<_}
 use mathlib.Core.Path.{_≡_, refl, sym, _∙_, ap, subst}

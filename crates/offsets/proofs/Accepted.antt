@@ -62,7 +62,7 @@ pos-of-mul-left : (x y : ℕ) → 0 < x * y → 1 ≤ x
 pos-of-mul-left zero y h = let e = zero-mul y in omega arith
 pos-of-mul-left (suc x) y h = omega arith
 
--- ---- rule 2 keeps the axes and their number of elements
+-- ---- rule L2 keeps the axes and their number of elements
 pub product : List ℕ → ℕ
 product [] = 1
 product (n ∷ ns) = n * product ns
@@ -143,7 +143,7 @@ placed : (xs : List ReduceOuterAxis) → take (length xs) (placesOf xs) ≡ xs
 unfolding placesOf
 placed xs = take-append-seam xs (replicate (PLACES - length xs) noAxis)
 
--- ---- rule 5: the run and the outer axes are the fused axes
+-- ---- rule L5: the run and the outer axes are the fused axes
 no-run : SameElements [] (axisOf 1 (pos 1) ∷ [])
 unfolding Axes axisOf elements offset digits shift resetFits span fitsI64
 no-run =

@@ -13,11 +13,43 @@ use Rattle.offsets.specs.Lists.{totalIn, rangeRefusals, listCode, offset
 use Rattle.offsets.specs.Cases.{LayoutTable, LayoutDeciding}
 
 pub layout-table : LayoutTable
-unfolding fitsI64 eqZ span axisOf resetFits placesOf keptAxes rank precedes insertAxis orderFrom axesOf resetsFit reach joinOf fuseFrom fuse
-    totalFrom totalOf fusedOf layoutOf emptyLayout traversalAt traversalOf firstOf overflows aboveMost compileRefusals layoutBeside compileOf digits shift offset insideValues everyBelow allInside totalIn rangeRefusals listCode offsetsFrom listBuffer
-layout-table = ((refl, refl, refl, refl, refl), (refl, refl), (refl, refl), (refl, refl), (refl, refl), refl, (refl, refl, refl, refl, refl), refl, (refl, refl, refl, refl, refl), refl, refl, (refl, refl, refl, refl, refl), refl, (refl, refl, refl, refl, refl))
+unfolding fitsI64 eqZ span axisOf resetFits placesOf keptAxes rank precedes insertAxis orderFrom axesOf resetsFit reach joinOf fuseFrom fuse totalFrom
+    totalOf fusedOf layoutOf emptyLayout traversalAt traversalOf firstOf overflows aboveMost compileRefusals layoutBeside compileOf digits shift
+    offset insideValues everyBelow allInside totalIn rangeRefusals listCode offsetsFrom listBuffer
+layout-table = (
+  (refl, refl, refl, refl, refl),
+  (refl, refl),
+  (refl, refl),
+  (refl, refl),
+  (refl, refl),
+  refl,
+  (refl, refl, refl, refl, refl),
+  refl,
+  (refl, refl, refl, refl, refl),
+  refl,
+  refl,
+  (refl, refl, refl, refl, refl),
+  refl,
+  (refl, refl, refl, refl, refl),
+)
 
 pub layout-deciding : LayoutDeciding
-unfolding fitsI64 eqZ span axisOf resetFits placesOf keptAxes rank precedes insertAxis orderFrom axesOf resetsFit reach joinOf fuseFrom fuse
-    totalFrom totalOf fusedOf layoutOf emptyLayout traversalAt traversalOf firstOf overflows aboveMost compileRefusals layoutBeside compileOf digits shift offset insideValues everyBelow allInside totalIn rangeRefusals listCode offsetsFrom listBuffer
-layout-deciding = (refl, refl, (refl, refl, refl, refl, refl), (refl, refl, refl, refl, refl), (refl, refl), refl, refl, refl, refl, refl, refl, refl, refl, refl)
+unfolding fitsI64 eqZ span axisOf resetFits placesOf keptAxes rank precedes insertAxis orderFrom axesOf resetsFit reach joinOf fuseFrom fuse totalFrom
+    totalOf fusedOf layoutOf emptyLayout traversalAt traversalOf firstOf overflows aboveMost compileRefusals layoutBeside compileOf digits shift
+    offset insideValues everyBelow allInside totalIn rangeRefusals listCode offsetsFrom listBuffer
+layout-deciding = (
+  refl,
+  refl,
+  (refl, refl, refl, refl, refl),
+  (refl, refl, refl, refl, refl),
+  (refl, refl),
+  refl,
+  refl,
+  refl,
+  refl,
+  refl,
+  refl,
+  refl,
+  refl,
+  refl,
+)

@@ -122,7 +122,7 @@ module _ (ns : List ℕ) (ss : List ℤ) (base : ℤ) (start end len : ℕ) wher
     range-6 h k = range-at 6 (c .after (rangeRefusals ns ss base start end len) ∙ rw (lt-leb end start h, lt-ltb ((compileOf ns ss) .traversal .total) end k))
 
     module _ (h : start < end) (k : end ≤ (compileOf ns ss) .traversal .total) where
-      -- the test over the compiled layout is the test over rule 2's axes
+      -- the test over the compiled layout is the test over rule L2's axes
       tested : (b : Bool)
           → allInside (runOf ((compileOf ns ss) .traversal) ∷ outerOf ((compileOf ns ss) .traversal)) ((compileOf ns ss) .traversal .total) base len ≡ b
           → allInside (axesOf ns ss) ((compileOf ns ss) .traversal .total) base len ≡ b

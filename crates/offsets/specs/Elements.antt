@@ -1,4 +1,5 @@
--- Rule L6, where the elements of a layout lie: element k lies at base plus the sum of digit × stride over the axes, the digits being k in mixed radix, first axis fastest.
+-- Rule L6, where the elements of a layout lie: element k lies at base plus the sum of digit × stride over the axes, the digits being k in
+-- mixed radix, first axis fastest.
 use Prim.Native.Nat.{ℕ, zero, suc, _*_, _/_, _%_, _^_}
 use mathlib.Core.Bool.{Bool, true, _&&_}
 use mathlib.Core.List.{List, [], _∷_}

@@ -38,7 +38,7 @@ nextOffset (a ∷ xs) (d ∷ ds) o = cond (ltb (d + 1) (a .extent)) (o +ℤ a .�
 unfoldable pub advanced : List ReduceOuterAxis → ReduceOuterCursor → ReduceOuterCursor
 advanced xs c = record { «source_offset» = nextOffset xs (c .digits) (c .«source_offset»); digits = nextDigits xs (c .digits) }
 
--- an axis of a compiled layout: it holds its own reset, it is not empty, and rule 3 holds of it
+-- an axis of a compiled layout: it holds its own reset, it is not empty, and rule L3 holds of it
 abbrev pub Axis : ReduceOuterAxis → Type 0
 Axis a = (a ≡ axisOf (a .extent) (a .«source_step»)) × (1 ≤ a .extent) × (resetFits (a .extent) (a .«source_step») ≡ true)
 

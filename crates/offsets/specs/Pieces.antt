@@ -1,4 +1,5 @@
--- Rule A6: a range is cut into pieces before each element number that is a multiple of the run length. A compiled layout has its run and its outer axes as axes.
+-- Rule A6: a range is cut into pieces before each element number that is a multiple of the run length. The axes of a compiled layout are
+-- its run and its outer axes.
 use Prim.Native.Nat.{ℕ, _-_, _%_, min}
 use mathlib.Core.List.{List}
 use lib.ListN.{take}

@@ -1,4 +1,4 @@
--- `layout::axis::checked_reduce_reset` meets its contract: rule 3, check by check.
+-- `layout::axis::checked_reduce_reset` meets its contract: rule L3, check by check.
 -- Assumes nothing.
 use Prim.Native.Nat.{ℕ, _-_}
 use mathlib.Core.Path.{_≡_, sym, _∙_, ap}

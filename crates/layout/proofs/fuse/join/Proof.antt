@@ -1,4 +1,4 @@
--- `layout::fuse::join` meets its contract: rule 4, check by check. A product of sizes past u64 has no reset either.
+-- `layout::fuse::join` meets its contract: rule L4, check by check. A product of sizes past u64 has no reset either.
 -- Assumes nothing.
 use Prim.Native.Nat.{ℕ, _*_}
 use mathlib.Core.Path.{_≡_, sym, _∙_, ap}

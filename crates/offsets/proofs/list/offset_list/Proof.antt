@@ -96,7 +96,7 @@ write-offsets-requires c κs =
 same-length : tie.Need-same-length
 same-length c = search needs
 
--- what was written, over rule 2's axes
+-- what was written, over rule L2's axes
 wrote : (c : tie.After-write-offsets) → let s = c .before .before .before .before .before .before .before .before in
     c .write-offsets .last .1 .1 .1 .1 .0
     ≡ offsetsFrom (axesOf (s .args .sizes .now) (s .args .strides .now)) (s .args .base) (s .args .start) (s .args .end - s .args .start)
