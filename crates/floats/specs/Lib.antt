@@ -1,4 +1,5 @@
 -- The numbers, as the standard and the rules have them. Definitions only.
+pub mod Formats
 pub mod Rounding
 pub mod Product
 pub mod Factor

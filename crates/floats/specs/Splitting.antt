@@ -4,6 +4,7 @@ use mathlib.Core.Bool.{Bool}
 use lib.IntN.{pos, _-ℤ_}
 use lib.Ieee.{Float, binary64, toBits}
 use Rattle.floats.specs.declared.Split.{Split}
+use Rattle.floats.specs.Formats.{f64Format}
 use Rattle.floats.specs.Factor.{Factor}
 use Rattle.floats.specs.Fields.{signField, expField, fraction, pattern, valueOf, badBits, factorOf}
 
@@ -14,12 +15,12 @@ bitsOf x = toBits binary64 x
 -- a rate that no factor stands for: a zero, a subnormal, an infinity or a NaN
 unfoldable pub isBad : Float → Bool
 unfolding badBits
-isBad x = badBits 11 52 (bitsOf x)
+isBad x = badBits (f64Format .w) (f64Format .t) (bitsOf x)
 
 -- the factor of a rate that is not bad
 unfoldable pub rateFactor : Float → Factor
 unfolding factorOf
-rateFactor x = factorOf 11 52 (bitsOf x)
+rateFactor x = factorOf (f64Format .w) (f64Format .t) (bitsOf x)
 
 -- m keeps the sign and the fraction, with the exponent field 1023; e is the field less 1023
 unfoldable pub split : Float → Split

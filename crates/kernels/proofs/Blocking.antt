@@ -21,7 +21,8 @@ use Rattle.accumulator.specs.Joining.{identityAcc}
 use Rattle.kernels.specs.declared.lanes.Lanes.{Lanes}
 use Rattle.kernels.specs.Lanes.{Each, none, more, feed, laneOf, every, some}
 use Rattle.kernels.specs.InnerPlain.{laneTimes, lanes, pieceProduct}
-use Rattle.kernels.specs.Blocks.{startLanes, mOf, eOf, unsplitStep, splitStep, inBounds, renormLane, renorm, unsplit, block, blocks, laneIn, lanesIn}
+use Rattle.kernels.specs.InnerLanes.{inBounds}
+use Rattle.kernels.specs.Blocks.{startLanes, mOf, eOf, unsplitStep, splitStep, renormLane, renorm, unsplit, block, blocks, laneIn, lanesIn}
 use Rattle.kernels.specs.Blocks.{contiguous}
 use Rattle.kernels.specs.Pieces.{GoodRate, accOf}
 use Rattle.kernels.proofs.Feeding.{feed-related, feed-holds, feed-vectors, feed-mark, order-keeps, order-related, every-each, each-map}

@@ -7,7 +7,7 @@ use mathlib.Core.Bool.{Bool, true, false, _||_}
 use mathlib.Core.List.{List, [], _∷_, map, foldl}
 use native.Mathlib.Nat.{add-zero, zero-add, le-refl, le-trans, le-of-eq, add-le-add}
 use native.Mathlib.Omega.{arith}
-use lib.ListN.{length, getD, set, take, replicate, length-set, length-replicate, getD-replicate, length-map}
+use lib.ListN.{length, getD, set, take, replicate, length-set, length-replicate, getD-replicate, length-map, length-append}
 use lib.Seq.{take-all}
 use lib.IntN.{ℤ, pos, natAbs}
 use lib.Dec.{T, lit<}
@@ -28,7 +28,7 @@ use Rattle.kernels.specs.InnerPlain.{laneTimes, lanes, pieceProduct}
 use Rattle.kernels.specs.Stepped.{rateAcc, accAt, laneJoined, steppedLanes, lanesJoined, stepped}
 use Rattle.kernels.specs.InnerStepped.{Sound, SmallAccs, UnitAccs}
 use Rattle.kernels.specs.Blocks.{contiguous}
-use Rattle.kernels.specs.Pieces.{Piece, worked, workedPiece, joinedPieces, rateCount}
+use Rattle.kernels.specs.Pieces.{Piece, worked, workedPiece, joinedPieces, ratesOf}
 use Rattle.kernels.proofs.Feeding.{feed-keeps, order-keeps, each-of}
 use Rattle.kernels.proofs.Factors.{lane-lt, set-cases, NormalLanes, units-normal, lane-normal, piece-normal}
 use Rattle.kernels.proofs.Sizes.{split-size, rate-size, combined-size}
@@ -263,18 +263,19 @@ pub record FullPiece (p : Piece) : Type 0 where
 
 -- pieces joined to one that is within 1034 for each of n values
 joined-near : (n : ℕ) (a : StableProductFloatAcc) → Sound a → natAbs (a .e) ≤ 1034 * n → {ps : List Piece} → Each FullPiece ps
-    → Sound (foldl combined a (map workedPiece ps)) × (natAbs (foldl combined a (map workedPiece ps) .e) ≤ 1034 * (n + rateCount ps))
-unfolding rateCount
+    → Sound (foldl combined a (map workedPiece ps)) × (natAbs (foldl combined a (map workedPiece ps) .e) ≤ 1034 * (n + length (ratesOf ps)))
+unfolding ratesOf
 joined-near n a A h none = (A, le-trans h (omega arith))
 joined-near n a A h (more {x = p} {xs = ps} f fs) =
     let b = workedPiece p in
     let k : natAbs (combined a b .e) ≤ 1034 * (n + length (p .rates)) = le-trans (combined-size a b)
     (let z = worked-size p (f .values) in let y = f .some-rate in omega arith) in
     let r = joined-near (n + length (p .rates)) (combined a b) (combined-sound a b A (worked-sound p (f .values))) k fs in
-    (r .0, le-trans (r .1) (omega arith))
+    (r .0, le-trans (r .1) (omega (arith, length-append (p .rates) (ratesOf ps))))
 
-pub joined-within : {ps : List Piece} → Each FullPiece ps → Sound (joinedPieces ps) × (natAbs (joinedPieces ps .e) ≤ 1034 * rateCount ps)
-unfolding joinedPieces rateCount
+pub joined-within : {ps : List Piece} → Each FullPiece ps → Sound (joinedPieces ps) × (natAbs (joinedPieces ps .e) ≤ 1034 * length (ratesOf ps))
+unfolding joinedPieces ratesOf
 joined-within none = (identity-sound, zero-le)
 joined-within (more {x = p} {xs = ps} f fs) =
-    joined-near (length (p .rates)) (workedPiece p) (worked-sound p (f .values)) (le-trans (worked-size p (f .values)) (let y = f .some-rate in omega arith)) fs
+    let r = joined-near (length (p .rates)) (workedPiece p) (worked-sound p (f .values)) (le-trans (worked-size p (f .values)) (let y = f .some-rate in omega arith)) fs in
+    (r .0, le-trans (r .1) (omega (arith, length-append (p .rates) (ratesOf ps))))

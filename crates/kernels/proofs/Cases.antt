@@ -11,7 +11,8 @@ use Rattle.floats.specs.Fields.{ofParts, valueOf, badBits}
 use Rattle.floats.specs.Splitting.{isBad, split}
 use Rattle.accumulator.specs.Joining.{identityAcc}
 use Rattle.kernels.specs.Lanes.{feed, inOrder, every, some}
-use Rattle.kernels.specs.Blocks.{unsplitStep, splitStep, inRange, inBounds, renormLane, renorm, unsplit, block, blocks, laneIn, lanesIn, contiguous}
+use Rattle.kernels.specs.InnerLanes.{inBounds}
+use Rattle.kernels.specs.Blocks.{unsplitStep, splitStep, inRange, renormLane, renorm, unsplit, block, blocks, laneIn, lanesIn, contiguous}
 
 -- the bounds of a block: 2^120 is in, the next double above is not; likewise 2^-120 and the next below
 pub bound-in : inBounds (fin true 1 (pos 120)) ≡ true

@@ -6,6 +6,7 @@ use lib.ListN.{length, getD, set, take, drop, replicate}
 use lib.IntN.{ℤ, pos, _+ℤ_}
 use lib.Dec.{leb}
 use lib.Ieee.{Float, nan, inf, fin, up, down, isNan}
+use Rattle.floats.specs.Formats.{f64Format}
 use Rattle.floats.specs.Product.{productOf}
 use Rattle.floats.specs.Splitting.{split}
 use Rattle.accumulator.specs.declared.StableProductFloatAcc.{StableProductFloatAcc}
@@ -39,10 +40,6 @@ inRange B nan = false
 inRange B (inf s) = false
 inRange B (fin s m e) = leb (down e) (m * up e * 2 ^ B) && leb (m * up e) (2 ^ B * down e)
 
--- the bounds of a block of f64
-abbrev pub inBounds : Float → Bool
-inBounds x = inRange 120 x
-
 -- Lane k is brought back to [1, 2), and what that takes goes to its exponent (`stable_renorm`).
 unfoldable pub renormLane : ℕ → Lanes → Lanes
 renormLane k s =
@@ -54,15 +51,19 @@ renorm s = inOrder renormLane 8 s
 
 -- A block is multiplied unsplit exactly if every magnitude lies in the bounds and no tentative lane is NaN; otherwise each value is split.
 unfoldable pub unsplit : Lanes → List Float → Bool
-unsplit s xs = every inBounds xs && not (some isNan (feed unsplitStep 0 s xs .m))
+unsplit s xs = every (inRange (f64Format .bound)) xs && not (some isNan (feed unsplitStep 0 s xs .m))
 
 unfoldable pub block : Lanes → List Float → Lanes
 block s xs = renorm (cond (unsplit s xs) (feed unsplitStep 0 s xs) (feed splitStep 0 s xs))
 
+-- the values of a block: 64
+abbrev pub blockLength : ℕ
+blockLength = 8 * f64Format .each
+
 -- n blocks of 64, and then the values that are left, split
 unfoldable pub blocks : ℕ → Lanes → List Float → Lanes
 blocks zero s xs = renorm (feed splitStep 0 s xs)
-blocks (suc n) s xs = blocks n (block s (take 64 xs)) (drop 64 xs)
+blocks (suc n) s xs = blocks n (block s (take blockLength xs)) (drop blockLength xs)
 
 -- the product so far times lane k, brought back likewise
 unfoldable pub laneIn : Lanes → ℕ → StableProductFloatAcc → StableProductFloatAcc
@@ -75,4 +76,4 @@ unfoldable pub lanesIn : Lanes → StableProductFloatAcc
 lanesIn s = inOrder (laneIn s) 8 (record { m = identityAcc .m; e = identityAcc .e; bad = s .bad })
 
 unfoldable pub contiguous : List Float → StableProductFloatAcc
-contiguous xs = lanesIn (blocks (length xs / 64) startLanes xs)
+contiguous xs = lanesIn (blocks (length xs / blockLength) startLanes xs)

@@ -1,7 +1,7 @@
 -- Inner: what it is for a float and an exponent, or for eight lanes of them, to represent factors of the whole-number rule (W1), whatever way they came.
 use Prim.Native.Nat.{ℕ, _≤_, _<_}
 use mathlib.Core.List.{List, map}
-use mathlib.Core.Bool.{_||_}
+use mathlib.Core.Bool.{Bool, _||_}
 use lib.ListN.{length, getD, take, drop}
 use lib.IntN.{ℤ, pos, natAbs, _+ℤ_}
 use lib.Ieee.{Float, nan}
@@ -12,7 +12,12 @@ use Rattle.kernels.specs.Lanes.{feed, some}
 use Rattle.floats.specs.Factor.{Factor, Normalised, unit, floatOf}
 use Rattle.floats.specs.Magnitude.{withExponent}
 use Rattle.kernels.specs.InnerPlain.{laneTimes}
-use Rattle.kernels.specs.Blocks.{eOf}
+use Rattle.kernels.specs.Blocks.{eOf, inRange}
+use Rattle.floats.specs.Formats.{f64Format}
+
+-- the bounds of a block of f64
+abbrev pub inBounds : Float → Bool
+inBounds = inRange (f64Format .bound)
 
 -- no lane's exponent is past n, either way
 pub record SmallLanes (n : ℕ) (s : Lanes) : Type 0 where

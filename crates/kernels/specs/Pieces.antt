@@ -1,8 +1,8 @@
 -- Rules A6 and W2, whole lists of pieces: each piece worked in one of the two ways, the results joined left to right.
-use Prim.Native.Nat.{ℕ, _+_, _^_, _≤_, _<_}
+use Prim.Native.Nat.{ℕ, _^_, _≤_, _<_}
 use lib.ListN.{length}
 use mathlib.Core.Path.{_≡_}
-use mathlib.Core.List.{List, [], _∷_, map, foldl}
+use mathlib.Core.List.{List, [], _∷_, _++_, map, foldl}
 use mathlib.Core.Bool.{Bool, false, cond}
 use lib.IntN.{pos}
 use lib.Dec.{T}
@@ -38,10 +38,10 @@ unfoldable pub joinedPieces : List Piece → StableProductFloatAcc
 joinedPieces [] = identityAcc
 joinedPieces (p ∷ ps) = foldl combined (workedPiece p) (map workedPiece ps)
 
--- how many rates the pieces have together
-unfoldable pub rateCount : List Piece → ℕ
-rateCount [] = 0
-rateCount (p ∷ ps) = length (p .rates) + rateCount ps
+-- the pieces' rates, one after another
+unfoldable pub ratesOf : List Piece → List Float
+ratesOf [] = []
+ratesOf (p ∷ ps) = p .rates ++ ratesOf ps
 
 -- the lists that the plain product is for: at least one piece, each of at least one rate, all together at most 2^40, no rate bad
 pub record GoodPiece (p : Piece) : Type 0 where
@@ -51,7 +51,7 @@ pub record GoodPiece (p : Piece) : Type 0 where
 pub record Admitted (ps : List Piece) : Type 0 where
   pub some-piece : 0 < length ps
   pub pieces : Each GoodPiece ps
-  pub few : rateCount ps ≤ 2 ^ 40
+  pub few : length (ratesOf ps) ≤ 2 ^ 40
 
 -- what the plain product is fed: the rates' bit patterns, and nothing else
 abbrev pub patternsOf : List Piece → List (List ℕ)

@@ -51,5 +51,4 @@ layout-deciding = (
   refl,
   refl,
   refl,
-  refl,
 )

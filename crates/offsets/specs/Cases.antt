@@ -45,5 +45,4 @@ LayoutDeciding =
     Refuses (3 ∷ 2 ∷ []) (pos (2 ^ 61) ∷ pos (3 * 2 ^ 61) ∷ []) 3 × Refuses (replicate 9 1) (replicate 9 (pos 1)) 2
     × Compiles (replicate 8 1) (replicate 8 (pos 1)) 1 1 (pos 1) 0 × Compiles (2 ∷ 2 ∷ []) (pos 3 ∷ negsuc 1 ∷ []) 4 2 (negsuc 1) 1
     × Lists (2 ∷ 2 ∷ []) (pos 3 ∷ pos 2 ∷ []) (pos 0) 4 6 0 (pos 0 ∷ pos 2 ∷ pos 3 ∷ pos 5 ∷ replicate 3 (pos 7))
-    × Codes 2 2 3 7 5 × Codes 3 2 3 7 5 × Codes 0 4 3 7 6 × Codes 0 3 3 2 8 × Codes 0 3 3 3 0 × Codes 2 3 3 1 0
-    × Codes 5 5 0 0 5 × Codes 0 4 0 0 6 × Codes 0 3 2 2 7
+    × Codes 2 2 3 7 5 × Codes 3 2 3 7 5 × Codes 0 4 3 7 6 × Codes 0 3 3 2 8 × Codes 0 3 3 3 0 × Codes 5 5 0 0 5 × Codes 0 4 0 0 6 × Codes 0 3 2 2 7

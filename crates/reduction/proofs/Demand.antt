@@ -21,12 +21,12 @@ use Rattle.offsets.proofs.Walking.{len-pos, len-end}
 use Rattle.offsets.proofs.Writing.{offsets-append, length-offsets}
 use Rattle.kernels.specs.Lanes.{Each, none, more, some}
 use Rattle.kernels.specs.Plain.{plainProduct}
-use Rattle.kernels.specs.Pieces.{Piece, joinedPieces, rateCount, GoodPiece, patternsOf, accOf}
+use Rattle.kernels.specs.Pieces.{Piece, joinedPieces, GoodPiece, patternsOf, accOf, ratesOf}
 use Rattle.kernels.proofs.Feeding.{each-map, some-append, neither}
 use Rattle.kernels.proofs.Blocking.{each-rate}
 use Rattle.kernels.proofs.Bounded.{ValuePiece, FullPiece, joined-within}
 use Rattle.kernels.proofs.Agreement.{agreement, badPiece, joined-mark}
-use Rattle.reduction.specs.Ranges.{valueAt, ratesFrom, pieceAt, piecesFrom, piecesOf, ratesOf}
+use Rattle.reduction.specs.Ranges.{valueAt, ratesFrom, pieceAt, piecesFrom, piecesOf}
 
 -- ---- lists of rates
 good-pieces : {ps : List Piece} → Each FullPiece ps → some badPiece ps ≡ false → Each GoodPiece ps
@@ -42,8 +42,8 @@ unfolding ratesOf some
 bad-rates [] = refl
 bad-rates (p ∷ ps) = ap (λ (x : Bool). some isBad (p .rates) || x) (bad-rates ps) ∙ sym (some-append isBad (p .rates) (ratesOf ps))
 
-none-counted : 0 < rateCount [] → ⊥
-unfolding rateCount
+none-counted : 0 < length (ratesOf []) → ⊥
+unfolding ratesOf
 none-counted z = omega arith
 
 module _ (values : List Float) (v : Each (λ (x : Float). T (fits binary64 x)) values) where
@@ -78,25 +78,6 @@ module _ (l : FullTraversal) (t : Traversal l) (base : ℤ) (b : Bounded (runOf 
             some-rate = rw (length-rates k (pieceLength (l .«run_len») end k)) (len-pos l t base b k end (ltb-true k end e));
             values = rates-fit values v (offsetsFrom (runOf l ∷ outerOf l) base k (pieceLength (l .«run_len») end k));
           }) f
-
-  -- together they have the range's elements
-  counted : (n k : ℕ) → k ≤ end → end ≤ k + n → rateCount (piecesFrom l base values end n k) ≡ end - k
-  unfolding piecesFrom rateCount
-  counted zero k h g = omega arith
-  counted (suc n) k h g = go (ltb k end) refl (counted n (k + pieceLength (l .«run_len») end k))
-    where
-      go : (x : Bool) → ltb k end ≡ x
-          → (k + pieceLength (l .«run_len») end k ≤ end → end ≤ k + pieceLength (l .«run_len») end k + n
-          → rateCount (piecesFrom l base values end n (k + pieceLength (l .«run_len») end k)) ≡ end - (k + pieceLength (l .«run_len») end k))
-          → rateCount (cond x (pieceAt l base values end k ∷ piecesFrom l base values end n (k + pieceLength (l .«run_len») end k)) []) ≡ end - k
-      go false e f = let z = ltb-false k end e in omega arith
-      go true e f =
-          let z = ltb-true k end e in
-          let p = len-pos l t base b k end z in
-          let q = len-end l t base b k end z in
-          let r = f q (omega arith) in
-          let c = length-rates k (pieceLength (l .«run_len») end k) in
-          omega arith
 
   -- a piece's rates, and those after it
   joined : (k m : ℕ) → k + m ≤ end → ratesFrom l base values k m ++ ratesFrom l base values (k + m) (end - (k + m)) ≡ ratesFrom l base values k (end - k)
@@ -141,12 +122,13 @@ module _ (l : FullTraversal) (t : Traversal l) (base : ℤ) (b : Bounded (runOf 
     full : Each FullPiece (piecesOf l base values start end)
     full = full-pieces (end - start) start
 
-    count : rateCount (piecesOf l base values start end) ≡ end - start
-    count = counted (end - start) start (omega arith) (omega arith)
-
     -- the pieces' rates, one after another, are the range's
     pub range-rates : ratesOf (piecesOf l base values start end) ≡ ratesFrom l base values start (end - start)
     range-rates = visited (end - start) start (omega arith) (omega arith)
+
+    -- so they are as many as the range's elements
+    count : length (ratesOf (piecesOf l base values start end)) ≡ end - start
+    count = ap length range-rates ∙ length-rates start (end - start)
 
     bad-visited : some badPiece (piecesOf l base values start end) ≡ some isBad (ratesFrom l base values start (end - start))
     bad-visited = bad-rates (piecesOf l base values start end) ∙ ap (some isBad) range-rates
@@ -174,6 +156,6 @@ module _ (l : FullTraversal) (t : Traversal l) (base : ℤ) (b : Bounded (runOf 
           few = omega (arith, count);
         })
       where
-        nonempty : (ps : List Piece) → 0 < rateCount ps → 0 < length ps
+        nonempty : (ps : List Piece) → 0 < length (ratesOf ps) → 0 < length ps
         nonempty [] z = absurd (none-counted z)
         nonempty (p ∷ ps) z = omega arith

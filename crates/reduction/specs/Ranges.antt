@@ -1,7 +1,7 @@
 -- Rules A6 and C3: the pieces of a range with their rates, and the full reduction.
 use Prim.Native.Nat.{ℕ, zero, suc, _+_, _-_}
 use mathlib.Core.Bool.{cond}
-use mathlib.Core.List.{List, [], _∷_, _++_, map}
+use mathlib.Core.List.{List, [], _∷_, map}
 use lib.ListN.{length, getD}
 use lib.Dec.{ltb, eqb}
 use lib.IntN.{ℤ, pos, natAbs}
@@ -37,11 +37,6 @@ piecesFrom l base values end (suc n) k =
 -- the pieces of a range: it has no more of them than elements
 abbrev pub piecesOf : FullTraversal → ℤ → List Float → ℕ → ℕ → List Piece
 piecesOf l base values start end = piecesFrom l base values end (end - start) start
-
--- the pieces' rates, one after another
-unfoldable pub ratesOf : List Piece → List Float
-ratesOf [] = []
-ratesOf (p ∷ ps) = p .rates ++ ratesOf ps
 
 -- the rates that a range visits: element k lies where the axes of rule L2 put it (rule L6)
 abbrev pub visitedRates : List ℕ → List ℤ → ℤ → ℕ → ℕ → List Float → List Float

@@ -17,10 +17,10 @@ use Rattle.accumulator.specs.declared.Reduced.the-variants.{Acc}
 use Rattle.accumulator.specs.Joining.{answerOf, factorOfAcc}
 use Rattle.kernels.specs.Lanes.{Each, some}
 use Rattle.kernels.specs.Plain.{plainProduct}
-use Rattle.kernels.specs.Pieces.{patternsOf, accOf}
+use Rattle.kernels.specs.Pieces.{patternsOf, accOf, ratesOf}
 use Rattle.finishing.specs.Once.{roundedOnce}
 use Rattle.finishing.specs.Finishing.{value, finishedOf}
-use Rattle.reduction.specs.Ranges.{piecesOf, ratesOf, visitedRates, rangeProduct, reduceOf}
+use Rattle.reduction.specs.Ranges.{piecesOf, visitedRates, rangeProduct, reduceOf}
 
 -- what rule D3 says of the answer `a` to a range
 pub record RuleD3 (ns : List ℕ) (ss : List ℤ) (base : ℤ) (start end : ℕ) (values : List Float) (a : StableProductFloatAcc) : Type 0 where
