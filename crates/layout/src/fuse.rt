@@ -18,7 +18,7 @@ pub enum Joined {
 }
 
 // What two neighbours become.
-fn join(a: ReduceOuterAxis, b: ReduceOuterAxis) -> Joined
+fn join_axes(a: ReduceOuterAxis, b: ReduceOuterAxis) -> Joined
     ensures { λ r. ⌜ r ≡ joinOf a b ⌝ }
 {
     let reach = integers::checked_mul_i64(a.source_step, a.extent);
@@ -57,7 +57,7 @@ fn fuse_next(f: Fusing, b: ReduceOuterAxis) -> Fusing
 {
     let done = f.done;
     let a = f.last;
-    let j = join(a, b);
+    let j = join_axes(a, b);
     match j {
         Joined::One(c) => Fusing {
             ok: true,

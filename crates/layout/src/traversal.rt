@@ -12,7 +12,7 @@ use crate::axis::ReduceOuterAxis;
 use integers::CheckedU64;
 
 // The largest total that is accepted.
-pub const MOST: u64 = 0x100_0000_0000;
+pub const MOST_ELEMENTS: u64 = 0x100_0000_0000;
 
 pub struct FullTraversal {
     pub total: u64,
@@ -156,7 +156,7 @@ fn compile_line(size: u64, stride: i64) -> Compiled
     if !reset.ok {
         return refused(refusals::OFFSET_OVERFLOW);
     }
-    if MOST < size {
+    if MOST_ELEMENTS < size {
         return refused(refusals::TOO_MANY_ELEMENTS);
     }
     one_run(size, stride)
@@ -191,7 +191,7 @@ impl FullTraversal {
         if !fused.ok {
             return refused(refusals::OFFSET_OVERFLOW);
         }
-        if MOST < t {
+        if MOST_ELEMENTS < t {
             return refused(refusals::TOO_MANY_ELEMENTS);
         }
         Compiled {

@@ -13,7 +13,7 @@ use text::word::ReadU64;
 // How many sizes, strides and places of a buffer a line may have.
 const AXES: usize = 32;
 
-const PLACES: usize = 4096;
+const BUFFER_PLACES: usize = 4096;
 
 pub fn malformed(out: &mut [u8]) -> usize
     requires { ⌜ 131072 ≤ length (now out) ⌝ }
@@ -29,7 +29,7 @@ pub fn answer(line: &[u8], out: &mut [u8]) -> usize
 {
     let end = text::word::find(line, 0, b' ');
     if check::same(&line[..end], b"join") {
-        return answer_reduced(crate::product::joined(line, end + 1), &mut *out);
+        return answer_reduced(crate::product::read_join(line, end + 1), &mut *out);
     }
     if check::same(&line[..end], b"finish") {
         return answer_finished(crate::product::given(line, end + 1), &mut *out);
@@ -95,10 +95,16 @@ fn answer_layout(
         return answer_list(sizes, strides, line, at, &mut *out);
     }
     if check::same(call, b"reduce") {
-        return answer_reduced(crate::product::reduced(sizes, strides, line, at), &mut *out);
+        return answer_reduced(
+            crate::product::read_reduce(sizes, strides, line, at),
+            &mut *out,
+        );
     }
     if check::same(call, b"product") {
-        return answer_finished(crate::product::reduced(sizes, strides, line, at), &mut *out);
+        return answer_finished(
+            crate::product::read_reduce(sizes, strides, line, at),
+            &mut *out,
+        );
     }
     malformed(&mut *out)
 }
@@ -189,7 +195,7 @@ fn answer_places(
     requires { ⌜ 131072 ≤ length (now out) ⌝ }
     ensures { λ r. ⌜ r ≤ 131072 ⌝ }
 {
-    let mut places = [0i64; PLACES];
+    let mut places = [0i64; BUFFER_PLACES];
     let b = text::word::read_i64s(line, at, &mut places);
     if !b.ok {
         return malformed(&mut *out);

@@ -16,7 +16,7 @@ pub enum ReadReduced {
 }
 
 // Two accumulators, joined.
-pub fn joined(line: &[u8], at: usize) -> ReadReduced {
+pub fn read_join(line: &[u8], at: usize) -> ReadReduced {
     let ReadAcc::Is(a, to_b) = crate::acc::read_acc(line, at) else {
         return ReadReduced::Malformed;
     };
@@ -30,7 +30,7 @@ pub fn joined(line: &[u8], at: usize) -> ReadReduced {
 }
 
 // A range and its values, reduced.
-pub fn reduced(sizes: &[u64], strides: &[i64], line: &[u8], at: usize) -> ReadReduced {
+pub fn read_reduce(sizes: &[u64], strides: &[i64], line: &[u8], at: usize) -> ReadReduced {
     let mut values = [0.0; VALUES];
     let ReadRange::Is(r, to_values) = crate::range::read_range(line, at) else {
         return ReadReduced::Malformed;

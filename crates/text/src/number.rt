@@ -13,10 +13,6 @@ pub enum ParsedI64 {
     Malformed,
 }
 
-const U64_MAX: u64 = 0xffff_ffff_ffff_ffff;
-
-const I64_MAX: u64 = 0x7fff_ffff_ffff_ffff;
-
 // The value of a digit: 0 to 9, and a to f for 10 to 15.
 fn digit_of(byte: u8) -> ParsedU64
     ensures { λ r. ⌜ r ≡ digitOf byte ⌝ }
@@ -47,7 +43,7 @@ fn with_digit(base: u64, n: u64, byte: u8) -> ParsedU64
     if base <= digit {
         return ParsedU64::Malformed;
     }
-    if (U64_MAX - digit) / base < n {
+    if (integers::U64_MAX - digit) / base < n {
         return ParsedU64::Malformed;
     }
     ParsedU64::Is(n * base + digit)
@@ -95,7 +91,7 @@ pub fn parse_u64(word: &[u8]) -> ParsedU64
 fn from_positive(n: u64) -> ParsedI64
     ensures { λ r. ⌜ r ≡ positive (ParsedU64.Is n) ⌝ }
 {
-    if I64_MAX < n {
+    if integers::I64_MAX < n {
         return ParsedI64::Malformed;
     }
     ParsedI64::Is(n as i64)
@@ -107,10 +103,10 @@ fn from_negative(n: u64) -> ParsedI64
     if n == 0 {
         return ParsedI64::Malformed;
     }
-    if n <= I64_MAX {
+    if n <= integers::I64_MAX {
         return ParsedI64::Is(0 - (n as i64));
     }
-    if n == I64_MAX + 1 {
+    if n == integers::I64_MAX + 1 {
         return ParsedI64::Is(-0x8000_0000_0000_0000);
     }
     ParsedI64::Malformed

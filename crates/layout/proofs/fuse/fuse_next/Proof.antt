@@ -15,10 +15,10 @@ use Rattle.layout.proofs.fuse.fuse_next.Lts as lts
 use Rattle.layout.proofs.axis.no_axes.Reads as no-axes-reads
 use Rattle.layout.proofs.axis.no_axis.Reads as no-axis-reads
 use Rattle.layout.proofs.axis.push.Reads as push-reads
-use Rattle.layout.proofs.fuse.join.Reads as join-reads
+use Rattle.layout.proofs.fuse.join_axes.Reads as join-axes-reads
 
-join-requires : tie.Need-join-requires
-join-requires c κs = search needs
+join-axes-requires : tie.Need-join-axes-requires
+join-axes-requires c κs = search needs
 
 enum-known-j : tie.Need-enum-known-j
 enum-known-j c = search needs
@@ -43,7 +43,7 @@ unfolding nextOf nextFrom
 returns c =
     let s = c .before .before .before .before .before .before in
     ap (λ (t : AxisTable). record { ok = true; done = t; last = c .before .j .given .0 .0 }) (s .pre .0 .0)
-    ∙ ap (nextFrom (tableAxes (s .args .f .done)) (s .args .f .last) (s .args .b)) (sym (c .before .j .given .1) ∙ c .before .before .before .join .ensures)
+    ∙ ap (nextFrom (tableAxes (s .args .f .done)) (s .args .f .last) (s .args .b)) (sym (c .before .j .given .1) ∙ c .before .before .before .join-axes .ensures)
 
 returns-2 : tie.Need-returns-2
 unfolding nextOf nextFrom
@@ -51,7 +51,7 @@ returns-2 c =
     let s = c .before .before .before .before .before .before in
     ap (λ (t : AxisTable). record { ok = true; done = t; last = s .args .b }) (c .push .ensures)
     ∙ ap (nextFrom (tableAxes (s .args .f .done)) (s .args .f .last) (s .args .b))
-    (sym (c .before .enum-told .given .1) ∙ c .before .before .before .join .ensures)
+    (sym (c .before .enum-told .given .1) ∙ c .before .before .before .join-axes .ensures)
 
 returns-3 : tie.Need-returns-3
 unfolding nextOf nextFrom
@@ -60,13 +60,13 @@ returns-3 c =
     ap (λ (t : AxisTable). record { ok = false; done = t; last = c .no-axis .result }) (c .before .no-axes .ensures)
     ∙ ap (λ (a : ReduceOuterAxis). record { ok = false; done = tableOf []; last = a }) (c .no-axis .ensures)
     ∙ ap (nextFrom (tableAxes (s .args .f .done)) (s .args .f .last) (s .args .b))
-    (sym (c .before .before .enum-told2 .given .1) ∙ c .before .before .before .before .join .ensures)
+    (sym (c .before .before .enum-told2 .given .1) ∙ c .before .before .before .before .join-axes .ensures)
 
 pub fuse-next-spec : {M : Type 1} → statement M
 fuse-next-spec =
     tie.close
     (tie.spec
-    join-requires
+    join-axes-requires
     enum-known-j
     enum-told
     push-requires

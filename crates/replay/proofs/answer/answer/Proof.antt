@@ -20,8 +20,8 @@ same-requires c κs = search needs
 add-joined : tie.Need-add-joined
 add-joined c = search needs
 
-joined-requires : tie.Need-joined-requires
-joined-requires c κs = search needs
+read-join-requires : tie.Need-read-join-requires
+read-join-requires c κs = search needs
 
 answer-reduced-requires : tie.Need-answer-reduced-requires
 answer-reduced-requires c κs = search needs
@@ -80,7 +80,7 @@ answer-spec =
     slice-aggregate-same-2
     same-requires
     add-joined
-    joined-requires
+    read-join-requires
     answer-reduced-requires
     same-length
     returns

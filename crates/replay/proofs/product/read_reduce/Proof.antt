@@ -1,9 +1,9 @@
--- `replay::product::reduced` meets its contract. The count that was read lies within the array.
+-- `replay::product::read_reduce` meets its contract. The count that was read lies within the array.
 -- Assumes nothing.
 use borrow.Author.Needs.{needs}
 use Rattle.replay.proofs.Parts.{counts}
-use Rattle.replay.proofs.product.reduced.Statement.{statement}
-use Rattle.replay.proofs.product.reduced.Tie as tie
+use Rattle.replay.proofs.product.read_reduce.Statement.{statement}
+use Rattle.replay.proofs.product.read_reduce.Tie as tie
 
 read-range-requires : tie.Need-read-range-requires
 read-range-requires c κs = search needs
@@ -44,8 +44,8 @@ reduce-requires c κs = search needs
 returns-4 : tie.Need-returns-4
 returns-4 c = search needs
 
-pub reduced-spec : {M : Type 1} → statement M
-reduced-spec =
+pub read-reduce-spec : {M : Type 1} → statement M
+read-reduce-spec =
     tie.close
     (tie.spec
     read-range-requires

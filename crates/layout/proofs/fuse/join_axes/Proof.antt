@@ -1,4 +1,4 @@
--- `layout::fuse::join` meets its contract: rule L4, check by check. A product of sizes past u64 has no reset either.
+-- `layout::fuse::join_axes` meets its contract: rule L4, check by check. A product of sizes past u64 has no reset either.
 -- Assumes nothing.
 use Prim.Native.Nat.{ℕ, _*_}
 use mathlib.Core.Path.{_≡_, sym, _∙_, ap}
@@ -18,8 +18,8 @@ use Rattle.layout.specs.Axes.{axisOf, span, resetFits}
 use Rattle.layout.specs.Fuse.{reach}
 use Rattle.layout.proofs.Resets.{reset-ok, reset-not-ok}
 use Rattle.layout.proofs.Fusing.{join-over, join-two, join-no-reset, join-large, join-one}
-use Rattle.layout.proofs.fuse.join.Statement.{statement}
-use Rattle.layout.proofs.fuse.join.Tie as tie
+use Rattle.layout.proofs.fuse.join_axes.Statement.{statement}
+use Rattle.layout.proofs.fuse.join_axes.Tie as tie
 
 checked-mul-i64-requires : tie.Need-checked-mul-i64-requires
 checked-mul-i64-requires c κs = search needs
@@ -114,8 +114,8 @@ returns-5 c =
     let n = narrowU64-ok _ _ (m .checked-mul-u64 .ensures) (not-false _ (r .before .before .if3 .left)) .0 in
     simp (toZ-ofZ f, toZ-ofZ g) (made _ _ _ _ n (k .1) ∙ sym (join-one (s .args .a) (s .args .b) (fitting e .1) (meet (m .before)) (k .0)))
 
-pub join-spec : {M : Type 1} → statement M
-join-spec =
+pub join-axes-spec : {M : Type 1} → statement M
+join-axes-spec =
     tie.close
     (tie.spec
     checked-mul-i64-requires
