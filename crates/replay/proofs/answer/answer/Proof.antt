@@ -17,8 +17,8 @@ slice-aggregate-same-2 c = search needs
 same-requires : tie.Need-same-requires
 same-requires c κs = search needs
 
-add-joined : tie.Need-add-joined
-add-joined c = search needs
+add-read-join : tie.Need-add-read-join
+add-read-join c = search needs
 
 read-join-requires : tie.Need-read-join-requires
 read-join-requires c κs = search needs
@@ -79,7 +79,7 @@ answer-spec =
     slice-aggregate-same
     slice-aggregate-same-2
     same-requires
-    add-joined
+    add-read-join
     read-join-requires
     answer-reduced-requires
     same-length
