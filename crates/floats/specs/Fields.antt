@@ -1,4 +1,4 @@
--- IEEE 754-2019, 3.4: the fields of a bit pattern, for an exponent field of w bits and a trailing significand field (the fraction) of t bits. Definitions only.
+-- For rule A2, IEEE 754-2019, 3.4: the fields of a bit pattern, for an exponent field of w bits and a trailing significand field (the fraction) of t bits.
 -- From the highest: the sign S, the exponent field E, the fraction T. binary64 is w = 11, t = 52.
 use Prim.Native.Nat.{ℕ, zero, suc, _+_, _-_, _*_, _/_, _%_, _^_}
 use mathlib.Core.Bool.{Bool, cond, _||_}

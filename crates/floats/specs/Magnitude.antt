@@ -1,4 +1,4 @@
--- The size of a float, in whole numbers: of ±m × 2^e it is the fraction m × up e / down e. Definitions only.
+-- For rules A1, A3 and W1, the size of a float, in whole numbers: of ±m × 2^e it is the fraction m × up e / down e.
 use Prim.Native.Nat.{ℕ, _*_, _/_, _^_}
 use mathlib.Core.Bool.{Bool, true, false, _&&_}
 use lib.Dec.{leb, ltb}

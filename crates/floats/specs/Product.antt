@@ -1,4 +1,4 @@
--- The product of IEEE 754-2019 for a binary format of precision p and largest exponent emax. Definitions only, total.
+-- Rule D2, the product of IEEE 754-2019 for a binary format of precision p and largest exponent emax. Definitions only, total.
 use Prim.Native.Nat.{ℕ, zero, suc, _+_, _-_, _*_, _^_}
 use mathlib.Core.Bool.{Bool, true, false, not}
 use lib.IntN.{pos, _+ℤ_}

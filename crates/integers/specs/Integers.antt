@@ -1,4 +1,4 @@
--- Whole numbers of the machine: which fit i64, and when two are equal.
+-- For rules L3 and L4, whole numbers of the machine: which fit i64, and when two are equal.
 use Prim.Native.Nat.{_^_}
 use mathlib.Core.Bool.{Bool, false}
 use lib.Dec.{ltb, eqb}

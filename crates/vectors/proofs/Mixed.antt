@@ -34,21 +34,21 @@ use Rattle.vectors.proofs.Waiting.{LostLane, lost-stays, Guarded, Out, 
 use Rattle.vectors.proofs.Lows.{Hit, vector-low}
 
 -- the lanes after i values
-abbrev Held : ℕ → Lanes → List Factor → Type 0
-Held i t fs = Out i (t .m) (t .e) fs
+abbrev LanesOut : ℕ → Lanes → List Factor → Type 0
+LanesOut i t fs = Out i (t .m) (t .e) fs
 
 -- the mark is that of the values, or a lane is lost and not all are split
 abbrev Marked : Bool → Lanes → List Float → Lanes → Type 0
 Marked all s xs t = (t .bad ≡ (s .bad || some isBad xs)) ⊎ (LostLane (t .m) × (all ≡ false))
 
 -- ---- values that are split
-split-held : (i : ℕ) (s : Lanes) (fs : List Factor) (x : Float) → i < 512 → Value x → Held i s fs
-    → Held (suc i) (splitStep i s x) (laneTimes 52 i fs (rateFactor x))
+split-out : (i : ℕ) (s : Lanes) (fs : List Factor) (x : Float) → i < 512 → Value x → LanesOut i s fs
+    → LanesOut (suc i) (splitStep i s x) (laneTimes 52 i fs (rateFactor x))
 unfolding splitStep
-split-held i s fs x l v (inl h) =
+split-out i s fs x l v (inl h) =
     value-out i (s .m) (s .e) fs (split x .m) (split x .e) (rateFactor x) l
     (waits-more 0 15 (split x .m) (split x .e) (rateFactor x) zero-le (represents-waits (split x .m) (split x .e) (rateFactor x) (represents-rate x))) h
-split-held i s fs x l v (inr p) = inr (lost-stays (s .m) (laneOf i) (lane-lt i) (split x .m) p)
+split-out i s fs x l v (inr p) = inr (lost-stays (s .m) (laneOf i) (lane-lt i) (split x .m) p)
 
 split-lost : (i : ℕ) (s : Lanes) (xs : List Float) → LostLane (s .m) → LostLane (feed splitStep i s xs .m)
 unfolding splitStep
@@ -56,10 +56,10 @@ split-lost = feed-holds splitStep (λ (s : Lanes). LostLane (s .m)) (λ i s x. l
 
 -- ---- values that are not
 module _ (i : ℕ) (s : Lanes) where
-  unsplit-held : (fs : List Factor) {xs : List Float} → Each Guarded xs → i + length xs ≤ 512 → Held i s fs
-      → Held (i + length xs) (feed unsplitStep i s xs) (feed (laneTimes 52) i fs (map rateFactor xs))
+  unsplit-out : (fs : List Factor) {xs : List Float} → Each Guarded xs → i + length xs ≤ 512 → LanesOut i s fs
+      → LanesOut (i + length xs) (feed unsplitStep i s xs) (feed (laneTimes 52) i fs (map rateFactor xs))
   unfolding unsplitStep
-  unsplit-held = fed-out unsplitStep (λ (s : Lanes). s .m) (λ (s : Lanes). s .e) (λ i s x. refl) (λ i s x. refl) i s
+  unsplit-out = fed-out unsplitStep (λ (s : Lanes). s .m) (λ (s : Lanes). s .e) (λ i s x. refl) (λ i s x. refl) i s
 
   unsplit-good : {xs : List Float} → length (s .m) ≡ 8 → Each Guarded xs → Each GoodRate xs ⊎ LostLane (feed unsplitStep i s xs .m)
   unfolding unsplitStep
@@ -129,13 +129,13 @@ module _ (i : ℕ) (t : Lanes) (gs : List Factor) (vector : List Float) (eight :
       shifted (λ (n : ℕ). LanesRepresent (depth 1 n)) splitStep split-again
       (feed-related splitStep (laneTimes 52) rateFactor Value (λ (n : ℕ). LanesRepresent (depth 1 n)) 512 split-more (8 * i) t gs v within h)
 
-  vector-held : (all : Bool) → length (t .m) ≡ 8 → Held (8 * i) t gs → Held (8 * suc i) (guarded all t vector) (plainAfter gs vector)
-  vector-held all long h =
-      guarded-by all t vector (λ (u : Lanes). Held (8 * suc i) u (plainAfter gs vector)) (λ a e. low (vector-low vector eight v e))
-      (shifted Held splitStep split-again (feed-related splitStep (laneTimes 52) rateFactor Value Held 512 split-held (8 * i) t gs v within h))
+  vector-out : (all : Bool) → length (t .m) ≡ 8 → LanesOut (8 * i) t gs → LanesOut (8 * suc i) (guarded all t vector) (plainAfter gs vector)
+  vector-out all long h =
+      guarded-by all t vector (λ (u : Lanes). LanesOut (8 * suc i) u (plainAfter gs vector)) (λ a e. low (vector-low vector eight v e))
+      (shifted LanesOut splitStep split-again (feed-related splitStep (laneTimes 52) rateFactor Value LanesOut 512 split-out (8 * i) t gs v within h))
     where
-      low : Each Guarded vector ⊎ Hit vector → Held (8 * suc i) (feed unsplitStep 0 t vector) (plainAfter gs vector)
-      low (inl g) = shifted Held unsplitStep unsplit-again (unsplit-held (8 * i) t gs g within h)
+      low : Each Guarded vector ⊎ Hit vector → LanesOut (8 * suc i) (feed unsplitStep 0 t vector) (plainAfter gs vector)
+      low (inl g) = shifted LanesOut unsplitStep unsplit-again (unsplit-out (8 * i) t gs g within h)
       low (inr k) = inr (unsplit-hit 0 t vector long eight k)
 
   vector-mark : (all : Bool) → length (t .m) ≡ 8 → Marked all t vector (guarded all t vector)
@@ -156,7 +156,7 @@ pub record Mixed (all : Bool) (n : ℕ) (s : Lanes) (xs : List Float) (i : ℕ) 
   pub long : length (t .m) ≡ 8
   pub count-is : length xs ≡ 8 * i
   pub small : SmallLanes (n + 8192 * i) t
-  pub waits : (fs : List Factor) → LanesRepresent zeros s fs → Held (8 * i) t (plainAfter fs xs)
+  pub waits : (fs : List Factor) → LanesRepresent zeros s fs → LanesOut (8 * i) t (plainAfter fs xs)
   pub represent : all ≡ true → (fs : List Factor) → LanesRepresent zeros s fs → LanesRepresent (depth 1 (8 * i)) t (plainAfter fs xs)
   pub mark : Marked all s xs t
 
@@ -180,7 +180,7 @@ mixed-more all n s xs i t u vector R l e v g =
       count-is = length-append xs vector ∙ (let a = R .count-is in let b = e in omega arith);
       small = lanes-le (n + 8192 * i + 8192) (n + 8192 * suc i) (guarded all t vector) (omega arith) (guarded-small all t vector (n + 8192 * i) e (R .small));
       waits = λ fs H.
-          subst (Held (8 * suc i) (guarded all t vector)) (sym (whole fs)) (vector-held i t (plainAfter fs xs) vector e l v all (R .long) (R .waits fs H));
+          subst (LanesOut (8 * suc i) (guarded all t vector)) (sym (whole fs)) (vector-out i t (plainAfter fs xs) vector e l v all (R .long) (R .waits fs H));
       represent = λ a fs H.
           subst (LanesRepresent (depth 1 (8 * suc i)) (guarded all t vector)) (sym (whole fs))
           (subst (λ (w : Lanes). LanesRepresent (depth 1 (8 * suc i)) w (plainAfter (plainAfter fs xs) vector))
@@ -208,7 +208,7 @@ pub mixed-fed : (all : Bool) (n : ℕ) (s : Lanes) (xs : List Float) (i : ℕ) (
     → LanesAfter s xs (renorm t)
 mixed-fed all n s xs i t R l e = go all refl e
   where
-    back : every notPast (t .m) ≡ true → (fs : List Factor) → Held (8 * i) t fs → LanesRepresent zeros (renorm t) fs
+    back : every notPast (t .m) ≡ true → (fs : List Factor) → LanesOut (8 * i) t fs → LanesRepresent zeros (renorm t) fs
     back p fs (inr k) = absurd (none-lost (t .m) p k)
     back p fs (inl w) =
         renorm-each t fs (λ k a. waits-split (depth 15 (8 * i) k) (mOf t k) (eOf t k) (getD fs k (unit 52)) (w .at k a)) (w .m-long) (w .e-long) (w .f-long)

@@ -1,4 +1,4 @@
--- `finishing::f64_ldexp` meets its contract: the loops keep `Held`, by the laws of `Loops`. Assumes nothing.
+-- `finishing::f64_ldexp` meets its contract: the loops keep `Scaling`, by the laws of `Loops`. Assumes nothing.
 use mathlib.Core.Path.{_≡_, sym, ap, _∙_, subst}
 use mathlib.Core.Bool.{true, false}
 use lib.IntN.{ℤ, pos, natAbs, _+ℤ_, _-ℤ_}
