@@ -277,5 +277,6 @@ pub joined-within : {ps : List Piece} → Each FullPiece ps → Sound (joinedPie
 unfolding joinedPieces ratesOf
 joined-within none = (identity-sound, zero-le)
 joined-within (more {x = p} {xs = ps} f fs) =
-    let r = joined-near (length (p .rates)) (workedPiece p) (worked-sound p (f .values)) (le-trans (worked-size p (f .values)) (let y = f .some-rate in omega arith)) fs in
+    let r = joined-near (length (p .rates)) (workedPiece p) (worked-sound p (f .values))
+    (le-trans (worked-size p (f .values)) (let y = f .some-rate in omega arith)) fs in
     (r .0, le-trans (r .1) (omega (arith, length-append (p .rates) (ratesOf ps))))

@@ -21,7 +21,8 @@ pub extern "C" fn probe_reduce(
     ensures { λ r. ⌜ r ≡ codeGiven (reduceOf (now (sizes .entry)) (now (strides .entry)) base start end (now (values .entry))) ⌝ }
     ensures { λ _. ⌜ now (m .exit) ≡ mGiven (now (m .entry)) (reduceOf (now (sizes .entry)) (now (strides .entry)) base start end (now (values .entry))) ⌝ }
     ensures { λ _. ⌜ now (e .exit) ≡ eGiven (now (e .entry)) (reduceOf (now (sizes .entry)) (now (strides .entry)) base start end (now (values .entry))) ⌝ }
-    ensures { λ _. ⌜ now (bad .exit) ≡ badGiven (now (bad .entry)) (reduceOf (now (sizes .entry)) (now (strides .entry)) base start end (now (values .entry))) ⌝ }
+    ensures { λ _. ⌜ now (bad .exit)
+        ≡ badGiven (now (bad .entry)) (reduceOf (now (sizes .entry)) (now (strides .entry)) base start end (now (values .entry))) ⌝ }
 {
     let answer = reduction::full::reduce(sizes, strides, base, start, end, values);
     match answer {

@@ -36,10 +36,12 @@ fn reduce_piece(values: &[f64], first: i64, stride: i64, len: usize) -> StablePr
 // A strip of fewer runs is not worth the decoding of a new cursor behind it.
 const SHORT: u64 = 4;
 
-// How many whole runs lie ahead of an element number within the range, a step of the first outer axis apart: 0 within a run, and 0 where that axis is short or missing.
+// How many whole runs lie ahead of an element number within the range, a step of the first outer axis apart: 0 within a run, and 0 where
+// that axis is short or missing.
 fn whole_runs(l: FullTraversal, at: u64, end: u64) -> u64
     requires { ⌜ Traversal l × (at < end) ⌝ }
-    ensures { λ r. ⌜ (0 < r → (0 < l .«axis_count») × (at % l .«run_len» ≡ 0) × (at / l .«run_len» % (getD (l .«run_axes») 0 noAxis) .extent + r ≤ (getD (l .«run_axes») 0 noAxis) .extent) × (at + r * l .«run_len» ≤ end)) ⌝ }
+    ensures { λ r. ⌜ (0 < r → (0 < l .«axis_count») × (at % l .«run_len» ≡ 0)
+        × (at / l .«run_len» % (getD (l .«run_axes») 0 noAxis) .extent + r ≤ (getD (l .«run_axes») 0 noAxis) .extent) × (at + r * l .«run_len» ≤ end)) ⌝ }
 {
     if l.axis_count == 0 {
         return 0;
@@ -68,7 +70,8 @@ fn reduce_strip(
     count: u64,
     acc: StableProductFloatAcc,
 ) -> StableProductFloatAcc
-    requires { ⌜ (1 ≤ len) × (len ≤ 2 ^ 40) × (count * len ≤ 2 ^ 40) × (natAbs (acc .e) ≤ 2 ^ 60) × ((j : ℕ) → j < count → PlacesInside (length (now values)) (first +ℤ step *ℤ pos j) stride len) × Sound acc ⌝ }
+    requires { ⌜ (1 ≤ len) × (len ≤ 2 ^ 40) × (count * len ≤ 2 ^ 40) × (natAbs (acc .e) ≤ 2 ^ 60)
+        × ((j : ℕ) → j < count → PlacesInside (length (now values)) (first +ℤ step *ℤ pos j) stride len) × Sound acc ⌝ }
     ensures { λ r. ⌜ r ≡ strip (now (values .entry)) step stride len count first acc ⌝ }
 {
     let mut a = acc;
@@ -93,7 +96,8 @@ pub fn reduce_full_range(
     end: u64,
     values: &[f64],
 ) -> StableProductFloatAcc
-    requires { ⌜ Traversal l × Bounded (runOf l ∷ outerOf l) base × (start < end) × (end ≤ l .total) × (l .total ≤ 2 ^ 40) × (allInside (runOf l ∷ outerOf l) (l .total) base (length (now values)) ≡ true) ⌝ }
+    requires { ⌜ Traversal l × Bounded (runOf l ∷ outerOf l) base × (start < end) × (end ≤ l .total) × (l .total ≤ 2 ^ 40)
+        × (allInside (runOf l ∷ outerOf l) (l .total) base (length (now values)) ≡ true) ⌝ }
     ensures { λ r. ⌜ r ≡ joinedPieces (piecesOf l base (now (values .entry)) start end) ⌝ }
 {
     let stride = l.run_stride;

@@ -97,7 +97,8 @@ fed-pad s r xs n F = record {
   represent = λ fs H. subst (LanesRepresent zeros r) (ones-after fs xs n (fed-normal 0 fs xs (represent-normal s fs H) .at)) (F .represent fs H);
   mark = λ fs H.
       F .mark fs H
-      ∙ ap (λ (b : Bool). s .bad || b) (some-append isBad xs (replicate n one) ∙ ap (λ (b : Bool). some isBad xs || b) (ones-good n) ∙ or-false (some isBad xs));
+      ∙ ap (λ (b : Bool). s .bad || b)
+      (some-append isBad xs (replicate n one) ∙ ap (λ (b : Bool). some isBad xs || b) (ones-good n) ∙ or-false (some isBad xs));
 }
 
 -- ---- from the start

@@ -43,7 +43,8 @@ unfolding nextOf nextFrom
 returns c =
     let s = c .before .before .before .before .before .before in
     ap (λ (t : AxisTable). record { ok = true; done = t; last = c .before .j .given .0 .0 }) (s .pre .0 .0)
-    ∙ ap (nextFrom (tableAxes (s .args .f .done)) (s .args .f .last) (s .args .b)) (sym (c .before .j .given .1) ∙ c .before .before .before .join-axes .ensures)
+    ∙ ap (nextFrom (tableAxes (s .args .f .done)) (s .args .f .last) (s .args .b))
+    (sym (c .before .j .given .1) ∙ c .before .before .before .join-axes .ensures)
 
 returns-2 : tie.Need-returns-2
 unfolding nextOf nextFrom
