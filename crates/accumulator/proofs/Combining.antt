@@ -27,22 +27,22 @@ unfolding combined
 combined-good a b h = ap (λ (t : Bool). cond t (record { m = a .m; e = a .e; bad = true }) (multiplied a b)) h
 
 module _ (a b : StableProductFloatAcc) where
-  abbrev product : Float
-  product = productOf 11 52 (a .m) (b .m)
+  abbrev raw-product : Float
+  raw-product = productOf 11 52 (a .m) (b .m)
 
-  abbrev halved : StableProductFloatAcc
-  halved = record { m = productOf 11 52 product half; e = a .e +ℤ b .e +ℤ pos 1; bad = false }
+  abbrev halved-m : StableProductFloatAcc
+  halved-m = record { m = productOf 11 52 raw-product half; e = a .e +ℤ b .e +ℤ pos 1; bad = false }
 
   abbrev whole : StableProductFloatAcc
-  whole = record { m = product; e = a .e +ℤ b .e; bad = false }
+  whole = record { m = raw-product; e = a .e +ℤ b .e; bad = false }
 
-  pub multiplied-two : twoOrMore product ≡ true → multiplied a b ≡ halved
+  pub multiplied-two : twoOrMore raw-product ≡ true → multiplied a b ≡ halved-m
   unfolding multiplied
-  multiplied-two h = ap (λ (t : Bool). cond t halved whole) h
+  multiplied-two h = ap (λ (t : Bool). cond t halved-m whole) h
 
-  pub multiplied-less : twoOrMore product ≡ false → multiplied a b ≡ whole
+  pub multiplied-less : twoOrMore raw-product ≡ false → multiplied a b ≡ whole
   unfolding multiplied
-  multiplied-less h = ap (λ (t : Bool). cond t halved whole) h
+  multiplied-less h = ap (λ (t : Bool). cond t halved-m whole) h
 
 half-bits : ofBits binary64 4602678819172646912 ≡ half
 unfolding ofBits

@@ -13,7 +13,7 @@ use Rattle.floats.specs.Factor.{Factor, Normalised, unit, times, floatOf}
 use Rattle.floats.specs.Magnitude.{inUnit, twoOrMore, factorAt, withExponent}
 use Rattle.floats.proofs.Bridge.{floatOf-fits}
 use Rattle.floats.proofs.Magnitude.{unit-float, below-two, from-two, factor-at-float}
-use Rattle.floats.proofs.Units.{both, up, both-normal, up-le, unit-product, halved}
+use Rattle.floats.proofs.Units.{both, up, both-normal, up-le, unit-product, halved-unit}
 use borrow.Author.Tests.{leb-true}
 use Rattle.accumulator.specs.declared.StableProductFloatAcc.{StableProductFloatAcc}
 use Rattle.accumulator.specs.Joining.{identityAcc, factorOfAcc, half, multiplied, combined, withinLimit, inLimits, accumulator, refusal, joined}
@@ -53,7 +53,7 @@ module _ (a b : StableProductFloatAcc) (fa : T (fits binary64 (a .m))) (fb : T (
       go (suc zero) l p =
           let w = multiplied-two a b (two-is true (pos 1) p (from-two binary64 11 52 refl refl (lit< tt) k N)) in
           record {
-            m-is = ap (λ (r : StableProductFloatAcc). r .m) w ∙ ap (λ (x : Float). productOf 11 52 x half) p ∙ halved k N;
+            m-is = ap (λ (r : StableProductFloatAcc). r .m) w ∙ ap (λ (x : Float). productOf 11 52 x half) p ∙ halved-unit k N;
             e-is = ap (λ (r : StableProductFloatAcc). r .e) w;
             mark = ap (λ (r : StableProductFloatAcc). r .bad) w;
           }

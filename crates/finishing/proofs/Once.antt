@@ -52,8 +52,8 @@ module _ (e : ℤ) where
   below-least : fromLeastNormal e ≡ false → ltZ (negsuc 1021 -ℤ e) (pos 0) ≡ false
   below-least = simp ints (simp atoms (omega arith))
 
-  place-below : (j : ℕ) → e +ℤ pos 1022 ≡ pos j → pastLargest e ≡ false → j < 2046
-  place-below j = simp ints (simp atoms (omega arith))
+  below-normal-place : (j : ℕ) → e +ℤ pos 1022 ≡ pos j → pastLargest e ≡ false → j < 2046
+  below-normal-place j = simp ints (simp atoms (omega arith))
 
   place-under : (n : ℕ) → negsuc 1021 -ℤ e ≡ pos n → fromLeastNormal e ≡ false → e +ℤ pos 1022 ≡ negsuc (n - 1)
   place-under n = simp ints (simp atoms (omega arith))
@@ -61,13 +61,13 @@ module _ (e : ℤ) where
   under-pos : (n : ℕ) → negsuc 1021 -ℤ e ≡ pos n → fromLeastNormal e ≡ false → 1 ≤ n
   under-pos n = simp ints (simp atoms (omega arith))
 
-  place-is : fromLeastNormal e ≡ true → e +ℤ pos 1022 ≡ pos (natAbs (e +ℤ pos 1022))
-  place-is h = nonneg-pos (e +ℤ pos 1022) (from-zero h)
+  normal-place : fromLeastNormal e ≡ true → e +ℤ pos 1022 ≡ pos (natAbs (e +ℤ pos 1022))
+  normal-place h = nonneg-pos (e +ℤ pos 1022) (from-zero h)
 
   -- e from -1022 to 1023 is the exponent of a normal number
   pub range : (t : ℕ) (m : Float) → pastLargest e ≡ false → fromLeastNormal e ≡ true → NormalExponent 11 (factorAt t m e)
   unfolding factorAt
-  range t m h k = record { place = natAbs (e +ℤ pos 1022); above = place-is k; below = place-below (natAbs (e +ℤ pos 1022)) (place-is k) h }
+  range t m h k = record { place = natAbs (e +ℤ pos 1022); above = normal-place k; below = below-normal-place (natAbs (e +ℤ pos 1022)) (normal-place k) h }
 
 -- ---- the three ranges of e
 module _ (f : Factor) (N : Normalised 52 f) where
@@ -80,8 +80,8 @@ module _ (f : Factor) (N : Normalised 52 f) where
   pub float-normal : pastLargest (f .exp) ≡ false → fromLeastNormal (f .exp) ≡ true → floatOf 11 52 f ≡ counted (f .sign) (f .sig) j
   unfolding counted
   float-normal h k =
-      let p = place-is (f .exp) k in
-      floatOf-is 11 52 f j N p ∙ delivered-below 53 1023 (f .sign) (f .sig) j (unit-room 52 1023 (f .sig) j (N .most) (place-below (f .exp) j p h))
+      let p = normal-place (f .exp) k in
+      floatOf-is 11 52 f j N p ∙ delivered-below 53 1023 (f .sign) (f .sig) j (unit-room 52 1023 (f .sig) j (N .most) (below-normal-place (f .exp) j p h))
 
   pub float-low : fromLeastNormal (f .exp) ≡ false → floatOf 11 52 f ≡ counted (f .sign) (tiesToEven (f .sig) (2 ^ n)) 0
   unfolding counted floatOf

@@ -35,8 +35,8 @@ top-mask w h = ap (bitAnd h) (sym (up (2 ^ w) (2 ^ (1 + w)) (pow-add 2 1 w))) �
     up : (p q : ℕ) → q ≡ 2 ^ 1 * p → q - p ≡ p
     up p q e = omega arith
 
-cleared : (w t n : ℕ) → bitAnd n (2 ^ w * 2 ^ t + (2 ^ t - 1)) ≡ n / 2 ^ t / 2 ^ w % 2 * 2 ^ w * 2 ^ t + fraction t n
-cleared w t n =
+bits-cleared : (w t n : ℕ) → bitAnd n (2 ^ w * 2 ^ t + (2 ^ t - 1)) ≡ n / 2 ^ t / 2 ^ w % 2 * 2 ^ w * 2 ^ t + fraction t n
+bits-cleared w t n =
     let r = n % 2 ^ t in
     let R : r < 2 ^ t = mod-lt n (pow-pos t) in
     ap (λ (x : ℕ). bitAnd x (2 ^ w * 2 ^ t + (2 ^ t - 1))) (sym (div-add-mod' n (2 ^ t)))
@@ -51,7 +51,7 @@ masked-set w t n B h b =
     let r = n % 2 ^ t in
     let R : r < 2 ^ t = mod-lt n (pow-pos t) in
     let s : ℕ = cond (signField w t n) 1 0 in
-    ap (λ (x : ℕ). bitOr x (B * 2 ^ t)) (cleared w t n ∙ ap (λ (x : ℕ). x * 2 ^ w * 2 ^ t + r) (sign-bit w t n h))
+    ap (λ (x : ℕ). bitOr x (B * 2 ^ t)) (bits-cleared w t n ∙ ap (λ (x : ℕ). x * 2 ^ w * 2 ^ t + r) (sign-bit w t n h))
     ∙ ap (bitOr (s * 2 ^ w * 2 ^ t + r)) (sym (add-zero (B * 2 ^ t)))
     ∙ or-block t (s * 2 ^ w) B r 0 R (pow-pos t)
     ∙ ap (λ (x : ℕ). x * 2 ^ t + bitOr r 0) (or-shifted s w B b)

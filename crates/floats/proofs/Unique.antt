@@ -18,11 +18,11 @@ cross x y d g a c C p q =
     (mul-right-comm x g c ∙ ap (λ (z : ℕ). z * g) p ∙ mul-right-comm a d g ∙ ap (λ (z : ℕ). z * d) (sym q) ∙ mul-right-comm y c d)
 
 -- the bits of a sign and a number of units
-pattern : Format → Bool → ℕ → ℕ
-pattern f s n = cond s (top f) 0 + (size n - prec f) * hid f + n / 2 ^ (size n - prec f)
+pattern-of : Format → Bool → ℕ → ℕ
+pattern-of f s n = cond s (top f) 0 + (size n - prec f) * hid f + n / 2 ^ (size n - prec f)
 
-bits-are : (f : Format) (s : Bool) (m : ℕ) (e : ℤ) → toBits f (fin s m e) ≡ pattern f s (m * up e * 2 ^ low f / down e)
-unfolding toBits pattern
+bits-are : (f : Format) (s : Bool) (m : ℕ) (e : ℤ) → toBits f (fin s m e) ≡ pattern-of f s (m * up e * 2 ^ low f / down e)
+unfolding toBits pattern-of
 bits-are f s m e = refl
 
 fraction-units : (f : Format) (m n : ℕ) (e d : ℤ) (a c : ℕ) → 0 < c → m * up e * c ≡ a * down e → n * up d * c ≡ a * down d
@@ -43,7 +43,7 @@ value-unique f (fin t m e) (fin u n d) s a c C p q h k =
     sym (ofBits-toBits f (fin t m e) p)
     ∙ ap (ofBits f)
     (bits-are f t m e
-    ∙ ap (λ (b : Bool). pattern f b (m * up e * 2 ^ low f / down e)) (h .0 ∙ sym (k .0))
-    ∙ ap (pattern f u) (fraction-units f m n e d a c C (h .1) (k .1))
+    ∙ ap (λ (b : Bool). pattern-of f b (m * up e * 2 ^ low f / down e)) (h .0 ∙ sym (k .0))
+    ∙ ap (pattern-of f u) (fraction-units f m n e d a c C (h .1) (k .1))
     ∙ sym (bits-are f u n d))
     ∙ ofBits-toBits f (fin u n d) q

@@ -15,29 +15,29 @@ use Rattle.floats.proofs.Bridge.{mul-times}
 use Rattle.floats.proofs.Magnitude.{near-range, moved-normal, at-normal, float-at}
 
 -- 0.5, as a factor
-abbrev half : Factor
-half = record { sign = false; sig = 2 ^ 52; exp = negsuc 0 }
+abbrev half-unit : Factor
+half-unit = record { sign = false; sig = 2 ^ 52; exp = negsuc 0 }
 
-half-is : fin false 1 (negsuc 0) ≡ floatOf 11 52 half
+half-is : fin false 1 (negsuc 0) ≡ floatOf 11 52 half-unit
 unfolding floatOf
 half-is = refl
 
-half-normal : Normalised 52 half
+half-normal : Normalised 52 half-unit
 half-normal = record { least = le-refl (2 ^ 52); most = lit< tt }
 
-half-range : NormalExponent 11 half
+half-range : NormalExponent 11 half-unit
 half-range = record { place = 1021; above = refl; below = lit< tt }
 
 -- half of the float of f at the exponent 1 is the float at 0
-pub halved : (f : Factor) → Normalised 52 f
+pub halved-unit : (f : Factor) → Normalised 52 f
     → productOf 11 52 (floatOf 11 52 (withExponent f (pos 1))) (fin false 1 (negsuc 0)) ≡ floatOf 11 52 (withExponent f (pos 0))
-halved f N =
+halved-unit f N =
     let g = withExponent f (pos 1) in
     let G = moved-normal 52 f (pos 1) N in
     let p = times-power 52 g (negsuc 0) G in
     ap (productOf 11 52 (floatOf 11 52 g)) half-is
-    ∙ sym (mul-binary64 (floatOf 11 52 g) (floatOf 11 52 half))
-    ∙ mul-times binary64 11 52 refl refl g half G half-normal (near-range binary64 11 52 refl refl (lit< tt) f 1 (le-refl 1)) half-range 1022
+    ∙ sym (mul-binary64 (floatOf 11 52 g) (floatOf 11 52 half-unit))
+    ∙ mul-times binary64 11 52 refl refl g half-unit G half-normal (near-range binary64 11 52 refl refl (lit< tt) f 1 (le-refl 1)) half-range 1022
     (ap (λ (h : Factor). h .exp +ℤ pos 1022) p)
     ∙ ap (floatOf 11 52) p
 

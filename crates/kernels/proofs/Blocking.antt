@@ -29,7 +29,7 @@ use Rattle.kernels.proofs.Feeding.{feed-related, feed-holds, feed-vecto
 use Rattle.kernels.proofs.Feeding.{each-both, each-take, each-drop, some-append, some-none, neither}
 use Rattle.kernels.proofs.Factors.{lane-lt, set-cases, times-again}
 use Rattle.kernels.specs.InnerLanes.{Represents, LanesAre, LanesRepresent, zeros, plainAfter}
-use Rattle.kernels.proofs.Lanewise.{count, depth, turn-small, lanes-widen, lanes-turn, exponents-same}
+use Rattle.kernels.proofs.Lanewise.{turns, depth, turn-small, lanes-widen, lanes-turn, exponents-same}
 use Rattle.kernels.proofs.Standing.{represents-more, represents-times, represents-split, represents-rate, represents-whole, represents-one}
 use Rattle.kernels.proofs.Standing.{represents-acc}
 use Rattle.kernels.proofs.Bounds.{in-range-good, in-range-exponent}
@@ -173,7 +173,7 @@ module _ (s : Lanes) (fs : List Factor) (xs : List Float) (short : length xs ≤
   begins : (c : ℕ) → LanesRepresent (depth c 0) s fs
   begins c = lanes-widen Represents represents-more zeros (depth c 0) (λ k a. zero-le) H
 
-  few : (k : ℕ) → k < 8 → count k (length xs) ≤ 8
+  few : (k : ℕ) → k < 8 → turns k (length xs) ≤ 8
   few k a = omega arith
 
   split-represent : Each Value xs → LanesRepresent zeros (renorm (feed splitStep 0 s xs)) (plainAfter fs xs)

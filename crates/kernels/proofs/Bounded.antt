@@ -75,8 +75,8 @@ module _ (t E : ℕ) where
   unfolding total
   filled-start = record { normal = units-normal t; near = zero-le }
 
-  filled-more : (i : ℕ) (fs : List Factor) (f : Factor) → Short f → Filled i fs → Filled (suc i) (laneTimes t i fs f)
-  filled-more i fs f F h =
+  lanes-filled-more : (i : ℕ) (fs : List Factor) (f : Factor) → Short f → Filled i fs → Filled (suc i) (laneTimes t i fs f)
+  lanes-filled-more i fs f F h =
       let g = getD fs (laneOf i) (unit t) in
       let N = h .normal .at (laneOf i) (lane-lt i) in
       let s : expSize (times t g f) ≤ expSize g + suc E = le-trans (times-size t g f N (F .normal)) (let z = F .near in omega arith) in
@@ -87,7 +87,7 @@ module _ (t E : ℕ) where
   unfolding lanes
   filled-all {fs} F =
       subst (λ (n : ℕ). Filled n (feed (laneTimes t) 0 (replicate 8 (unit t)) fs)) (zero-add (length fs))
-      (feed-keeps (laneTimes t) Short Filled (length fs) (λ i s x h. filled-more i s x) 0 (replicate 8 (unit t)) F (omega arith) filled-start)
+      (feed-keeps (laneTimes t) Short Filled (length fs) (λ i s x h. lanes-filled-more i s x) 0 (replicate 8 (unit t)) F (omega arith) filled-start)
 
   pub lane-size : {fs : List Factor} → Each Short fs → (k : ℕ) → natAbs (getD (lanes t fs) k (unit t) .exp) ≤ suc E * length fs
   lane-size {fs} F k = let z = total-at expSize (lanes t fs) k (unit t) in let n = filled-all F .near in omega arith

@@ -15,28 +15,28 @@ use Rattle.kernels.proofs.Factors.{lane-lt, set-cases}
 
 -- ---- how far a lane can be from its place
 -- how many of the first i values went to lane k
-abbrev pub count : ℕ → ℕ → ℕ
-count k i = (i + 7 - k) / 8
+abbrev pub turns : ℕ → ℕ → ℕ
+turns k i = (i + 7 - k) / 8
 
 -- each of them widened it by c
 abbrev pub depth : ℕ → ℕ → ℕ → ℕ
-depth c i k = c * count k i
+depth c i k = c * turns k i
 
 module _ (c : ℕ) where
   times-next : (n : ℕ) → c * n + c ≡ c * suc n
   times-next n = omega arith
 
   pub turn-room : (i : ℕ) → depth c i (laneOf i) + c ≡ depth c (suc i) (laneOf i)
-  turn-room i = times-next (count (laneOf i) i) ∙ ap (λ (n : ℕ). c * n) (let e : suc (count (laneOf i) i) ≡ count (laneOf i) (suc i) = omega arith in e)
+  turn-room i = times-next (turns (laneOf i) i) ∙ ap (λ (n : ℕ). c * n) (let e : suc (turns (laneOf i) i) ≡ turns (laneOf i) (suc i) = omega arith in e)
 
   pub turn-other : (i k : ℕ) → depth c i k ≤ depth c (suc i) k
-  turn-other i k = mul-le-mul-left c (let l : count k i ≤ count k (suc i) = omega arith in l)
+  turn-other i k = mul-le-mul-left c (let l : turns k i ≤ turns k (suc i) = omega arith in l)
 
   -- n values of each lane stay within n times c
   pub turn-small : (n i : ℕ) → c * n ≤ 1022 → i < 8 * n → depth c i (laneOf i) + c ≤ 1022
   turn-small n i h l =
-      subst (λ (m : ℕ). m ≤ 1022) (sym (times-next (count (laneOf i) i)))
-      (le-trans (mul-le-mul-left c (let k : suc (count (laneOf i) i) ≤ n = omega arith in k)) h)
+      subst (λ (m : ℕ). m ≤ 1022) (sym (times-next (turns (laneOf i) i)))
+      (le-trans (mul-le-mul-left c (let k : suc (turns (laneOf i) i) ≤ n = omega arith in k)) h)
 
 -- ---- eight lanes
 pub lanes-map : (R R' : ℕ → Float → ℤ → Factor → Type 0) (b b' : ℕ → ℕ) {ms : List Float} {es : List ℤ} {fs : List Factor}

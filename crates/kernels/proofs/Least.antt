@@ -75,9 +75,9 @@ module _ (B : ℕ) (small : B ≤ 1021) (x : Float) (f : T (fits binary64 x)) (w
           (le-trans (le-of-eq (sym (pow-add 2 52 B))) (pow-mono {j = 1074} (let l : 52 + B ≤ 1074 = omega arith in l)))
 
   -- an infinity and a NaN are no numbers
-  not-full : (b : Bool) (s : Bool) → x ≡ cond b (inf s) nan → ⊥
-  not-full true s e = true≢false (sym w ∙ ap (reaches B) e)
-  not-full false s e = true≢false (sym w ∙ ap (reaches B) e)
+  not-all-ones : (b : Bool) (s : Bool) → x ≡ cond b (inf s) nan → ⊥
+  not-all-ones true s e = true≢false (sym w ∙ ap (reaches B) e)
+  not-all-ones false s e = true≢false (sym w ∙ ap (reaches B) e)
 
   field-good : (s : Bool) (E t : ℕ) → t < 2 ^ 52 → x ≡ ofParts 11 52 s E t → (eqb E 0 || eqb E 2047) ≡ false
   unfolding ofParts
@@ -86,7 +86,7 @@ module _ (B : ℕ) (small : B ≤ 1021) (x : Float) (f : T (fits binary64 x)) (w
     where
       go : (b : Bool) → eqb (suc E) 2047 ≡ b → x ≡ cond b (cond (eqb t 0) (inf s) nan) (delivered 53 1023 s (2 ^ 52 + t) E)
           → (eqb (suc E) 0 || eqb (suc E) 2047) ≡ false
-      go true k e = absurd (not-full (eqb t 0) s e)
+      go true k e = absurd (not-all-ones (eqb t 0) s e)
       go false k e = ap (λ (b : Bool). b || eqb (suc E) 2047) (ne-eqb (suc E) 0 (λ (z : suc E ≡ 0). omega arith)) ∙ k
 
   pub reaching-good : isBad x ≡ false

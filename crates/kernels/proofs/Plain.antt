@@ -36,9 +36,9 @@ module _ (t : ℕ) where
       other : k ≡ laneOf i → ⊥
       other q = omega arith
 
-  lane-is : (rates : List Factor) (k : ℕ) → k < 8 → getD (replicate 8 (unit t)) k (unit t) ≡ unit t → laneProduct t rates k ≡ getD (lanes t rates) k (unit t)
+  plain-lane : (rates : List Factor) (k : ℕ) → k < 8 → getD (replicate 8 (unit t)) k (unit t) ≡ unit t → laneProduct t rates k ≡ getD (lanes t rates) k (unit t)
   unfolding laneProduct lanes
-  lane-is rates k h u =
+  plain-lane rates k h u =
       sym
       (fed-lane 0 k k (replicate 8 (unit t)) rates h (omega arith) h (length-replicate 8 (unit t))
       ∙ ap (λ (f : Factor). foldl (times t) f (everyEighth k rates)) u)
@@ -50,4 +50,4 @@ module _ (t : ℕ) where
       (rw (lane 4 (omega arith) refl, lane 5 (omega arith) refl, lane 6 (omega arith) refl, lane 7 (omega arith) refl) refl)
     where
       lane : (k : ℕ) → k < 8 → getD (replicate 8 (unit t)) k (unit t) ≡ unit t → laneProduct t rates k ≡ getD (lanes t rates) k (unit t)
-      lane = lane-is rates
+      lane = plain-lane rates

@@ -144,9 +144,9 @@ marks i ls (x ∷ xs) h =
     )
 
 -- lanes joined in order are bad exactly if one of them is
-joined-mark : (ls : List StableProductFloatAcc) → length ls ≡ 8 → lanesJoined ls .bad ≡ some bad ls
+lanes-joined-mark : (ls : List StableProductFloatAcc) → length ls ≡ 8 → lanesJoined ls .bad ≡ some bad ls
 unfolding lanesJoined some
-joined-mark ls h =
+lanes-joined-mark ls h =
     order-keeps (λ (k : ℕ) (a : StableProductFloatAcc). combined a (accAt ls k)) (λ (k : ℕ) (a : StableProductFloatAcc). a .bad ≡ some bad (take k ls)) 8
     (λ k a l r. turn k a l r) identityAcc start
     ∙ ap (some bad) (take-all 8 ls (le-of-eq h))
@@ -169,7 +169,7 @@ pub stepped-mark : (xs : List Float) → stepped xs .bad ≡ some isBad xs
 unfolding stepped steppedLanes some
 stepped-mark xs =
     let r = marks 0 (replicate 8 identityAcc) xs (length-replicate 8 identityAcc) in
-    joined-mark (feed laneJoined 0 (replicate 8 identityAcc) xs) (r .0) ∙ r .1 ∙ ap (λ (b : Bool). b || some isBad xs) none
+    lanes-joined-mark (feed laneJoined 0 (replicate 8 identityAcc) xs) (r .0) ∙ r .1 ∙ ap (λ (b : Bool). b || some isBad xs) none
   where
     none : some bad (replicate 8 identityAcc) ≡ false
     none = refl

@@ -63,21 +63,21 @@ pos-of-mul-left zero y h = let e = zero-mul y in omega arith
 pos-of-mul-left (suc x) y h = omega arith
 
 -- ---- rule L2 keeps the axes and their number of elements
-pub product : List ℕ → ℕ
-product [] = 1
-product (n ∷ ns) = n * product ns
+pub sizes-product : List ℕ → ℕ
+sizes-product [] = 1
+sizes-product (n ∷ ns) = n * sizes-product ns
 
-total-product : (u : ℕ) (ns : List ℕ) (t : ℕ) → totalFrom u ns ≡ some t → t ≡ u * product ns
-unfolding totalFrom product
+total-product : (u : ℕ) (ns : List ℕ) (t : ℕ) → totalFrom u ns ≡ some t → t ≡ u * sizes-product ns
+unfolding totalFrom sizes-product
 total-product u [] t e = let q : u ≡ t = some-inj e in omega arith
 total-product u (n ∷ ns) t e = go (ltb (u * n) (2 ^ 64)) refl (total-product (u * n) ns t)
   where
-    go : (b : Bool) → ltb (u * n) (2 ^ 64) ≡ b → (totalFrom (u * n) ns ≡ some t → t ≡ u * n * product ns) → t ≡ u * (n * product ns)
-    go true q f = f (sym (ap (λ (b : Bool). cond b (totalFrom (u * n) ns) none) q) ∙ e) ∙ mul-assoc u n (product ns)
+    go : (b : Bool) → ltb (u * n) (2 ^ 64) ≡ b → (totalFrom (u * n) ns ≡ some t → t ≡ u * n * sizes-product ns) → t ≡ u * (n * sizes-product ns)
+    go true q f = f (sym (ap (λ (b : Bool). cond b (totalFrom (u * n) ns) none) q) ∙ e) ∙ mul-assoc u n (sizes-product ns)
     go false q f = absurd (none-some (sym (ap (λ (b : Bool). cond b (totalFrom (u * n) ns) none) q) ∙ e))
 
-kept-elements : (ns : List ℕ) (ss : List ℤ) → length ns ≡ length ss → elements (keptAxes ns ss) ≡ product ns
-unfolding keptAxes product
+kept-elements : (ns : List ℕ) (ss : List ℤ) → length ns ≡ length ss → elements (keptAxes ns ss) ≡ sizes-product ns
+unfolding keptAxes sizes-product
 kept-elements [] ss e = one-element
 kept-elements (n ∷ ns) [] e = absurd (no e)
   where
@@ -85,23 +85,23 @@ kept-elements (n ∷ ns) [] e = absurd (no e)
     no h = omega arith
 kept-elements (n ∷ ns) (s ∷ ss) e = go (eqb n 1) refl (kept-elements ns ss (omega arith))
   where
-    go : (b : Bool) → eqb n 1 ≡ b → elements (keptAxes ns ss) ≡ product ns
-        → elements (cond (eqb n 1) (keptAxes ns ss) (axisOf n s ∷ keptAxes ns ss)) ≡ n * product ns
-    go true q i = let o : n ≡ 1 = eqb-true n 1 q in rw q (i ∙ (let m = ap (λ (x : ℕ). x * product ns) o in omega arith))
+    go : (b : Bool) → eqb n 1 ≡ b → elements (keptAxes ns ss) ≡ sizes-product ns
+        → elements (cond (eqb n 1) (keptAxes ns ss) (axisOf n s ∷ keptAxes ns ss)) ≡ n * sizes-product ns
+    go true q i = let o : n ≡ 1 = eqb-true n 1 q in rw q (i ∙ (let m = ap (λ (x : ℕ). x * sizes-product ns) o in omega arith))
     go false q i = rw q (axis-elements n s (keptAxes ns ss) ∙ ap (λ (x : ℕ). n * x) i)
 
-kept-axes : (ns : List ℕ) (ss : List ℤ) → 0 < product ns → resetsFit (keptAxes ns ss) ≡ true → Axes (keptAxes ns ss)
-unfolding keptAxes product
+kept-axes : (ns : List ℕ) (ss : List ℤ) → 0 < sizes-product ns → resetsFit (keptAxes ns ss) ≡ true → Axes (keptAxes ns ss)
+unfolding keptAxes sizes-product
 kept-axes [] ss h f = no-axes
 kept-axes (n ∷ ns) [] h f = no-axes
 kept-axes (n ∷ ns) (s ∷ ss) h f =
     go (eqb n 1) refl (kept-axes ns ss (later h))
   where
-    later : 0 < n * product ns → 0 < product ns
-    later h = pos-of-mul-right n (product ns) h
+    later : 0 < n * sizes-product ns → 0 < sizes-product ns
+    later h = pos-of-mul-right n (sizes-product ns) h
 
-    some-n : 0 < n * product ns → 1 ≤ n
-    some-n h = pos-of-mul-left n (product ns) h
+    some-n : 0 < n * sizes-product ns → 1 ≤ n
+    some-n h = pos-of-mul-left n (sizes-product ns) h
 
     go : (b : Bool) → eqb n 1 ≡ b → (resetsFit (keptAxes ns ss) ≡ true → Axes (keptAxes ns ss))
         → Axes (cond (eqb n 1) (keptAxes ns ss) (axisOf n s ∷ keptAxes ns ss))
@@ -214,14 +214,14 @@ module _ (ns : List ℕ) (ss : List ℤ) (eq : length ns ≡ length ss) (small :
       go : (b : Bool) → resetsFit (keptAxes ns ss) ≡ b → AcceptedLayout ns ss (layoutOf t xs)
       go false q = absurd (none-some (ap (λ (b : Bool). cond b (fuse (orderFrom [] (keptAxes ns ss))) none) (sym q) ∙ f))
       go true q =
-          let p : t ≡ 1 * product ns = total-product 1 ns t e in
+          let p : t ≡ 1 * sizes-product ns = total-product 1 ns t e in
           let k = kept-axes ns ss (omega arith) q in
           let o = order-same [] (keptAxes ns ss) no-axes k in
           let z : fuse (orderFrom [] (keptAxes ns ss)) ≡ some xs = ap (λ (b : Bool). cond b (fuse (orderFrom [] (keptAxes ns ss))) none) (sym q) ∙ f in
           let s = fuse-all (orderFrom [] (keptAxes ns ss)) xs (o .0) z in
           let c : elements (orderFrom [] (keptAxes ns ss)) ≡ t = o .1
           ∙ ap (λ (m : ℕ). elements [] * m) (kept-elements ns ss eq)
-          ∙ ap (λ (m : ℕ). m * product ns) one-element
+          ∙ ap (λ (m : ℕ). m * sizes-product ns) one-element
           ∙ sym p in
           let r = layout-traversal t xs (s .axes) (few xs z) (s .elements ∙ c) in
           record {

@@ -25,17 +25,17 @@ use Rattle.offsets.proofs.Stepping.{offset-cons, offset-moved, axis-sma
 
 -- ---- along a run
 module _ (a : ReduceOuterAxis) (xs : List ReduceOuterAxis) (base : ℤ) (k : ℕ) (h : 1 ≤ a .extent) where
-  pub split : (j : ℕ) → k + j ≡ k / a .extent * a .extent + (k % a .extent + j)
-  split j = let q = div-add-mod' k (a .extent) in omega arith
+  pub column-split : (j : ℕ) → k + j ≡ k / a .extent * a .extent + (k % a .extent + j)
+  column-split j = let q = div-add-mod' k (a .extent) in omega arith
 
   -- the offset j further on in the run
   pub along : (j : ℕ) → k % a .extent + j < a .extent → offset (a ∷ xs) base (k + j) ≡ offset (a ∷ xs) base k +ℤ a .«source_step» *ℤ pos j
   along j l =
       offset-cons a xs base (k + j)
       ∙ ap (λ (d : ℕ). offset xs (base +ℤ a .«source_step» *ℤ pos d) ((k + j) / a .extent))
-      (ap (λ (n : ℕ). n % a .extent) (split j) ∙ digits-mod (k / a .extent) l)
+      (ap (λ (n : ℕ). n % a .extent) (column-split j) ∙ digits-mod (k / a .extent) l)
       ∙ ap (λ (q : ℕ). offset xs (base +ℤ a .«source_step» *ℤ pos (k % a .extent + j)) q)
-      (ap (λ (n : ℕ). n / a .extent) (split j) ∙ digits-div (k / a .extent) l)
+      (ap (λ (n : ℕ). n / a .extent) (column-split j) ∙ digits-div (k / a .extent) l)
       ∙ ap (λ (z : ℤ). offset xs z (k / a .extent)) (ring base (a .«source_step») (k % a .extent) j)
       ∙ offset-moved xs (base +ℤ a .«source_step» *ℤ pos (k % a .extent)) (a .«source_step» *ℤ pos j) (k / a .extent)
       ∙ ap (λ (z : ℤ). z +ℤ a .«source_step» *ℤ pos j) (sym (offset-cons a xs base k))
@@ -58,13 +58,13 @@ module _ (l : FullTraversal) (t : Traversal l) (base : ℤ) (b : Bounded (runOf 
   pub outer-bounded : Bounded (outerOf l) base
   outer-bounded = bounded-after (runOf l) (outerOf l) base b
 
-  pub some : 1 ≤ l .«run_len»
+  pub some-left : 1 ≤ l .«run_len»
   unfolding runOf axisOf
-  some = run-axis .1
+  some-left = run-axis .1
 
   pub column-small : k % l .«run_len» < 2 ^ 63
   unfolding runOf axisOf
-  column-small = omega (arith, mod-lt k some, axis-small (runOf l) run-axis)
+  column-small = omega (arith, mod-lt k some-left, axis-small (runOf l) run-axis)
 
   -- the cursor's offset, and with the column's share
   pub run-small : Small (offset (outerOf l) base (k / l .«run_len»))
@@ -72,7 +72,7 @@ module _ (l : FullTraversal) (t : Traversal l) (base : ℤ) (b : Bounded (runOf 
 
   pub first-is : offset (outerOf l) base (k / l .«run_len») +ℤ l .«run_stride» *ℤ pos (k % l .«run_len») ≡ offset (runOf l ∷ outerOf l) base k
   unfolding runOf axisOf
-  first-is = at-column (axisOf (l .«run_len») (l .«run_stride»)) (outerOf l) base k some
+  first-is = at-column (axisOf (l .«run_len») (l .«run_stride»)) (outerOf l) base k some-left
 
   pub first-small : Small (offset (outerOf l) base (k / l .«run_len») +ℤ l .«run_stride» *ℤ pos (k % l .«run_len»))
   first-small = rw first-is (bounded-offset (runOf l ∷ outerOf l) base k (t .axes) b)
@@ -84,10 +84,10 @@ module _ (l : FullTraversal) (t : Traversal l) (base : ℤ) (b : Bounded (runOf 
 
   module _ (end : ℕ) (h : k < end) where
     pub len-pos : 1 ≤ pieceLength (l .«run_len») end k
-    len-pos = omega (arith, mod-lt k some)
+    len-pos = omega (arith, mod-lt k some-left)
 
     pub len-run : k % l .«run_len» + pieceLength (l .«run_len») end k ≤ l .«run_len»
-    len-run = omega (arith, mod-lt k some)
+    len-run = omega (arith, mod-lt k some-left)
 
     pub len-end : k + pieceLength (l .«run_len») end k ≤ end
     len-end = omega arith
@@ -96,11 +96,11 @@ module _ (l : FullTraversal) (t : Traversal l) (base : ℤ) (b : Bounded (runOf 
     pub piece-offset : (i : ℕ) → i < pieceLength (l .«run_len») end k
         → offset (runOf l ∷ outerOf l) base k +ℤ l .«run_stride» *ℤ pos i ≡ offset (runOf l ∷ outerOf l) base (k + i)
     unfolding runOf axisOf
-    piece-offset i q = sym (along (axisOf (l .«run_len») (l .«run_stride»)) (outerOf l) base k some i (omega (arith, len-run)))
+    piece-offset i q = sym (along (axisOf (l .«run_len») (l .«run_stride»)) (outerOf l) base k some-left i (omega (arith, len-run)))
 
     -- a run that is done ends at a multiple of the run length
     whole : k + pieceLength (l .«run_len») end k < end → k + pieceLength (l .«run_len») end k ≡ (k / l .«run_len» + 1) * l .«run_len» + 0
-    whole q = let d = div-add-mod' k (l .«run_len») in omega (arith, mod-lt k some)
+    whole q = let d = div-add-mod' k (l .«run_len») in omega (arith, mod-lt k some-left)
 
     -- the piece at the cursor of k
     pub piece-first : pieceOf l end (rangeAt l base k) .first ≡ offset (runOf l ∷ outerOf l) base k
@@ -126,9 +126,9 @@ module _ (l : FullTraversal) (t : Traversal l) (base : ℤ) (b : Bounded (runOf 
         (lt-ltb (k + len) end q)
         ∙ ap (λ (c : ReduceOuterCursor). record { at = k + len; col = 0; runs = c }) (advance-next (outerOf l) base (k / l .«run_len») outer-axes)
         ∙ ap (λ (d : ℕ). record { at = k + len; col = d; runs = cursorAt (outerOf l) base (k / l .«run_len» + 1) })
-        (sym (ap (λ (j : ℕ). j % l .«run_len») (whole q) ∙ digits-mod (k / l .«run_len» + 1) some))
+        (sym (ap (λ (j : ℕ). j % l .«run_len») (whole q) ∙ digits-mod (k / l .«run_len» + 1) some-left))
         ∙ ap (λ (d : ℕ). record { at = k + len; col = (k + len) % l .«run_len»; runs = cursorAt (outerOf l) base d })
-        (sym (ap (λ (j : ℕ). j / l .«run_len») (whole q) ∙ digits-div (k / l .«run_len» + 1) some))
+        (sym (ap (λ (j : ℕ). j / l .«run_len») (whole q) ∙ digits-div (k / l .«run_len» + 1) some-left))
       where
         len : ℕ
         len = pieceLength (l .«run_len») end k
@@ -148,7 +148,7 @@ module _ (l : FullTraversal) (t : Traversal l) (c : RangeCursor) (o : OnRange l 
   from-is = ap (λ (x : ReduceOuterCursor). x .«source_offset») runs-are
 
   pub on-column : c .col < l .«run_len»
-  on-column = rw col-is (mod-lt (c .at) (some l t (o .base) (o .bounded) (c .at)))
+  on-column = rw col-is (mod-lt (c .at) (some-left l t (o .base) (o .bounded) (c .at)))
 
   pub on-column-small : c .col < 2 ^ 63
   on-column-small = rw col-is (column-small l t (o .base) (o .bounded) (c .at))

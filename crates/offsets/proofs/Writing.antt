@@ -26,7 +26,7 @@ use Rattle.offsets.specs.declared.pieces.RangePiece.{RangePiece}
 use Rattle.offsets.specs.Pieces.{runOf, outerOf}
 use Rattle.offsets.specs.InnerPieces.{rangeAt, pieceOf}
 use Rattle.offsets.proofs.Stepping.{small-fits, bounded-offset}
-use Rattle.offsets.proofs.Walking.{split, along, some, PieceHere, piece-here}
+use Rattle.offsets.proofs.Walking.{column-split, along, some-left, PieceHere, piece-here}
 
 -- ---- numbers a stride apart
 pub steps-more : (z s : ℤ) (n : ℕ) → steps z s (n + 1) ≡ steps z s n ++ (z +ℤ s *ℤ pos n) ∷ []
@@ -89,7 +89,7 @@ piece-offsets a xs base (suc (suc n)) k h l =
     let m : k % a .extent + 1 < a .extent = omega arith in
     let e : offset (a ∷ xs) base k +ℤ a .«source_step» ≡ offset (a ∷ xs) base (suc k) =
     sym (ap (λ (j : ℕ). offset (a ∷ xs) base j) (sym (add-one k)) ∙ along a xs base k h 1 m ∙ one (offset (a ∷ xs) base k) (a .«source_step»)) in
-    let d : suc k % a .extent ≡ k % a .extent + 1 = ap (λ (j : ℕ). j % a .extent) (sym (add-one k) ∙ split a xs base k h 1) ∙ digits-mod (k / a .extent) m in
+    let d : suc k % a .extent ≡ k % a .extent + 1 = ap (λ (j : ℕ). j % a .extent) (sym (add-one k) ∙ column-split a xs base k h 1) ∙ digits-mod (k / a .extent) m in
     ap (λ (z : ℤ). offset (a ∷ xs) base k ∷ steps z (a .«source_step») (suc n)) e
     ∙ ap (λ (l : List ℤ). offset (a ∷ xs) base k ∷ l) (piece-offsets a xs base (suc n) (suc k) h (omega arith))
   where
@@ -103,7 +103,7 @@ pub piece-steps : (l : FullTraversal) → Traversal l → (base : ℤ) → Bound
 unfolding runOf axisOf
 piece-steps l t base b end c p here =
     ap (λ (z : ℤ). steps z (l .«run_stride») (p .len)) (here .first-is)
-    ∙ piece-offsets (axisOf (l .«run_len») (l .«run_stride»)) (outerOf l) base (p .len) (c .at) (some l t base b (c .at)) (here .in-run)
+    ∙ piece-offsets (axisOf (l .«run_len») (l .«run_stride»)) (outerOf l) base (p .len) (c .at) (some-left l t base b (c .at)) (here .in-run)
 
 -- ---- lists of offsets, joined
 pub offsets-append : (xs : List ReduceOuterAxis) (base : ℤ) (k m n : ℕ)

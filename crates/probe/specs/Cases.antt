@@ -6,14 +6,14 @@ use mathlib.Core.Bool.{true, false}
 use lib.IntN.{ℤ, pos, negsuc}
 use Rattle.accumulator.specs.Joining.{Answer, accumulator, refusal}
 use Rattle.finishing.specs.Cases.{oneHalf}
-use Rattle.reduction.specs.Cases.{whole}
+use Rattle.reduction.specs.Cases.{wholeFloat}
 use Rattle.probe.specs.Answers.{codeGiven, mGiven, eGiven, badGiven}
 
-abbrev pub given : Answer
-given = accumulator oneHalf (negsuc 6) true
+abbrev pub handedAcc : Answer
+handedAcc = accumulator oneHalf (negsuc 6) true
 
 abbrev pub HandsOut : Type 0
 HandsOut =
-    (codeGiven given ≡ 0) × (mGiven (whole 3) given ≡ oneHalf) × (eGiven (pos 5) given ≡ negsuc 6) × (badGiven false given ≡ true)
-    × (codeGiven (refusal 7) ≡ 7) × (mGiven (whole 3) (refusal 7) ≡ whole 3) × (eGiven (pos 5) (refusal 7) ≡ pos 5)
+    (codeGiven handedAcc ≡ 0) × (mGiven (wholeFloat 3) handedAcc ≡ oneHalf) × (eGiven (pos 5) handedAcc ≡ negsuc 6) × (badGiven false handedAcc ≡ true)
+    × (codeGiven (refusal 7) ≡ 7) × (mGiven (wholeFloat 3) (refusal 7) ≡ wholeFloat 3) × (eGiven (pos 5) (refusal 7) ≡ pos 5)
     × (badGiven false (refusal 7) ≡ false)

@@ -80,8 +80,8 @@ module _ (l : FullTraversal) (t : Traversal l) (base : ℤ) (b : Bounded (runOf 
           }) f
 
   -- a piece's rates, and those after it
-  joined : (k m : ℕ) → k + m ≤ end → ratesFrom l base values k m ++ ratesFrom l base values (k + m) (end - (k + m)) ≡ ratesFrom l base values k (end - k)
-  joined k m h =
+  rates-joined : (k m : ℕ) → k + m ≤ end → ratesFrom l base values k m ++ ratesFrom l base values (k + m) (end - (k + m)) ≡ ratesFrom l base values k (end - k)
+  rates-joined k m h =
       sym (map-append (valueAt values) (offsetsFrom (runOf l ∷ outerOf l) base k m) (offsetsFrom (runOf l ∷ outerOf l) base (k + m) (end - (k + m))))
       ∙ ap (map (valueAt values)) (sym (offsets-append (runOf l ∷ outerOf l) base k m (end - (k + m))))
       ∙ ap (ratesFrom l base values k) all-left
@@ -90,9 +90,9 @@ module _ (l : FullTraversal) (t : Traversal l) (base : ℤ) (b : Bounded (runOf 
       all-left = omega arith
 
   -- no rate is left at the end
-  over : (k : ℕ) → end ≤ k → [] ≡ ratesFrom l base values k (end - k)
+  none-over : (k : ℕ) → end ≤ k → [] ≡ ratesFrom l base values k (end - k)
   unfolding offsetsFrom
-  over k h = ap (ratesFrom l base values k) none-left
+  none-over k h = ap (ratesFrom l base values k) none-left
     where
       none-left : 0 ≡ end - k
       none-left = omega arith
@@ -100,7 +100,7 @@ module _ (l : FullTraversal) (t : Traversal l) (base : ℤ) (b : Bounded (runOf 
   -- and those, in order
   visited : (n k : ℕ) → k ≤ end → end ≤ k + n → ratesOf (piecesFrom l base values end n k) ≡ ratesFrom l base values k (end - k)
   unfolding piecesFrom ratesOf
-  visited zero k h g = over k (omega arith)
+  visited zero k h g = none-over k (omega arith)
   visited (suc n) k h g = go (ltb k end) refl (visited n (k + pieceLength (l .«run_len») end k))
     where
       go : (x : Bool) → ltb k end ≡ x
@@ -109,13 +109,13 @@ module _ (l : FullTraversal) (t : Traversal l) (base : ℤ) (b : Bounded (runOf 
           ≡ ratesFrom l base values (k + pieceLength (l .«run_len») end k) (end - (k + pieceLength (l .«run_len») end k)))
           → ratesOf (cond x (pieceAt l base values end k ∷ piecesFrom l base values end n (k + pieceLength (l .«run_len») end k)) [])
           ≡ ratesFrom l base values k (end - k)
-      go false e f = over k (ltb-false k end e)
+      go false e f = none-over k (ltb-false k end e)
       go true e f =
           let z = ltb-true k end e in
           let p = len-pos l t base b k end z in
           let q = len-end l t base b k end z in
           ap (λ (xs : List Float). ratesFrom l base values k (pieceLength (l .«run_len») end k) ++ xs) (f q (omega arith))
-          ∙ joined k (pieceLength (l .«run_len») end k) q
+          ∙ rates-joined k (pieceLength (l .«run_len») end k) q
 
   -- ---- rule D3, of the range start to end - 1
   module _ (start : ℕ) (h : start < end) (few : end ≤ 2 ^ 40) where

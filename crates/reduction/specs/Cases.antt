@@ -12,8 +12,8 @@ use Rattle.finishing.specs.Cases.{oneHalf, FinishingTable, LimitsDeciding}
 use Rattle.reduction.specs.Ranges.{reduceOf}
 
 -- 0.0, 1.0, 3.0 and so on
-abbrev pub whole : ℕ → Float
-whole n = fin false n (pos 0)
+abbrev pub wholeFloat : ℕ → Float
+wholeFloat n = fin false n (pos 0)
 
 -- reducing one axis of n elements from the base on gives this accumulator
 abbrev pub Reduces : ℕ → ℤ → ℤ → List Float → Float → ℤ → Bool → Type 0
@@ -23,11 +23,11 @@ Reduces n stride base values m e bad = reduceOf (n ∷ []) (stride ∷ []) base 
 abbrev pub ProductTable : Type 0
 ProductTable =
     Reduces 2 (pos 1) (pos 0) (oneHalf ∷ oneHalf ∷ []) (fin false 9 (negsuc 2)) (pos 1) false
-    × Reduces 2 (pos 2) (pos 0) (oneHalf ∷ whole 3 ∷ oneHalf ∷ []) (fin false 9 (negsuc 2)) (pos 1) false
-    × Reduces 64 (pos 1) (pos 0) (replicate 64 (fin false 1 (pos 1))) (whole 1) (pos 64) false
-    × Reduces 64 (pos 0) (pos 0) (fin false 1 (pos 1) ∷ []) (whole 1) (pos 64) false
-    × Reduces 2 (pos 1) (pos 0) (whole 0 ∷ whole 3 ∷ []) oneHalf (negsuc 1021) true
-    × Reduces 2 (pos 2) (pos 0) (whole 0 ∷ whole 1 ∷ whole 3 ∷ []) (whole 1) (pos 0) true
+    × Reduces 2 (pos 2) (pos 0) (oneHalf ∷ wholeFloat 3 ∷ oneHalf ∷ []) (fin false 9 (negsuc 2)) (pos 1) false
+    × Reduces 64 (pos 1) (pos 0) (replicate 64 (fin false 1 (pos 1))) (wholeFloat 1) (pos 64) false
+    × Reduces 64 (pos 0) (pos 0) (fin false 1 (pos 1) ∷ []) (wholeFloat 1) (pos 64) false
+    × Reduces 2 (pos 1) (pos 0) (wholeFloat 0 ∷ wholeFloat 3 ∷ []) oneHalf (negsuc 1021) true
+    × Reduces 2 (pos 2) (pos 0) (wholeFloat 0 ∷ wholeFloat 1 ∷ wholeFloat 3 ∷ []) (wholeFloat 1) (pos 0) true
 
 abbrev pub CaseTable : Type 0
 CaseTable = LayoutTable × ProductTable × FinishingTable
@@ -45,21 +45,21 @@ LanesDeciding =
     Reduces 9 (pos 1) (pos 0) nine (fin false 70975204821401 (negsuc 45)) (pos 0) false
     × Reduces 9 (negsuc 0) (pos 8) (map oddRate (8 ∷ 9 ∷ 10 ∷ 11 ∷ 12 ∷ 13 ∷ 14 ∷ 15 ∷ 16 ∷ [])) (fin false 70975204821401 (negsuc 45)) (pos 0) false
     × (reduceOf (10 ∷ []) (pos 1 ∷ []) (pos 0) 1 10 (oneHalf ∷ nine) ≡ accumulator (fin false 70975204821401 (negsuc 45)) (pos 0) false)
-    × Reduces 2 (pos 2) (pos 0) (oneHalf ∷ whole 3 ∷ whole 0 ∷ []) oneHalf (pos 0) true
+    × Reduces 2 (pos 2) (pos 0) (oneHalf ∷ wholeFloat 3 ∷ wholeFloat 0 ∷ []) oneHalf (pos 0) true
 
 -- three runs of two: a × 3, b × 5, c × 7, with a value between them that no element visits
 abbrev pub RunsGive : Float → Float → Float → Float → ℤ → Type 0
 RunsGive a b c m e =
-    reduceOf (2 ∷ 3 ∷ []) (pos 1 ∷ pos 3 ∷ []) (pos 0) 0 6 (a ∷ whole 3 ∷ oneHalf ∷ b ∷ whole 5 ∷ oneHalf ∷ c ∷ whole 7 ∷ []) ≡ accumulator m e true
+    reduceOf (2 ∷ 3 ∷ []) (pos 1 ∷ pos 3 ∷ []) (pos 0) 0 6 (a ∷ wholeFloat 3 ∷ oneHalf ∷ b ∷ wholeFloat 5 ∷ oneHalf ∷ c ∷ wholeFloat 7 ∷ []) ≡ accumulator m e true
 
 -- A6: three runs of three from element 1 on, cut and joined from the left; A3: the side that a bad piece keeps, first, in the middle and last
 abbrev pub PiecesDeciding : Type 0
 PiecesDeciding =
     (reduceOf (3 ∷ 3 ∷ []) (pos 1 ∷ pos 4 ∷ []) (pos 0) 1 9 (map oddRate (18 ∷ 17 ∷ 16 ∷ 1 ∷ 15 ∷ 14 ∷ 13 ∷ 1 ∷ 12 ∷ 11 ∷ 10 ∷ []))
     ≡ accumulator (fin false 298565528675189 (negsuc 47)) (pos 0) false)
-    × RunsGive (whole 0) (whole 3) (whole 3) oneHalf (negsuc 1021)
-    × RunsGive oneHalf (whole 0) (whole 3) (fin false 9 (negsuc 2)) (pos 2)
-    × RunsGive oneHalf (whole 3) (whole 0) (fin false 135 (negsuc 6)) (pos 6)
+    × RunsGive (wholeFloat 0) (wholeFloat 3) (wholeFloat 3) oneHalf (negsuc 1021)
+    × RunsGive oneHalf (wholeFloat 0) (wholeFloat 3) (fin false 9 (negsuc 2)) (pos 2)
+    × RunsGive oneHalf (wholeFloat 3) (wholeFloat 0) (fin false 135 (negsuc 6)) (pos 6)
 
 abbrev pub DecidingTable : Type 0
 DecidingTable = LayoutDeciding × LimitsDeciding × LanesDeciding × PiecesDeciding

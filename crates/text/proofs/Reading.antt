@@ -64,8 +64,8 @@ module _ (base n b d : ℕ) (value : digitOf b ≡ Is d) where
 pub sum-over : (base n d : ℕ) → 0 < base → d < 2 ^ 64 → (2 ^ 64 - 1 - d) / base < n → 2 ^ 64 ≤ n * base + d
 sum-over base n d h f k = let l = div-lt-iff-lt-mul h .0 k in omega arith
 
-pub sum-fits : (base n d : ℕ) → 0 < base → d < 2 ^ 64 → n ≤ (2 ^ 64 - 1 - d) / base → n * base + d < 2 ^ 64
-sum-fits base n d h f k = let l = le-div-iff-mul-le h .0 k in omega arith
+pub digit-sum-fits : (base n d : ℕ) → 0 < base → d < 2 ^ 64 → n ≤ (2 ^ 64 - 1 - d) / base → n * base + d < 2 ^ 64
+digit-sum-fits base n d h f k = let l = le-div-iff-mul-le h .0 k in omega arith
 
 pub plain-none : (w : List ℕ) → length w ≡ 0 → false ≡ plain w
 plain-none [] h = refl

@@ -33,8 +33,8 @@ From vector k = notBelow (squareAt vector k) ≡ true
 leaf : (vector : List Float) (k : ℕ) → k < 8 → Node vector (squareAt vector k) (From vector k)
 leaf vector k h = record { low = λ e. inl e; hid = λ e. record { lane = k; below = h; lost = square-nan (getD vector k nan) e } }
 
-both : (vector : List Float) (x y : Float) (P Q : Type 0) → Node vector x P → Node vector y Q → Node vector (lesser x y) (P × Q)
-both vector x y P Q A B = record { low = λ e. let r = least-lesser 28 x y e in join (r .1) (B .low (r .0)); hid = pick (lt x y) }
+both-nodes : (vector : List Float) (x y : Float) (P Q : Type 0) → Node vector x P → Node vector y Q → Node vector (lesser x y) (P × Q)
+both-nodes vector x y P Q A B = record { low = λ e. let r = least-lesser 28 x y e in join (r .1) (B .low (r .0)); hid = pick (lt x y) }
   where
     pair : P ⊎ Hit vector → Q ⊎ Hit vector → (P × Q) ⊎ Hit vector
     pair (inl p) (inl q) = inl (p, q)
@@ -69,14 +69,14 @@ unfolding leastSquare
 vector-low vector eight v e = go (top .low e)
   where
     pairs : (j k : ℕ) → j < 8 → k < 8 → Node vector (lesser (squareAt vector j) (squareAt vector k)) (From vector j × From vector k)
-    pairs j k a b = both vector (squareAt vector j) (squareAt vector k) (From vector j) (From vector k) (leaf vector j a) (leaf vector k b)
+    pairs j k a b = both-nodes vector (squareAt vector j) (squareAt vector k) (From vector j) (From vector k) (leaf vector j a) (leaf vector k b)
 
     top : Node vector (leastSquare vector)
         (((From vector 0 × From vector 4) × (From vector 2 × From vector 6)) × ((From vector 1 × From vector 5) × (From vector 3 × From vector 7)))
     top =
-        both vector _ _ _ _
-        (both vector _ _ _ _ (pairs 0 4 (omega arith) (omega arith)) (pairs 2 6 (omega arith) (omega arith)))
-        (both vector _ _ _ _ (pairs 1 5 (omega arith) (omega arith)) (pairs 3 7 (omega arith) (omega arith)))
+        both-nodes vector _ _ _ _
+        (both-nodes vector _ _ _ _ (pairs 0 4 (omega arith) (omega arith)) (pairs 2 6 (omega arith) (omega arith)))
+        (both-nodes vector _ _ _ _ (pairs 1 5 (omega arith) (omega arith)) (pairs 3 7 (omega arith) (omega arith)))
 
     go : (((From vector 0 × From vector 4) × (From vector 2 × From vector 6)) × ((From vector 1 × From vector 5) × (From vector 3 × From vector 7)))
         ⊎ Hit vector → Each Guarded vector ⊎ Hit vector

@@ -112,8 +112,8 @@ module _ (i : ℕ) (t : Lanes) (gs : List Factor) (vector : List Float) (eight :
   within : 8 * i + length vector ≤ 512
   within = omega (arith, eight)
 
-  counted : 8 * i + length vector ≡ 8 * suc i
-  counted = omega (arith, eight)
+  values-counted : 8 * i + length vector ≡ 8 * suc i
+  values-counted = omega (arith, eight)
 
   -- what holds of the values numbered from 8 * i on holds of the vector
   shifted : (R : ℕ → Lanes → List Factor → Type 0) (step : ℕ → Lanes → Float → Lanes) → ((i : ℕ) (s : Lanes) (x : Float) → step (i + 8) s x ≡ step i s x)
@@ -122,7 +122,7 @@ module _ (i : ℕ) (t : Lanes) (gs : List Factor) (vector : List Float) (eight :
   shifted R step again h =
       subst (R (8 * suc i) (feed step 0 t vector)) plain-on
       (subst (λ (u : Lanes). R (8 * suc i) u (feed (laneTimes 52) (8 * i) gs (map rateFactor vector))) (feed-eights step again i t vector)
-      (subst (λ (n : ℕ). R n (feed step (8 * i) t vector) (feed (laneTimes 52) (8 * i) gs (map rateFactor vector))) counted h))
+      (subst (λ (n : ℕ). R n (feed step (8 * i) t vector) (feed (laneTimes 52) (8 * i) gs (map rateFactor vector))) values-counted h))
 
   vector-represent : LanesRepresent (depth 1 (8 * i)) t gs → LanesRepresent (depth 1 (8 * suc i)) (feed splitStep 0 t vector) (plainAfter gs vector)
   vector-represent h =

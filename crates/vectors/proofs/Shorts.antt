@@ -50,11 +50,11 @@ module _ (xs : List Float) (v : Each Value xs) (short : length xs ≤ 64) where
   p = chained (feed waitStep 0 (startWaiting (replicate 8 one)) (padded xs) .m)
 
   -- the product, brought back, is the piece's
-  abbrev Short : Type 0
-  Short = _≡_ {A = StableProductFloatAcc} (record { m = split p .m; e = split p .e; bad = false }) (contiguous xs)
+  abbrev ShortLanes : Type 0
+  ShortLanes = _≡_ {A = StableProductFloatAcc} (record { m = split p .m; e = split p .e; bad = false }) (contiguous xs)
 
-  long : length (padded xs) ≤ 64
-  long = simp (length-append, length-replicate) (omega arith)
+  padded-long : length (padded xs) ≤ 64
+  padded-long = simp (length-append, length-replicate) (omega arith)
 
   fs : List Factor
   fs = plainAfter (replicate 8 (unit 52)) (padded xs)
@@ -67,10 +67,10 @@ module _ (xs : List Float) (v : Each Value xs) (short : length xs ≤ 64) where
   no-exponent k = replicate-either (λ (z : ℤ). z ≡ pos 0) 8 k (pos 0) (pos 0) refl refl
 
   shallow : (k : ℕ) → depth 15 (0 + length (padded xs)) k ≤ 120
-  shallow k = let h = long in omega arith
+  shallow k = let h = padded-long in omega arith
 
   pub short-contiguous : every notBelow (feed waitStep 0 (startWaiting (replicate 8 one)) (padded xs) .least) ≡ true → notPast p ≡ true
-      → Short
+      → ShortLanes
   unfolding fs pieceProduct
   short-contiguous b n =
       go (outcome startLanes w (padded xs) values short' refl refl b (replicate 8 (unit 52)) represent-start)
@@ -83,12 +83,12 @@ module _ (xs : List Float) (v : Each Value xs) (short : length xs ≤ 64) where
       values = padded-values xs (7 - (length xs + 7) % 8) v
 
       short' : length (padded xs) ≤ 512
-      short' = let h = long in omega arith
+      short' = let h = padded-long in omega arith
 
-      lost : isLost p ≡ true → Short
+      lost : isLost p ≡ true → ShortLanes
       lost e = absurd (past-lost p n e)
 
-      stood : Each GoodRate (padded xs) → Waits 960 p (pos 0) (pieceProduct 52 (map rateFactor xs)) → Short
+      stood : Each GoodRate (padded xs) → Waits 960 p (pos 0) (pieceProduct 52 (map rateFactor xs)) → ShortLanes
       stood R W =
           ap (λ (z : ℤ). record { m = split p .m; e = z; bad = false }) (sym (+ℤ-idl (split p .e)))
           ∙ represents-acc (split p .m) (pos 0 +ℤ split p .e) (pieceProduct 52 (map rateFactor xs))
@@ -98,13 +98,13 @@ module _ (xs : List Float) (v : Each Value xs) (short : length xs ≤ 64) where
           ∙ sym (contiguous-is v)
 
       chained-up : Each GoodRate (padded xs) → Waits 960 p (pos 0) (inOrder (times-in fs) 8 (unit 52)) ⊎ (isLost p ≡ true)
-          → Short
+          → ShortLanes
       chained-up R (inl W) = stood R (subst (λ (gs : List Factor). Waits 960 p (pos 0) (inOrder (times-in gs) 8 (unit 52))) fs-is W)
       chained-up R (inr e) = lost e
 
       go : Out (0 + length (padded xs)) (feed waitStep 0 w (padded xs) .m) (startLanes .e) fs
           → Each GoodRate (padded xs) ⊎ LostLane (feed waitStep 0 w (padded xs) .m)
-          → Short
+          → ShortLanes
       go (inr l) g = lost (chain-lost (feed waitStep 0 w (padded xs) .m) l)
       go (inl q) (inr l) = lost (chain-lost (feed waitStep 0 w (padded xs) .m) l)
       go (inl q) (inl R) =

@@ -162,16 +162,16 @@ module _ (s : Lanes) (h : SmallLanes (2 ^ 56) s) (z : ℤ) (p : Split) (q : Floa
   sum-small : natAbs z ≤ 2 ^ 61
   sum-small = subst (λ (v : ℤ). natAbs v ≤ 2 ^ 61) (sym e) (le-trans (exponents-size (2 ^ 56) s h) (lit≤ tt))
 
-  split-small : natAbs (p .e) ≤ 2 ^ 61
-  split-small = subst (λ (r : Split). natAbs (r .e) ≤ 2 ^ 61) (sym d) (le-trans (split-size q) (lit≤ tt))
+  split-within : natAbs (p .e) ≤ 2 ^ 61
+  split-within = subst (λ (r : Split). natAbs (r .e) ≤ 2 ^ 61) (sym d) (le-trans (split-size q) (lit≤ tt))
 
   pub product-fits : SFits w64 (toZ w64 (ofZ w64 z) +ℤ toZ w64 (ofZ w64 (p .e)))
-  product-fits = sum-fits z (p .e) sum-small split-small
+  product-fits = sum-fits z (p .e) sum-small split-within
 
-  pub product-is : _≡_ {A = StableProductFloatAcc} (record { m = p .m; e = toZ w64 (ofZ w64 (toZ w64 (ofZ w64 z) +ℤ toZ w64 (ofZ w64 (p .e)))); bad = s .bad })
+  pub lanes-product-is : _≡_ {A = StableProductFloatAcc} (record { m = p .m; e = toZ w64 (ofZ w64 (toZ w64 (ofZ w64 z) +ℤ toZ w64 (ofZ w64 (p .e)))); bad = s .bad })
       (lanesProduct s)
   unfolding lanesProduct
-  product-is =
-      ap (λ (v : ℤ). record { m = p .m; e = v; bad = s .bad }) (sum-exact z (p .e) sum-small split-small)
+  lanes-product-is =
+      ap (λ (v : ℤ). record { m = p .m; e = v; bad = s .bad }) (sum-exact z (p .e) sum-small split-within)
       ∙ ap (λ (v : ℤ). record { m = p .m; e = v +ℤ p .e; bad = s .bad }) e
       ∙ ap (λ (r : Split). record { m = r .m; e = exponentsOf s +ℤ r .e; bad = s .bad }) (d ∙ ap split c)

@@ -6,7 +6,7 @@ use mir.Facts.{toZ-ofZ}
 use Rattle.offsets.specs.declared.cursor.ReduceOuterCursor.{ReduceOuterCursor}
 use Rattle.offsets.specs.Pieces.{outerOf}
 use Rattle.offsets.specs.InnerPieces.{rangeAt}
-use Rattle.offsets.proofs.Walking.{some, outer-axes, outer-bounded}
+use Rattle.offsets.proofs.Walking.{some-left, outer-axes, outer-bounded}
 use Rattle.offsets.proofs.pieces.begin.Statement.{statement}
 use Rattle.offsets.proofs.pieces.begin.Tie as tie
 use Rattle.offsets.proofs.pieces.begin.Reads as reads
@@ -14,7 +14,7 @@ use Rattle.offsets.proofs.pieces.begin.Lts as lts
 use Rattle.offsets.proofs.cursor.ReduceOuterCursor.decode.Reads as decode-reads
 
 rem-t7 : tie.Need-rem-t7
-rem-t7 c = let s = c .before in some (s .args .l) (s .pre .0) (s .args .base) (s .pre .1) (s .args .start)
+rem-t7 c = let s = c .before in some-left (s .args .l) (s .pre .0) (s .args .base) (s .pre .1) (s .args .start)
 
 div-decode : tie.Need-div-decode
 div-decode c = rem-t7 c

@@ -4,7 +4,7 @@ use Prim.Native.Nat.{_+_, _*_, _^_, _<_}
 use mathlib.Core.Path.{_≡_, sym, _∙_, ap}
 use native.Mathlib.Omega.{arith}
 use borrow.Author.Needs.{needs}
-use Rattle.text.proofs.Reading.{digit-refused, digit-over, digit-fits, sum-over, sum-fits}
+use Rattle.text.proofs.Reading.{digit-refused, digit-over, digit-fits, sum-over, digit-sum-fits}
 use Rattle.text.proofs.number.with_digit.Statement.{statement}
 use Rattle.text.specs.Numbers.{digitOf, digitBehind}
 use Rattle.text.specs.declared.number.ParsedU64.the-variants.{Is}
@@ -58,7 +58,7 @@ sum-in c =
     let known = c .before .before .before in
     let start = known .before .before .before in
     let a = start .args in
-    sum-fits (a .base) (a .n) (known .digit .given .0 .0) (start .pre) (omega arith) (c .if2 .left)
+    digit-sum-fits (a .base) (a .n) (known .digit .given .0 .0) (start .pre) (omega arith) (c .if2 .left)
 
 mul-t7 : tie.Need-mul-t7
 mul-t7 c = record { fits = let h = sum-in c in omega arith }

@@ -1,6 +1,6 @@
 -- `vectors::feeding::lanes_product` meets its contract. Assumes nothing.
 use borrow.Author.Needs.{needs}
-use Rattle.vectors.proofs.Vectors.{product-fits, product-is}
+use Rattle.vectors.proofs.Vectors.{product-fits, lanes-product-is}
 use Rattle.vectors.proofs.feeding.lanes_product.Statement.{statement}
 use Rattle.vectors.proofs.feeding.lanes_product.Tie as tie
 
@@ -26,7 +26,7 @@ returns c =
     let x = c .before .before in
     let p = x .before in
     let s = p .before .before .before in
-    product-is (s .args .s) (s .pre .0) (x .exponents .result) (p .split-f64 .result) (p .before .chain .result) (x .exponents .ensures)
+    lanes-product-is (s .args .s) (s .pre .0) (x .exponents .result) (p .split-f64 .result) (p .before .chain .result) (x .exponents .ensures)
     (p .before .chain .ensures) (p .split-f64 .ensures)
 
 pub lanes-product-spec : {M : Type 1} → statement M
