@@ -52,14 +52,14 @@ abbrev pub answerOf : Reduced → Answer
 answerOf (Acc a) = accumulator (a .m) (a .e) (a .bad)
 answerOf (Refused n) = refusal n
 
--- rule R10, of two in range: 10 if neither is bad and the joined |e| would be above 2^52; else the joined accumulator
+-- rule R10, of two within their limits: 10 if neither is bad and the joined |e| would be above 2^52; else the joined accumulator
 unfoldable pub answered : StableProductFloatAcc → StableProductFloatAcc → Answer
 unfolding combined
 answered a b =
     let r = combined a b in
     cond (not (a .bad || b .bad) && not (withinLimit (r .e))) (refusal EXPONENT_OUT_OF_RANGE) (accumulator (r .m) (r .e) (r .bad))
 
--- rules C4 and R0: 9 if either is not
+-- rules C4 and R0: 9 if either is not within its limits
 unfoldable pub joined : StableProductFloatAcc → StableProductFloatAcc → Answer
 unfolding inLimits answered
 joined a b = cond (not (inLimits a && inLimits b)) (refusal ACCUMULATOR_OUT_OF_RANGE) (answered a b)

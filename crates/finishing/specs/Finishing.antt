@@ -20,12 +20,12 @@ abbrev pub finalAnswerOf : Finished → FinalAnswer
 finalAnswerOf (finished.Number x) = value x
 finalAnswerOf (finished.Refused n) = refusal n
 
--- of an accumulator that stands: bad gives the NaN, whose pattern is 0x7FF8000000000000; else m × 2^e rounded once
+-- rule F1, of an accumulator within its limits: bad gives the NaN, whose pattern is 0x7FF8000000000000; else m × 2^e rounded once
 unfoldable pub valueOfAcc : StableProductFloatAcc → Float
 unfolding roundedOnce
 valueOfAcc a = cond (a .bad) nan (roundedOnce (factorOfAcc a))
 
--- A refusal handed in comes out unchanged, whatever its number. Else 9 of an accumulator that does not stand, bad or not. Else its value.
+-- A refusal handed in comes out unchanged, whatever its number. Else 9 of an accumulator that is not within its limits, bad or not. Else its value.
 unfoldable pub finishedOf : Reduced → FinalAnswer
 unfolding inLimits valueOfAcc
 finishedOf (Refused n) = refusal n

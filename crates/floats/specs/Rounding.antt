@@ -1,6 +1,6 @@
 -- For rules D2 and F2, rounding to a binary format, from IEEE 754-2019, in whole numbers.
 -- A format has a precision p, the digits of a significand, and a largest exponent emax (3.3); the least normal exponent is 1 - emax.
--- Its least positive number is 2 ^ -(lowest p emax), and every finite number of the format is a whole number of those: a place z counts from there.
+-- Its least positive number is 2 ^ -(unitPlaces p emax), and every finite number of the format is a whole number of those: a place z counts from there.
 -- A value is the kit's `Float`: one NaN, two infinities, and `fin s m e` for (-1)^s × m × 2^e.
 use Prim.Native.Nat.{ℕ, suc, _+_, _-_, _*_, _/_, _%_, _^_, max}
 use mathlib.Core.Bool.{Bool, cond}

@@ -12,7 +12,7 @@ use Rattle.floats.specs.Fields.{signField, expField, fraction, pattern, 
 abbrev pub bitsOf : Float → ℕ
 bitsOf x = toBits binary64 x
 
--- a rate that no factor stands for: a zero, a subnormal, an infinity or a NaN
+-- a rate that has no factor: a zero, a subnormal, an infinity or a NaN
 unfoldable pub isBad : Float → Bool
 unfolding badBits
 isBad x = badBits (f64Format .w) (f64Format .t) (bitsOf x)

@@ -16,7 +16,7 @@ use Rattle.kernels.specs.Lanes.{Each}
 use Rattle.kernels.specs.Stepped.{stepped}
 use Rattle.kernels.specs.Blocks.{contiguous}
 
--- a rate that is not bad: a value of binary64 (as every f64 is) that a factor stands for
+-- a rate that is not bad: a value of binary64 (as every f64 is) that has a factor
 pub record GoodRate (x : Float) : Type 0 where
   pub value : T (fits binary64 x)
   pub good : isBad x ≡ false
