@@ -10,7 +10,8 @@ use lib.Ieee.{Float, nan, inf, fin, binary64, minus, odd, eq, neg, ofBits, ofFie
 use mir.Syntax.{w64}
 use mir.Val.{SFits, Fits}
 use borrow.Author.Tests.{lt-leb, ne-eqb, leb-true, leb-false}
-use Rattle.integers.proofs.Difference.{ints, atoms, diff, at-pos, at-neg}
+use Rattle.integers.proofs.Difference.{ints, atoms, at-pos, at-neg}
+use Rattle.floats.proofs.Patterns.{minus-is, power-bits, power-number}
 use Rattle.integers.proofs.Machine.{nonneg-pos}
 use Rattle.finishing.specs.Once.{pastLargest, fromLeastNormal}
 use Rattle.finishing.specs.InnerFinishing.{isInfinite}
@@ -40,13 +41,6 @@ pub infinite-left : (m : Float) → eq m infinity ≡ false → eq m (neg infini
 infinite-left m h = ap (λ (t : Bool). t || eq m (neg infinity)) (sym h) ∙ infinite-test m
 
 -- ---- a power of two
-minus-is : (a b : ℕ) → minus a b ≡ diff a b
-minus-is a b = go (leb b a) refl
-  where
-    go : (t : Bool) → leb b a ≡ t → cond t (pos (a - b)) (negsuc (b - suc a)) ≡ diff a b
-    go true h = sym (at-pos a b (a - b) (let l : b ≤ a = leb-true b a h in omega arith))
-    go false h = sym (at-neg a b (b - suc a) (let l : a < b = leb-false b a h in omega arith))
-
 -- the exponent of the field x + 1
 exponent : (e : ℤ) (x : ℕ) → e +ℤ pos 1023 ≡ pos (suc x) → minus (x + 52) 1074 ≡ e
 exponent (pos n) x h = minus-is (x + 52) 1074 ∙ at-pos (x + 52) 1074 n (flat n x h)
@@ -57,39 +51,6 @@ exponent (negsuc n) x h = minus-is (x + 52) 1074 ∙ at-neg (x + 52) 1074 n (fla
   where
     flat : (n x : ℕ) → negsuc n +ℤ pos 1023 ≡ pos (suc x) → 1074 ≡ x + 52 + suc n
     flat n x = simp ints (simp atoms (omega arith))
-
--- the fields of (x + 1) × 2^52
-module _ (x : ℕ) (h : x < 2046) where
-  abbrev bits : ℕ
-  bits = suc x * 2 ^ 52
-
-  plus : leb (2 ^ 63) bits ≡ false
-  plus = lt-leb (2 ^ 63) bits (omega arith)
-
-  field : bits % 2 ^ 63 / 2 ^ 52 ≡ suc x
-  field = omega arith
-
-  none : bits % 2 ^ 52 ≡ 0
-  none = omega arith
-
-  not-all : eqb (suc x) 2047 ≡ false
-  not-all = ne-eqb (suc x) 2047 (λ (z : suc x ≡ 2047). omega arith)
-
-  fields : ofFields binary64 false (suc x) 0 ≡ fin false 1 (minus (x + 52) 1074)
-  unfolding ofFields
-  fields = ap (λ (t : Bool). cond t (inf false) (odd 53 false (2 ^ 52) x 1074)) not-all
-
-  power-bits : ofBits binary64 bits ≡ fin false 1 (minus (x + 52) 1074)
-  unfolding ofBits
-  power-bits =
-      ap (λ (s : Bool). ofFields binary64 s (bits % 2 ^ 63 / 2 ^ 52) (bits % 2 ^ 52)) plus
-      ∙ ap (λ (y : ℕ). ofFields binary64 false y (bits % 2 ^ 52)) field
-      ∙ ap (ofFields binary64 false (suc x)) none
-      ∙ fields
-
-  power-number : T (not (nanBits binary64 bits))
-  unfolding nanBits
-  power-number = subst (λ (t : Bool). T (not (t && not (eqb (bits % 2 ^ 52) 0)))) (sym (ap (λ (y : ℕ). eqb y 2047) field ∙ not-all)) tt
 
 -- ---- an exponent from -1022 to 1023
 module _ (e : ℤ) (h : pastLargest e ≡ false) (k : fromLeastNormal e ≡ true) where

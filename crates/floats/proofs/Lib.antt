@@ -14,3 +14,4 @@ pub mod Masks
 pub mod Splitting
 mod Cases
 pub mod Theorems
+pub mod Patterns

@@ -25,6 +25,7 @@ use Rattle.floats.specs.Fields.{signField, expField, fraction, ofParts, valueOf
 use Rattle.floats.specs.Splitting.{bitsOf, isBad, rateFactor}
 use Rattle.floats.proofs.Fields.{value-is, fraction-lt}
 use Rattle.floats.proofs.Bridge.{delivered-units, room, floatOf-value}
+use Rattle.floats.proofs.Overflow.{isLost}
 use Rattle.floats.proofs.Splitting.{rate-normal, rate-range, rate-float}
 
 not-nought : (a : ℕ) → 0 < a → eqb a 0 ≡ false
@@ -141,6 +142,16 @@ le-from k (fin false m e) = le-test (1 * down e) (m * up e * 2 ^ suc k) ∙ ap (
 le-from k (fin true m e) =
     let t = eqb (1 * down e) (m * up e * 2 ^ suc k) in
     ap (λ (u : Bool). t && u) (not-nought (1 * down e) (lt-of-lt-of-le (down-pos e) (le-of-eq (sym (one-mul (down e)))))) ∙ and-false t
+
+pub least-value : (k : ℕ) → suc k ≤ 1021 → (x : Float) → T (fits binary64 x) → le (fin false 1 (negsuc k)) x ≡ true
+    → (isLost x ≡ true) ⊎ ((isBad x ≡ false) × (leZ (negsuc k) (rateFactor x .exp) ≡ true))
+least-value k small nan f h = absurd (true≢false (sym h ∙ le-from k nan))
+least-value k small (inf s) f h = inl refl
+least-value k small (fin true m e) f h = absurd (true≢false (sym h ∙ le-from k (fin true m e)))
+least-value k small (fin false m e) f h =
+    let w : reaches (suc k) (fin false m e) ≡ true = sym (le-from k (fin false m e)) ∙ h in
+    let g = reaching-good (suc k) small (fin false m e) f w in
+    inr (g, reaching-exponent k (fin false m e) f g w)
 
 -- ---- the lesser of two
 -- 1 ≤ a / d × p, and a / d ≤ b / c

@@ -1,10 +1,10 @@
 -- Lanes multiplied in lane order, unsplit. Assumes nothing.
-use Prim.Native.Nat.{ℕ, zero, suc, _+_, _*_, _≤_, _<_}
+use Prim.Native.Nat.{ℕ, zero, suc, _+_, _*_, _≤_, _<_, zero-le}
 use mathlib.Core.Path.{_≡_, refl, subst}
 use mathlib.Core.Bool.{Bool, true, false}
 use mathlib.Core.List.{List}
 use mathlib.Core.Logic.{_⊎_, inl, inr}
-use native.Mathlib.Nat.{le-refl, le-of-lt}
+use native.Mathlib.Nat.{le-refl, le-of-lt, le-trans, le-of-eq, mul-le-mul-left}
 use native.Mathlib.Omega.{arith}
 use lib.ListN.{getD}
 use lib.Dec.{ltb}
@@ -47,12 +47,15 @@ module _ (s : Lanes) (fs : List Factor) (H : LanesRepresent zeros s fs) where
   unfolding chained exponentsOf
   chain-represents = upto 8 (le-refl 8)
 
--- ---- lanes that wait, each at most 120 deep and with the exponent 0
-module _ (ms : List Float) (fs : List Factor) (es : List ℤ) (none : (k : ℕ) → getD es k (pos 0) ≡ pos 0) (W : WaitLanes (λ (k : ℕ). 120) ms es fs) where
+-- ---- lanes that wait, each at most B deep and with the exponent 0
+module _ (B : ℕ) (room : 8 * B ≤ 1022) (ms : List Float) (fs : List Factor) (es : List ℤ) (none : (k : ℕ) → getD es k (pos 0) ≡ pos 0) (W : WaitLanes (λ (k : ℕ). B) ms es fs) where
+  deep-room : (n : ℕ) → n < 8 → B * n + B ≤ 1022
+  deep-room n h = le-trans (le-of-eq (let e : B * n + B ≡ B * suc n = omega arith in e)) (le-trans (mul-le-mul-left B h) (omega arith))
+
   on : (n : ℕ) → n ≤ 8
-      → Waits (120 * n) (inOrder (product-in ms) n one) (pos 0) (inOrder (times-in fs) n (unit 52)) ⊎ (isLost (inOrder (product-in ms) n one) ≡ true)
+      → Waits (B * n) (inOrder (product-in ms) n one) (pos 0) (inOrder (times-in fs) n (unit 52)) ⊎ (isLost (inOrder (product-in ms) n one) ≡ true)
   unfolding inOrder
-  on zero h = inl (represents-waits one (pos 0) (unit 52) represents-one)
+  on zero h = inl (waits-more 0 (B * 0) one (pos 0) (unit 52) zero-le (represents-waits one (pos 0) (unit 52) represents-one))
   on (suc n) h = go (on n (le-of-lt h))
     where
       p : Float
@@ -61,24 +64,24 @@ module _ (ms : List Float) (fs : List Factor) (es : List ℤ) (none : (k : ℕ) 
       f : Factor
       f = inOrder (times-in fs) n (unit 52)
 
-      lane : Waits 120 (getD ms n nan) (pos 0) (getD fs n (unit 52))
-      lane = subst (λ (e : ℤ). Waits 120 (getD ms n nan) e (getD fs n (unit 52))) (none n) (W .at n h)
+      lane : Waits B (getD ms n nan) (pos 0) (getD fs n (unit 52))
+      lane = subst (λ (e : ℤ). Waits B (getD ms n nan) e (getD fs n (unit 52))) (none n) (W .at n h)
 
-      deeper : Waits (120 * n + 120) (productOf 11 52 p (getD ms n nan)) (pos 0) (times 52 f (getD fs n (unit 52)))
+      deeper : Waits (B * n + B) (productOf 11 52 p (getD ms n nan)) (pos 0) (times 52 f (getD fs n (unit 52)))
           ⊎ (isLost (productOf 11 52 p (getD ms n nan)) ≡ true)
-          → Waits (120 * suc n) (productOf 11 52 p (getD ms n nan)) (pos 0) (times 52 f (getD fs n (unit 52)))
+          → Waits (B * suc n) (productOf 11 52 p (getD ms n nan)) (pos 0) (times 52 f (getD fs n (unit 52)))
           ⊎ (isLost (productOf 11 52 p (getD ms n nan)) ≡ true)
       deeper (inl w) =
-          inl (waits-more (120 * n + 120) (120 * suc n) (productOf 11 52 p (getD ms n nan)) (pos 0) (times 52 f (getD fs n (unit 52))) (omega arith) w)
+          inl (waits-more (B * n + B) (B * suc n) (productOf 11 52 p (getD ms n nan)) (pos 0) (times 52 f (getD fs n (unit 52))) (omega arith) w)
       deeper (inr e) = inr e
 
-      go : Waits (120 * n) p (pos 0) f ⊎ (isLost p ≡ true)
-          → Waits (120 * suc n) (productOf 11 52 p (getD ms n nan)) (pos 0) (times 52 f (getD fs n (unit 52)))
+      go : Waits (B * n) p (pos 0) f ⊎ (isLost p ≡ true)
+          → Waits (B * suc n) (productOf 11 52 p (getD ms n nan)) (pos 0) (times 52 f (getD fs n (unit 52)))
           ⊎ (isLost (productOf 11 52 p (getD ms n nan)) ≡ true)
-      go (inl w) = deeper (waits-times (120 * n) 120 p (getD ms n nan) (pos 0) (pos 0) f (getD fs n (unit 52)) w lane (omega arith))
+      go (inl w) = deeper (waits-times (B * n) B p (getD ms n nan) (pos 0) (pos 0) f (getD fs n (unit 52)) w lane (deep-room n h))
       go (inr e) = inr (lost-product p (getD ms n nan) e)
 
-  pub chain-waits : Waits 960 (chained ms) (pos 0) (inOrder (times-in fs) 8 (unit 52)) ⊎ (isLost (chained ms) ≡ true)
+  pub chain-waits : Waits (B * 8) (chained ms) (pos 0) (inOrder (times-in fs) 8 (unit 52)) ⊎ (isLost (chained ms) ≡ true)
   unfolding chained
   chain-waits = on 8 (le-refl 8)
 

@@ -1,7 +1,7 @@
 -- What vectors that waited make of the lanes. Assumes nothing.
-use Prim.Native.Nat.{_+_, _≤_}
+use Prim.Native.Nat.{ℕ, suc, _+_, _*_, _≤_}
 use mathlib.Core.Path.{_≡_, refl, sym, ap, _∙_, subst}
-use mathlib.Core.Bool.{true, _||_}
+use mathlib.Core.Bool.{Bool, true, _||_}
 use mathlib.Core.List.{List}
 use mathlib.Core.Logic.{_⊎_, inl, inr}
 use native.Mathlib.Omega.{arith}
@@ -17,41 +17,42 @@ use Rattle.kernels.specs.InnerLanes.{LanesRepresent, LanesAfter, zeros, plainAf
 use Rattle.kernels.proofs.Lanewise.{depth}
 use Rattle.kernels.proofs.Blocking.{Value, rates-mark, renorm-each, renorm-mark}
 use Rattle.vectors.specs.declared.vector.Waiting.{Waiting}
-use Rattle.vectors.specs.InnerWaiting.{waitStep, notBelow, notPast}
+use Rattle.vectors.specs.InnerWaiting.{waitStep, leastOf, notBelow, notPast}
 use Rattle.vectors.proofs.Waits.{WaitLanes, waits-split, lanes-wait}
 use Rattle.vectors.proofs.Waiting.{LostLane, Guarded, Out, fed-out, fed-good, guards, none-lost}
 
 -- ---- vectors that waited
-module _ (s : Lanes) (w : Waiting) (xs : List Float) (v : Each Value xs) (short : length xs ≤ 512) (same : w .m ≡ s .m) (eight : length (w .least) ≡ 8)
-    (below : every notBelow (feed waitStep 0 w xs .least) ≡ true) where
-  guarded-all : Each Guarded xs
-  guarded-all = guards 0 w v eight below .1
+module _ (signs : Bool) (k n : ℕ) (few : k ≤ 510) (room : suc k * n ≤ 1022) (s : Lanes) (w : Waiting) (xs : List Float) (v : Each Value xs)
+    (short : length xs ≤ 8 * n) (same : w .m ≡ s .m) (eight : length (w .least) ≡ 8)
+    (below : every (notBelow (leastOf signs (suc k))) (feed (waitStep signs) 0 w xs .least) ≡ true) where
+  guarded-all : Each (Guarded signs k) xs
+  guarded-all = guards signs k 0 w v eight below .1
 
   -- the lanes wait for their factors, or one is lost
-  pub outcome : (fs : List Factor) → LanesRepresent zeros s fs → Out (0 + length xs) (feed waitStep 0 w xs .m) (s .e) (plainAfter fs xs)
+  pub outcome : (fs : List Factor) → LanesRepresent zeros s fs → Out (suc k) (0 + length xs) (feed (waitStep signs) 0 w xs .m) (s .e) (plainAfter fs xs)
   unfolding waitStep
   outcome fs H =
-      fed-out waitStep (λ (w : Waiting). w .m) (λ (w : Waiting). s .e) (λ i w x. refl) (λ i w x. refl) 0 w fs guarded-all (omega (arith, short))
-      (inl (subst (λ (ms : List Float). WaitLanes (depth 15 0) ms (s .e) fs) (sym same) (lanes-wait (depth 15 0) s fs H)))
+      fed-out (waitStep signs) (λ (w : Waiting). w .m) (λ (w : Waiting). s .e) (λ i w x. refl) (λ i w x. refl) signs k n few room 0 w fs guarded-all (omega (arith, short))
+      (inl (subst (λ (ms : List Float). WaitLanes (depth (suc k) 0) ms (s .e) fs) (sym same) (lanes-wait (depth (suc k) 0) s fs H)))
 
   -- no value is bad, or one is lost
-  pub outcome-good : length (s .m) ≡ 8 → Each GoodRate xs ⊎ LostLane (feed waitStep 0 w xs .m)
+  pub outcome-good : length (s .m) ≡ 8 → Each GoodRate xs ⊎ LostLane (feed (waitStep signs) 0 w xs .m)
   unfolding waitStep
-  outcome-good l = fed-good waitStep (λ (w : Waiting). w .m) (λ (w : Waiting). s .e) (λ i w x. refl) (λ i w x. refl) 0 w (ap length same ∙ l) guarded-all
+  outcome-good l = fed-good (waitStep signs) (λ (w : Waiting). w .m) (λ (w : Waiting). s .e) (λ i w x. refl) (λ i w x. refl) signs k n few room 0 w (ap length same ∙ l) guarded-all
 
   -- brought back, they are what the values make of the lanes
   abbrev kept : Lanes
-  kept = record { m = feed waitStep 0 w xs .m; e = s .e; bad = s .bad }
+  kept = record { m = feed (waitStep signs) 0 w xs .m; e = s .e; bad = s .bad }
 
-  pub waited-fed : every notPast (feed waitStep 0 w xs .m) ≡ true → LanesAfter s xs (renorm kept)
+  pub waited-fed : every notPast (feed (waitStep signs) 0 w xs .m) ≡ true → LanesAfter s xs (renorm kept)
   waited-fed p = record { represent = λ fs H. represent (plainAfter fs xs) (outcome fs H); mark = λ fs H. mark (outcome-good (H .m-long)) }
     where
-      represent : (gs : List Factor) → Out (0 + length xs) (feed waitStep 0 w xs .m) (s .e) gs → LanesRepresent zeros (renorm kept) gs
-      represent gs (inr l) = absurd (none-lost (feed waitStep 0 w xs .m) p l)
+      represent : (gs : List Factor) → Out (suc k) (0 + length xs) (feed (waitStep signs) 0 w xs .m) (s .e) gs → LanesRepresent zeros (renorm kept) gs
+      represent gs (inr l) = absurd (none-lost (feed (waitStep signs) 0 w xs .m) p l)
       represent gs (inl q) =
-          renorm-each kept gs (λ k i. waits-split (depth 15 (0 + length xs) k) (mOf kept k) (eOf kept k) (getD gs k (unit 52)) (q .at k i)) (q .m-long)
+          renorm-each kept gs (λ j i. waits-split (depth (suc k) (0 + length xs) j) (mOf kept j) (eOf kept j) (getD gs j (unit 52)) (q .at j i)) (q .m-long)
           (q .e-long) (q .f-long)
 
-      mark : Each GoodRate xs ⊎ LostLane (feed waitStep 0 w xs .m) → renorm kept .bad ≡ (s .bad || some isBad xs)
-      mark (inr l) = absurd (none-lost (feed waitStep 0 w xs .m) p l)
+      mark : Each GoodRate xs ⊎ LostLane (feed (waitStep signs) 0 w xs .m) → renorm kept .bad ≡ (s .bad || some isBad xs)
+      mark (inr l) = absurd (none-lost (feed (waitStep signs) 0 w xs .m) p l)
       mark (inl R) = renorm-mark kept ∙ rates-mark (s .bad) R

@@ -10,4 +10,5 @@ pub mod Lows
 pub mod Mixed
 pub mod Feds
 pub mod Shorts
+pub mod Trying
 pub mod Stepping

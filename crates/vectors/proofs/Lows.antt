@@ -12,9 +12,12 @@ use Rattle.kernels.specs.Lanes.{Each, none, more}
 use Rattle.kernels.proofs.Feeding.{each-map, each-both}
 use Rattle.kernels.proofs.Least.{least-lesser}
 use Rattle.kernels.proofs.Blocking.{Value}
-use Rattle.vectors.specs.InnerWaiting.{square, squareAt, lesser, notBelow, leastSquare, notLow}
+use Rattle.vectors.specs.InnerWaiting.{square, squareAt, lesser, leastOf, notBelow, leastSquare, notLow}
 use Rattle.vectors.proofs.Squares.{square-nan}
 use Rattle.vectors.proofs.Waiting.{Guarded}
+
+abbrev Above : Float → Bool
+Above = notBelow (leastOf true 15)
 
 -- a lane's value is an infinity or a NaN
 pub record Hit (vector : List Float) : Type 0 where
@@ -24,11 +27,11 @@ pub record Hit (vector : List Float) : Type 0 where
 
 -- y is the least of some squares: if it is not below 2^-29, Q holds of them or one is a NaN, and if it is a NaN, one is
 record Node (vector : List Float) (y : Float) (Q : Type 0) : Type 0 where
-  low : notBelow y ≡ true → Q ⊎ Hit vector
+  low : Above y ≡ true → Q ⊎ Hit vector
   hid : isNan y ≡ true → Hit vector
 
 abbrev From : List Float → ℕ → Type 0
-From vector k = notBelow (squareAt vector k) ≡ true
+From vector k = Above (squareAt vector k) ≡ true
 
 leaf : (vector : List Float) (k : ℕ) → k < 8 → Node vector (squareAt vector k) (From vector k)
 leaf vector k h = record { low = λ e. inl e; hid = λ e. record { lane = k; below = h; lost = square-nan (getD vector k nan) e } }
@@ -41,7 +44,7 @@ both-nodes vector x y P Q A B = record { low = λ e. let r = least-lesser 28 x y
     pair (inl p) (inr h) = inr h
     pair (inr h) q = inr h
 
-    join : (notBelow x ≡ true) ⊎ (isNan x ≡ true) → Q ⊎ Hit vector → (P × Q) ⊎ Hit vector
+    join : (Above x ≡ true) ⊎ (isNan x ≡ true) → Q ⊎ Hit vector → (P × Q) ⊎ Hit vector
     join (inl p) q = pair (A .low p) q
     join (inr n) q = inr (A .hid n)
 
@@ -64,7 +67,7 @@ each-from : (P : Float → Type 0) (l : List Float) → ((k : ℕ) → k < lengt
 each-from P [] f = none
 each-from P (x ∷ l) f = more (f 0 (omega arith)) (each-from P l (λ k h. f (suc k) (omega arith)))
 
-pub vector-low : (vector : List Float) → length vector ≡ 8 → Each Value vector → notLow vector ≡ true → Each Guarded vector ⊎ Hit vector
+pub vector-low : (vector : List Float) → length vector ≡ 8 → Each Value vector → notLow vector ≡ true → Each (Guarded true 14) vector ⊎ Hit vector
 unfolding leastSquare
 vector-low vector eight v e = go (top .low e)
   where
@@ -79,12 +82,12 @@ vector-low vector eight v e = go (top .low e)
         (both-nodes vector _ _ _ _ (pairs 1 5 (omega arith) (omega arith)) (pairs 3 7 (omega arith) (omega arith)))
 
     go : (((From vector 0 × From vector 4) × (From vector 2 × From vector 6)) × ((From vector 1 × From vector 5) × (From vector 3 × From vector 7)))
-        ⊎ Hit vector → Each Guarded vector ⊎ Hit vector
+        ⊎ Hit vector → Each (Guarded true 14) vector ⊎ Hit vector
     go (inr h) = inr h
     go (inl p) =
         inl
-        (each-map (λ (x : Float). Value x × (notBelow (square x) ≡ true)) Guarded (λ x q. record { value = q .0; from = inl (q .1) })
-        (each-both Value (λ (x : Float). notBelow (square x) ≡ true) v
-        (each-from (λ (x : Float). notBelow (square x) ≡ true) vector
+        (each-map (λ (x : Float). Value x × (Above (square x) ≡ true)) (Guarded true 14) (λ x q. record { value = q .0; from = inl (q .1) })
+        (each-both Value (λ (x : Float). Above (square x) ≡ true) v
+        (each-from (λ (x : Float). Above (square x) ≡ true) vector
         (λ k h. eight-of (From vector) (p .0 .0 .0) (p .1 .0 .0) (p .0 .1 .0) (p .1 .1 .0) (p .0 .0 .1) (p .1 .0 .1) (p .0 .1 .1) (p .1 .1 .1) k
         (subst (λ (n : ℕ). k < n) eight h)))))

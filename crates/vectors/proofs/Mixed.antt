@@ -35,7 +35,7 @@ use Rattle.vectors.proofs.Lows.{Hit, vector-low}
 
 -- the lanes after i values
 abbrev LanesOut : ℕ → Lanes → List Factor → Type 0
-LanesOut i t fs = Out i (t .m) (t .e) fs
+LanesOut i t fs = Out 15 i (t .m) (t .e) fs
 
 -- the mark is that of the values, or a lane is lost and not all are split
 abbrev Marked : Bool → Lanes → List Float → Lanes → Type 0
@@ -46,7 +46,7 @@ split-out : (i : ℕ) (s : Lanes) (fs : List Factor) (x : Float) → i < 512 →
     → LanesOut (suc i) (splitStep i s x) (laneTimes 52 i fs (rateFactor x))
 unfolding splitStep
 split-out i s fs x l v (inl h) =
-    value-out i (s .m) (s .e) fs (split x .m) (split x .e) (rateFactor x) l
+    value-out 15 64 (lit≤ tt) i (s .m) (s .e) fs (split x .m) (split x .e) (rateFactor x) l
     (waits-more 0 15 (split x .m) (split x .e) (rateFactor x) zero-le (represents-waits (split x .m) (split x .e) (rateFactor x) (represents-rate x))) h
 split-out i s fs x l v (inr p) = inr (lost-stays (s .m) (laneOf i) (lane-lt i) (split x .m) p)
 
@@ -56,14 +56,14 @@ split-lost = feed-holds splitStep (λ (s : Lanes). LostLane (s .m)) (λ i s x. l
 
 -- ---- values that are not
 module _ (i : ℕ) (s : Lanes) where
-  unsplit-out : (fs : List Factor) {xs : List Float} → Each Guarded xs → i + length xs ≤ 512 → LanesOut i s fs
+  unsplit-out : (fs : List Factor) {xs : List Float} → Each (Guarded true 14) xs → i + length xs ≤ 512 → LanesOut i s fs
       → LanesOut (i + length xs) (feed unsplitStep i s xs) (feed (laneTimes 52) i fs (map rateFactor xs))
   unfolding unsplitStep
-  unsplit-out = fed-out unsplitStep (λ (s : Lanes). s .m) (λ (s : Lanes). s .e) (λ i s x. refl) (λ i s x. refl) i s
+  unsplit-out = fed-out unsplitStep (λ (s : Lanes). s .m) (λ (s : Lanes). s .e) (λ i s x. refl) (λ i s x. refl) true 14 64 (lit≤ tt) (lit≤ tt) i s
 
-  unsplit-good : {xs : List Float} → length (s .m) ≡ 8 → Each Guarded xs → Each GoodRate xs ⊎ LostLane (feed unsplitStep i s xs .m)
+  unsplit-good : {xs : List Float} → length (s .m) ≡ 8 → Each (Guarded true 14) xs → Each GoodRate xs ⊎ LostLane (feed unsplitStep i s xs .m)
   unfolding unsplitStep
-  unsplit-good = fed-good unsplitStep (λ (s : Lanes). s .m) (λ (s : Lanes). s .e) (λ i s x. refl) (λ i s x. refl) i s
+  unsplit-good = fed-good unsplitStep (λ (s : Lanes). s .m) (λ (s : Lanes). s .e) (λ i s x. refl) (λ i s x. refl) true 14 64 (lit≤ tt) (lit≤ tt) i s
 
   unsplit-lost : (xs : List Float) → LostLane (s .m) → LostLane (feed unsplitStep i s xs .m)
   unfolding unsplitStep
@@ -134,7 +134,7 @@ module _ (i : ℕ) (t : Lanes) (gs : List Factor) (vector : List Float) (eight :
       guarded-by all t vector (λ (u : Lanes). LanesOut (8 * suc i) u (plainAfter gs vector)) (λ a e. low (vector-low vector eight v e))
       (shifted LanesOut splitStep split-again (feed-related splitStep (laneTimes 52) rateFactor Value LanesOut 512 split-out (8 * i) t gs v within h))
     where
-      low : Each Guarded vector ⊎ Hit vector → LanesOut (8 * suc i) (feed unsplitStep 0 t vector) (plainAfter gs vector)
+      low : Each (Guarded true 14) vector ⊎ Hit vector → LanesOut (8 * suc i) (feed unsplitStep 0 t vector) (plainAfter gs vector)
       low (inl g) = shifted LanesOut unsplitStep unsplit-again (unsplit-out (8 * i) t gs g within h)
       low (inr k) = inr (unsplit-hit 0 t vector long eight k)
 
@@ -147,7 +147,7 @@ module _ (i : ℕ) (t : Lanes) (gs : List Factor) (vector : List Float) (eight :
       good a (inl R) = inl (unsplit-mark 0 t vector ∙ rates-mark (t .bad) R)
       good a (inr k) = inr (k, a)
 
-      low : all ≡ false → Each Guarded vector ⊎ Hit vector → Marked all t vector (feed unsplitStep 0 t vector)
+      low : all ≡ false → Each (Guarded true 14) vector ⊎ Hit vector → Marked all t vector (feed unsplitStep 0 t vector)
       low a (inl g) = good a (unsplit-good 0 t long g)
       low a (inr k) = inr (unsplit-hit 0 t vector long eight k, a)
 

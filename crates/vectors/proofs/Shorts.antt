@@ -1,9 +1,10 @@
 -- A short piece: its lanes wait, and so does their product. Assumes nothing.
-use Prim.Native.Nat.{ℕ, zero, suc, _+_, _-_, _%_, _≤_}
+use Prim.Native.Nat.{ℕ, zero, suc, _+_, _-_, _*_, _/_, _%_, _≤_}
 use mathlib.Core.Path.{_≡_, refl, sym, ap, _∙_, subst}
 use mathlib.Core.Bool.{Bool, true, false}
 use mathlib.Core.List.{List, [], _∷_, _++_, map}
 use mathlib.Core.Logic.{_⊎_, inl, inr}
+use native.Mathlib.Nat.{mul-le-mul-left, le-div-iff-mul-le, div-mul-le-self, div-le-self}
 use native.Mathlib.Omega.{arith}
 use lib.ListN.{length, getD, replicate, length-append, length-replicate}
 use lib.IntN.{ℤ, pos, _+ℤ_, +ℤ-idl}
@@ -21,10 +22,12 @@ use Rattle.kernels.specs.InnerLanes.{plainAfter}
 use Rattle.kernels.proofs.Factors.{units-normal}
 use Rattle.kernels.proofs.Sizes.{replicate-either}
 use Rattle.kernels.proofs.Standing.{represents-acc}
-use Rattle.kernels.proofs.Lanewise.{depth, lanes-widen}
+use Rattle.kernels.proofs.Lanewise.{turns, depth, lanes-widen}
 use Rattle.kernels.proofs.Blocking.{Value, rates-good, represent-start, contiguous-is}
-use Rattle.vectors.specs.declared.vector.Waiting.{Waiting}
-use Rattle.vectors.specs.InnerWaiting.{one, padded, startWaiting, waitStep, notBelow, notPast, chained}
+use Rattle.vectors.specs.InnerWaiting.{one, padded, startWaiting, waitStep, leastOf, shortDepth, notBelow, notPast, chained}
+use Rattle.vectors.specs.declared.piece.Short.{Short}
+use Rattle.vectors.specs.InnerShort.{waitingProduct, ShortProduct}
+use Rattle.laws.proofs.Tests.{and-both}
 use Rattle.vectors.proofs.Waits.{Waits, waits-more, waits-split}
 use Rattle.vectors.proofs.Waiting.{LostLane, Out, past-lost}
 use Rattle.vectors.proofs.Chaining.{times-in, chain-waits, chain-lost}
@@ -45,16 +48,26 @@ front : {P : Float → Type 0} (xs ys : List Float) → Each P (xs ++ ys) → Ea
 front [] ys e = none
 front (x ∷ xs) ys (more p ps) = more p (front xs ys ps)
 
-module _ (xs : List Float) (v : Each Value xs) (short : length xs ≤ 64) where
+-- ---- a piece whose values lie from 2^-(k + 1) on, in n vectors
+module _ (signs : Bool) (k n : ℕ) (few : k ≤ 510) (room : 8 * (suc k * n) ≤ 1022) (xs : List Float) (v : Each Value xs) (short : length xs ≤ 8 * n) where
+  abbrev lanes-of : List Float
+  lanes-of = feed (waitStep signs) 0 (startWaiting (replicate 8 one)) (padded xs) .m
+
   abbrev p : Float
-  p = chained (feed waitStep 0 (startWaiting (replicate 8 one)) (padded xs) .m)
+  p = chained lanes-of
 
   -- the product, brought back, is the piece's
   abbrev ShortLanes : Type 0
   ShortLanes = _≡_ {A = StableProductFloatAcc} (record { m = split p .m; e = split p .e; bad = false }) (contiguous xs)
 
-  padded-long : length (padded xs) ≤ 64
+  padded-long : length (padded xs) ≤ 8 * n
   padded-long = simp (length-append, length-replicate) (omega arith)
+
+  lane-room : suc k * n ≤ 1022
+  lane-room = go (suc k * n) room
+    where
+      go : (m : ℕ) → 8 * m ≤ 1022 → m ≤ 1022
+      go m h = omega arith
 
   fs : List Factor
   fs = plainAfter (replicate 8 (unit 52)) (padded xs)
@@ -63,51 +76,94 @@ module _ (xs : List Float) (v : Each Value xs) (short : length xs ≤ 64) where
   unfolding fs lanes
   fs-is = ones-after (replicate 8 (unit 52)) xs (7 - (length xs + 7) % 8) (fed-normal 0 (replicate 8 (unit 52)) xs (units-normal 52) .at)
 
-  no-exponent : (k : ℕ) → getD (startLanes .e) k (pos 0) ≡ pos 0
-  no-exponent k = replicate-either (λ (z : ℤ). z ≡ pos 0) 8 k (pos 0) (pos 0) refl refl
+  no-exponent : (j : ℕ) → getD (startLanes .e) j (pos 0) ≡ pos 0
+  no-exponent j = replicate-either (λ (z : ℤ). z ≡ pos 0) 8 j (pos 0) (pos 0) refl refl
 
-  shallow : (k : ℕ) → depth 15 (0 + length (padded xs)) k ≤ 120
-  shallow k = let h = padded-long in omega arith
+  shallow : (j : ℕ) → depth (suc k) (0 + length (padded xs)) j ≤ suc k * n
+  shallow j = mul-le-mul-left (suc k) (let h = padded-long in let l : turns j (0 + length (padded xs)) ≤ n = omega arith in l)
 
-  pub short-contiguous : every notBelow (feed waitStep 0 (startWaiting (replicate 8 one)) (padded xs) .least) ≡ true → notPast p ≡ true
-      → ShortLanes
+  pub short-contiguous : every (notBelow (leastOf signs (suc k))) (feed (waitStep signs) 0 (startWaiting (replicate 8 one)) (padded xs) .least) ≡ true
+      → notPast p ≡ true → ShortLanes
   unfolding fs pieceProduct
-  short-contiguous b n =
-      go (outcome startLanes w (padded xs) values short' refl refl b (replicate 8 (unit 52)) represent-start)
-      (outcome-good startLanes w (padded xs) values short' refl refl b refl)
+  short-contiguous b m =
+      go (outcome signs k n few lane-room startLanes (startWaiting (replicate 8 one)) (padded xs) values padded-long refl refl b (replicate 8 (unit 52)) represent-start)
+      (outcome-good signs k n few lane-room startLanes (startWaiting (replicate 8 one)) (padded xs) values padded-long refl refl b refl)
     where
-      w : Waiting
-      w = startWaiting (replicate 8 one)
+      deep : ℕ
+      deep = suc k * n * 8
 
       values : Each Value (padded xs)
       values = padded-values xs (7 - (length xs + 7) % 8) v
 
-      short' : length (padded xs) ≤ 512
-      short' = let h = padded-long in omega arith
-
       lost : isLost p ≡ true → ShortLanes
-      lost e = absurd (past-lost p n e)
+      lost e = absurd (past-lost p m e)
 
-      stood : Each GoodRate (padded xs) → Waits 960 p (pos 0) (pieceProduct 52 (map rateFactor xs)) → ShortLanes
+      stood : Each GoodRate (padded xs) → Waits deep p (pos 0) (pieceProduct 52 (map rateFactor xs)) → ShortLanes
       stood R W =
           ap (λ (z : ℤ). record { m = split p .m; e = z; bad = false }) (sym (+ℤ-idl (split p .e)))
           ∙ represents-acc (split p .m) (pos 0 +ℤ split p .e) (pieceProduct 52 (map rateFactor xs))
-          (waits-split 960 p (pos 0) (pieceProduct 52 (map rateFactor xs)) W)
+          (waits-split deep p (pos 0) (pieceProduct 52 (map rateFactor xs)) W)
           ∙ ap (λ (c : Bool). record { m = accOf (pieceProduct 52 (map rateFactor xs)) .m; e = pieceProduct 52 (map rateFactor xs) .exp; bad = c })
           (sym (rates-good (front xs (replicate (7 - (length xs + 7) % 8) one) R)))
           ∙ sym (contiguous-is v)
 
-      chained-up : Each GoodRate (padded xs) → Waits 960 p (pos 0) (inOrder (times-in fs) 8 (unit 52)) ⊎ (isLost p ≡ true)
+      chained-up : Each GoodRate (padded xs) → Waits deep p (pos 0) (inOrder (times-in fs) 8 (unit 52)) ⊎ (isLost p ≡ true)
           → ShortLanes
-      chained-up R (inl W) = stood R (subst (λ (gs : List Factor). Waits 960 p (pos 0) (inOrder (times-in gs) 8 (unit 52))) fs-is W)
+      chained-up R (inl W) = stood R (subst (λ (gs : List Factor). Waits deep p (pos 0) (inOrder (times-in gs) 8 (unit 52))) fs-is W)
       chained-up R (inr e) = lost e
 
-      go : Out (0 + length (padded xs)) (feed waitStep 0 w (padded xs) .m) (startLanes .e) fs
-          → Each GoodRate (padded xs) ⊎ LostLane (feed waitStep 0 w (padded xs) .m)
-          → ShortLanes
-      go (inr l) g = lost (chain-lost (feed waitStep 0 w (padded xs) .m) l)
-      go (inl q) (inr l) = lost (chain-lost (feed waitStep 0 w (padded xs) .m) l)
+      go : Out (suc k) (0 + length (padded xs)) lanes-of (startLanes .e) fs → Each GoodRate (padded xs) ⊎ LostLane lanes-of → ShortLanes
+      go (inr l) g = lost (chain-lost lanes-of l)
+      go (inl q) (inr l) = lost (chain-lost lanes-of l)
       go (inl q) (inl R) =
           chained-up R
-          (chain-waits (feed waitStep 0 w (padded xs) .m) fs (startLanes .e) no-exponent
-          (lanes-widen Waits waits-more (depth 15 (0 + length (padded xs))) (λ (k : ℕ). 120) (λ k i. shallow k) q))
+          (chain-waits (suc k * n) room lanes-of fs (startLanes .e) no-exponent
+          (lanes-widen Waits waits-more (depth (suc k) (0 + length (padded xs))) (λ (j : ℕ). suc k * n) (λ j i. shallow j) q))
+
+-- ---- by the number of values
+module _ (signs : Bool) (xs : List Float) (v : Each Value xs) (some : 1 ≤ length xs) (most : length xs ≤ 480) where
+  n : ℕ
+  n = (length xs + 7) / 8
+
+  n-some : 1 ≤ n
+  unfolding n
+  n-some = omega arith
+
+  n-most : n ≤ 60
+  unfolding n
+  n-most = omega arith
+
+  -- some depth, which all vectors have room for
+  deep : 1 ≤ shortDepth (length xs)
+  unfolding n
+  deep = le-div-iff-mul-le n-some .1 (omega (arith, n-most))
+
+  room : shortDepth (length xs) * n ≤ 120
+  unfolding n
+  room = div-mul-le-self 120 n
+
+  pub short-by : (d : ℕ) → d ≡ shortDepth (length xs)
+      → every (notBelow (leastOf signs d)) (feed (waitStep signs) 0 (startWaiting (replicate 8 one)) (padded xs) .least) ≡ true
+      → notPast (chained (feed (waitStep signs) 0 (startWaiting (replicate 8 one)) (padded xs) .m)) ≡ true
+      → let q = split (chained (feed (waitStep signs) 0 (startWaiting (replicate 8 one)) (padded xs) .m)) in
+      _≡_ {A = StableProductFloatAcc} (record { m = q .m; e = q .e; bad = false }) (contiguous xs)
+  unfolding n
+  short-by zero e b p = absurd (let h = deep in omega (arith, e))
+  short-by (suc k) e b p =
+      short-contiguous signs k n (few (subst (λ (d : ℕ). d ≤ 120) (sym e) (div-le-self 120 ((length xs + 7) / 8)))) (eight (suc k * n) (subst (λ (d : ℕ). d * n ≤ 120) (sym e) room)) xs v
+      (omega arith) b p
+    where
+      few : suc k ≤ 120 → k ≤ 510
+      few h = omega arith
+
+      eight : (m : ℕ) → m ≤ 120 → 8 * m ≤ 1022
+      eight m h = omega arith
+
+  pub short-product : (r : Short) (least : Float) → least ≡ leastOf signs (shortDepth (length xs))
+      → r ≡ waitingProduct (feed (waitStep signs) 0 (startWaiting (replicate 8 one)) (padded xs)) least → r .ok ≡ true → ShortProduct xs r
+  unfolding waitingProduct
+  short-product r least l e ok =
+      let w = feed (waitStep signs) 0 (startWaiting (replicate 8 one)) (padded xs) in
+      let t = and-both (every (notBelow least) (w .least)) (notPast (chained (w .m))) (ap (λ (q : Short). q .ok) (sym e) ∙ ok) in
+      ap (λ (q : Short). record { m = q .m; e = q .e; bad = false }) e
+      ∙ short-by (shortDepth (length xs)) refl (ap (λ (z : Float). every (notBelow z) (w .least)) (sym l) ∙ t .0) (t .1)

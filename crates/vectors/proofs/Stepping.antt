@@ -20,7 +20,7 @@ use Rattle.kernels.proofs.LaneSizes.{lanes-le}
 use Rattle.kernels.proofs.Blocking.{Value, renorm-represent, renorm-mark}
 use Rattle.vectors.specs.InnerWaiting.{vectorOf, padded, notPast, guarded}
 use Rattle.vectors.specs.InnerSteps.{NotYetNormalised}
-use Rattle.vectors.proofs.Vectors.{vector-padded, vector-whole, vector-long, rest-padded}
+use Rattle.vectors.proofs.Vectors.{vector-padded, vector-long, next-whole, next-last}
 use Rattle.vectors.proofs.Mixed.{Mixed, mixed-none, mixed-more, mixed-fed}
 use Rattle.vectors.proofs.Feds.{fed-append, fed-pad, fed-none}
 use Rattle.vectors.proofs.Shorts.{padded-values}
@@ -54,28 +54,12 @@ module _ (all : Bool) (N : ℕ) (s : Lanes) (xs : List Float) (b d : ℤ) (n : �
         mixed-more all N s (strided xs b d (8 * i)) i t u (vectorOf (strided xs (b +ℤ d *ℤ pos (8 * i)) d (min 8 (n - 8 * i)))) before few (vector-long _)
         (vector-values v (min 8 (n - 8 * i)) i (omega arith)) g
 
-    full : 8 * suc i ≤ n → strided xs b d (8 * i) ++ vectorOf (strided xs (b +ℤ d *ℤ pos (8 * i)) d (min 8 (n - 8 * i))) ≡ strided xs b d (8 * suc i)
-    full h =
-        ap (λ (k : ℕ). strided xs b d (8 * i) ++ vectorOf (strided xs (b +ℤ d *ℤ pos (8 * i)) d k)) (let e : min 8 (n - 8 * i) ≡ 8 = omega arith in e)
-        ∙ ap (λ (l : List Float). strided xs b d (8 * i) ++ l) (vector-whole xs (b +ℤ d *ℤ pos (8 * i)) d)
-        ∙ sym (strided-append xs b d (8 * i) 8)
-        ∙ ap (strided xs b d) (let e : 8 * i + 8 ≡ 8 * suc i = omega arith in e)
-
-    rest : n < 8 * suc i → strided xs b d (8 * i) ++ vectorOf (strided xs (b +ℤ d *ℤ pos (8 * i)) d (min 8 (n - 8 * i))) ≡ padded (strided xs b d n)
-    rest h =
-        ap (λ (k : ℕ). strided xs b d (8 * i) ++ vectorOf (strided xs (b +ℤ d *ℤ pos (8 * i)) d k)) (let e : min 8 (n - 8 * i) ≡ n % 8 = omega arith in e)
-        ∙ ap (λ (k : ℕ). strided xs b d (8 * k) ++ vectorOf (strided xs (b +ℤ d *ℤ pos (8 * k)) d (n % 8))) (let e : i ≡ n / 8 = omega arith in e)
-        ∙ rest-padded xs b d n (not-whole (omega arith))
-      where
-        not-whole : 0 < n % 8 → n % 8 ≡ 0 → ⊥
-        not-whole a z = omega arith
-
     pub vectors-next : Vectors all N s xs b d n (suc i) u
     vectors-next = record {
       long = joined .long;
       small = joined .small;
-      whole = λ h. subst (λ (l : List Float). Mixed all N s l (suc i) u) (full h) joined;
-      last = λ h. subst (λ (l : List Float). Mixed all N s l (suc i) u) (rest h) joined;
+      whole = λ h. subst (λ (l : List Float). Mixed all N s l (suc i) u) (next-whole xs b d n i more-left h) joined;
+      last = λ h. subst (λ (l : List Float). Mixed all N s l (suc i) u) (next-last xs b d n i more-left h) joined;
     }
 
   pub vectors-fed : N ≤ 2 ^ 58 → (i : ℕ) (t : Lanes) → Vectors all N s xs b d n i t → i ≤ 32 → n ≤ 8 * i → 8 * i < n + 8 → (all || every notPast (t .m)) ≡ true

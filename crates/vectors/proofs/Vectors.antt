@@ -1,12 +1,14 @@
 -- Vectors of eight values, one after another: a step that goes by the number mod 8 may begin anew with each vector. Assumes nothing.
-use Prim.Native.Nat.{ℕ, _+_, _-_, _*_, _/_, _%_, _^_, _≤_, zero-le}
+use Prim.Native.Nat.{ℕ, suc, _+_, _-_, _*_, _/_, _%_, _^_, _≤_, _<_, min, zero-le}
 use mathlib.Core.Path.{_≡_, refl, sym, ap, _∙_, subst}
+use mathlib.Core.Bool.{Bool, true, false}
 use mathlib.Core.List.{List, [], _∷_, _++_, append-nil, append-assoc}
-use native.Mathlib.Nat.{le-trans, add-le-add}
+use native.Mathlib.Nat.{le-trans, le-of-lt, add-le-add}
 use native.Mathlib.Omega.{arith}
 use lib.ListN.{length, getD, set, replicate, length-set, length-replicate}
 use lib.IntN.{ℤ, pos, natAbs, _+ℤ_, _*ℤ_}
-use lib.Dec.{lit≤}
+use lib.Dec.{ltb, lit≤}
+use borrow.Author.Tests.{ltb-true, ltb-false}
 use lib.Ieee.{Float, nan}
 use mir.Val.{SFits, toZ, ofZ}
 use mir.ValLaws.{toZ-ofZ}
@@ -29,7 +31,7 @@ use Rattle.kernels.proofs.Windows.{window-length, window-append}
 use Rattle.kernels.proofs.Sizes.{split-size}
 use Rattle.kernels.proofs.Striding.{length-strided, strided-append}
 use Rattle.vectors.specs.declared.vector.Waiting.{Waiting}
-use Rattle.vectors.specs.InnerWaiting.{square, one, put, vectorOf, lesser, waitStep, chained, exponentsOf, lanesProduct, padded}
+use Rattle.vectors.specs.InnerWaiting.{measure, one, put, vectorOf, lesser, waitStep, chained, exponentsOf, lanesProduct, padded}
 
 -- ---- a vector
 -- the values, and 1.0 in the lanes that are left
@@ -89,19 +91,19 @@ module _ {S : Type 0} (step : ℕ → S → Float → S) (again : (i : ℕ) (s :
       ∙ ap (feed step 0 w) (sym (strided-append xs s d (8 * i) 8) ∙ ap (strided xs s d) (let e : 8 * i + 8 ≡ 8 * (i + 1) = omega arith in e))
 
 -- ---- lanes that wait
-pub wait-again : (i : ℕ) (w : Waiting) (x : Float) → waitStep (i + 8) w x ≡ waitStep i w x
+pub wait-again : (signs : Bool) (i : ℕ) (w : Waiting) (x : Float) → waitStep signs (i + 8) w x ≡ waitStep signs i w x
 unfolding waitStep
-wait-again i w x =
-    ap (λ (k : ℕ). record { m = set (w .m) k (productOf 11 52 (getD (w .m) k nan) x); least = set (w .least) k (lesser (square x) (getD (w .least) k nan)) })
+wait-again signs i w x =
+    ap (λ (k : ℕ). record { m = set (w .m) k (productOf 11 52 (getD (w .m) k nan) x); least = set (w .least) k (lesser (measure signs x) (getD (w .least) k nan)) })
     (lane-again i)
 
-pub wait-m-long : (i : ℕ) (w : Waiting) (xs : List Float) → length (feed waitStep i w xs .m) ≡ length (w .m)
+pub wait-m-long : (signs : Bool) (i : ℕ) (w : Waiting) (xs : List Float) → length (feed (waitStep signs) i w xs .m) ≡ length (w .m)
 unfolding waitStep
-wait-m-long i w xs = feed-holds waitStep (λ (t : Waiting). length (t .m) ≡ length (w .m)) (λ i t x h. simp length-set h) i w xs refl
+wait-m-long signs i w xs = feed-holds (waitStep signs) (λ (t : Waiting). length (t .m) ≡ length (w .m)) (λ i t x h. simp length-set h) i w xs refl
 
-pub wait-least-long : (i : ℕ) (w : Waiting) (xs : List Float) → length (feed waitStep i w xs .least) ≡ length (w .least)
+pub wait-least-long : (signs : Bool) (i : ℕ) (w : Waiting) (xs : List Float) → length (feed (waitStep signs) i w xs .least) ≡ length (w .least)
 unfolding waitStep
-wait-least-long i w xs = feed-holds waitStep (λ (t : Waiting). length (t .least) ≡ length (w .least)) (λ i t x h. simp length-set h) i w xs refl
+wait-least-long signs i w xs = feed-holds (waitStep signs) (λ (t : Waiting). length (t .least) ≡ length (w .least)) (λ i t x h. simp length-set h) i w xs refl
 
 -- ---- a piece that is vectors and then fewer than eight values
 module _ (xs : List Float) (s d : ℤ) (n : ℕ) where
@@ -130,6 +132,60 @@ module _ (xs : List Float) (s d : ℤ) (n : ℕ) where
 
       B : List Float
       B = strided xs (s +ℤ d *ℤ pos (8 * (n / 8))) d (n % 8)
+
+-- the next vector, of what is left after i
+module _ (xs : List Float) (s d : ℤ) (n i : ℕ) (left : 8 * i < n) where
+  abbrev pub after-next : List Float
+  after-next = strided xs s d (8 * i) ++ vectorOf (strided xs (s +ℤ d *ℤ pos (8 * i)) d (min 8 (n - 8 * i)))
+
+  pub next-whole : 8 * suc i ≤ n → after-next ≡ strided xs s d (8 * suc i)
+  next-whole h =
+      ap (λ (k : ℕ). strided xs s d (8 * i) ++ vectorOf (strided xs (s +ℤ d *ℤ pos (8 * i)) d k)) (let e : min 8 (n - 8 * i) ≡ 8 = omega arith in e)
+      ∙ ap (λ (l : List Float). strided xs s d (8 * i) ++ l) (vector-whole xs (s +ℤ d *ℤ pos (8 * i)) d)
+      ∙ sym (strided-append xs s d (8 * i) 8)
+      ∙ ap (strided xs s d) (let e : 8 * i + 8 ≡ 8 * suc i = omega arith in e)
+
+  pub next-last : n < 8 * suc i → after-next ≡ padded (strided xs s d n)
+  next-last h =
+      ap (λ (k : ℕ). strided xs s d (8 * i) ++ vectorOf (strided xs (s +ℤ d *ℤ pos (8 * i)) d k)) (let e : min 8 (n - 8 * i) ≡ n % 8 = omega arith in e)
+      ∙ ap (λ (k : ℕ). strided xs s d (8 * k) ++ vectorOf (strided xs (s +ℤ d *ℤ pos (8 * k)) d (n % 8))) (let e : i ≡ n / 8 = omega arith in e)
+      ∙ rest-padded xs s d n (not-whole (omega arith))
+    where
+      not-whole : 0 < n % 8 → n % 8 ≡ 0 → ⊥
+      not-whole a z = omega arith
+
+-- ---- lanes that wait for i vectors of a piece of n values, the last with 1.0 after its values
+pub record Waited (signs : Bool) (w : Waiting) (xs : List Float) (s d : ℤ) (n i : ℕ) (t : Waiting) : Type 0 where
+  pub whole : 8 * i ≤ n → t ≡ feed (waitStep signs) 0 w (strided xs s d (8 * i))
+  pub last : n < 8 * i → t ≡ feed (waitStep signs) 0 w (padded (strided xs s d n))
+
+module _ (signs : Bool) (w : Waiting) (xs : List Float) (s d : ℤ) (n : ℕ) where
+  pub waited-none : Waited signs w xs s d n 0 w
+  unfolding feed strided
+  waited-none = record { whole = λ h. refl; last = λ h. absurd (omega arith) }
+
+  pub waited-next : (i : ℕ) (t u : Waiting) → 8 * i < n → Waited signs w xs s d n i t
+      → u ≡ feed (waitStep signs) 0 t (vectorOf (strided xs (s +ℤ d *ℤ pos (8 * i)) d (min 8 (n - 8 * i)))) → Waited signs w xs s d n (suc i) u
+  waited-next i t u left W e = record { whole = λ h. on ∙ ap (feed (waitStep signs) 0 w) (next-whole xs s d n i left h); last = λ h. on ∙ ap (feed (waitStep signs) 0 w) (next-last xs s d n i left h) }
+    where
+      on : u ≡ feed (waitStep signs) 0 w (after-next xs s d n i left)
+      on =
+          vectors-then (waitStep signs) (wait-again signs) w t u (strided xs s d (8 * i)) (vectorOf (strided xs (s +ℤ d *ℤ pos (8 * i)) d (min 8 (n - 8 * i)))) i
+          (length-strided xs s d (8 * i)) (W .whole (le-of-lt left)) e
+
+  pub waited-all : (i : ℕ) (t : Waiting) → Waited signs w xs s d n i t → n ≤ 8 * i → 8 * i < n + 8 → t ≡ feed (waitStep signs) 0 w (padded (strided xs s d n))
+  waited-all i t W up down = go (ltb n (8 * i)) refl
+    where
+      go : (b : Bool) → ltb n (8 * i) ≡ b → t ≡ feed (waitStep signs) 0 w (padded (strided xs s d n))
+      go true q = W .last (ltb-true n (8 * i) q)
+      go false q =
+          let l = ltb-false n (8 * i) q in
+          W .whole l
+          ∙ ap (λ (k : ℕ). feed (waitStep signs) 0 w (strided xs s d (8 * k))) (let e : i ≡ n / 8 = omega arith in e)
+          ∙ ap (feed (waitStep signs) 0 w) (vectors-padded xs s d n (let z : n ≡ 8 * i = omega arith in whole-count i z))
+        where
+          whole-count : (i : ℕ) → n ≡ 8 * i → n % 8 ≡ 0
+          whole-count i z = omega arith
 
 -- ---- the lanes' exponents, added
 -- lane k's exponent added

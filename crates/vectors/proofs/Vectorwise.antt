@@ -22,7 +22,7 @@ use Rattle.kernels.specs.InnerStrided.{strided, PlacesInside}
 use Rattle.kernels.proofs.Feeding.{feed-append}
 use Rattle.kernels.proofs.Striding.{length-strided, first-natural, first-below, strided-append, inside-part}
 use Rattle.vectors.specs.declared.vector.Waiting.{Waiting}
-use Rattle.vectors.specs.InnerWaiting.{vectorOf, put, lesser, waitStep, LEAST, MOST, notBelow, notPast, guarded, square, squareAt, leastSquare, notLow}
+use Rattle.vectors.specs.InnerWaiting.{vectorOf, put, lesser, measure, waitStep, leastOf, MOST, notBelow, notPast, guarded, square, squareAt, leastSquare, notLow}
 
 module _ (len : ℕ) (s t : ℤ) (n : ℕ) (h : PlacesInside len s t n) (a : ℕ) (l : a < n) (m : len < 2 ^ 63) where
   -- a place, in i64
@@ -73,7 +73,7 @@ least-tree vector a b c d p q r A B C D P Q R =
     (Q ∙ ap (λ (z : Float). lesser z d) B ∙ ap (lesser (lesser (squareAt vector 1) (squareAt vector 5))) D)
 
 -- the constants of the code
-least-is : ofBits binary64 4476578029606273024 ≡ LEAST
+least-is : ofBits binary64 4476578029606273024 ≡ leastOf true 15
 unfolding ofBits
 least-is = refl
 
@@ -81,22 +81,21 @@ most-is : ofBits binary64 9110782046170513408 ≡ MOST
 unfolding ofBits
 most-is = refl
 
-pub below-test : (x : Float) → le (ofBits binary64 4476578029606273024) x ≡ notBelow x
+pub below-test : (x : Float) → le (ofBits binary64 4476578029606273024) x ≡ notBelow (leastOf true 15) x
 below-test x = ap (λ (l : Float). le l x) least-is
 
 pub past-test : (x : Float) → (le x (ofBits binary64 9110782046170513408) && le (neg (ofBits binary64 9110782046170513408)) x) ≡ notPast x
 past-test x = ap (λ (h : Float). le x h && le (neg h) x) most-is
 
 -- value k of a vector goes to lane k
-pub wait-lane : (w : Waiting) (k : ℕ) (x y : Float) → k < 8 → y ≡ lesser (mul binary64 x x) (getD (w .least) k nan)
-    → _≡_ {A = Waiting} (record { m = set (w .m) k (mul binary64 (getD (w .m) k nan) x); least = set (w .least) k y }) (waitStep k w x)
+pub wait-lane : (signs : Bool) (w : Waiting) (k : ℕ) (x y : Float) → k < 8 → y ≡ lesser (measure signs x) (getD (w .least) k nan)
+    → _≡_ {A = Waiting} (record { m = set (w .m) k (mul binary64 (getD (w .m) k nan) x); least = set (w .least) k y }) (waitStep signs k w x)
 unfolding waitStep
-wait-lane w k x y h e =
-    ap (λ (z : Float). record { m = set (w .m) k (mul binary64 (getD (w .m) k nan) x); least = set (w .least) k z })
-    (e ∙ ap (λ (z : Float). lesser z (getD (w .least) k nan)) (mul-binary64 x x))
-    ∙ ap (λ (z : Float). record { m = set (w .m) k z; least = set (w .least) k (lesser (square x) (getD (w .least) k nan)) })
+wait-lane signs w k x y h e =
+    ap (λ (z : Float). record { m = set (w .m) k (mul binary64 (getD (w .m) k nan) x); least = set (w .least) k z }) e
+    ∙ ap (λ (z : Float). record { m = set (w .m) k z; least = set (w .least) k (lesser (measure signs x) (getD (w .least) k nan)) })
     (mul-binary64 (getD (w .m) k nan) x)
-    ∙ ap (λ (j : ℕ). record { m = set (w .m) j (productOf 11 52 (getD (w .m) j nan) x); least = set (w .least) j (lesser (square x) (getD (w .least) j nan)) })
+    ∙ ap (λ (j : ℕ). record { m = set (w .m) j (productOf 11 52 (getD (w .m) j nan) x); least = set (w .least) j (lesser (measure signs x) (getD (w .least) j nan)) })
     (sym (mod-eq-of-lt h))
 
 -- ---- a vector of one value more

@@ -1,15 +1,15 @@
--- Lanes that wait: after at most 512 values that are split, or whose squares passed the test of the least, every lane waits for its factor, or one is lost: an
--- infinity or a NaN, which it stays. Assumes nothing.
-use Prim.Native.Nat.{ℕ, zero, suc, _+_, _≤_, _<_}
+-- Lanes that wait: after values that are split, or that passed the test of the least, every lane waits for its factor, or one is lost: an infinity or a NaN,
+-- which it stays. Over the bound 2^-(k + 1) and the number n of values to a lane: (k + 1) × n at most 1022. Assumes nothing.
+use Prim.Native.Nat.{ℕ, zero, suc, _+_, _*_, _≤_, _<_}
 use mathlib.Core.Path.{_≡_, refl, sym, ap, _∙_, subst}
-use mathlib.Core.Bool.{Bool, true, false, _&&_, true≢false}
+use mathlib.Core.Bool.{Bool, true, false, cond, _&&_, true≢false}
 use mathlib.Core.List.{List, [], _∷_, map}
 use mathlib.Core.Logic.{_⊎_, inl, inr}
 use native.Mathlib.Omega.{arith}
 use lib.ListN.{length, getD, set, length-set}
 use lib.IntN.{ℤ, pos, negsuc, _+ℤ_}
 use lib.Signed.{leZ}
-use lib.Dec.{T, lit≤}
+use lib.Dec.{T}
 use lib.Ieee.{Float, nan, inf, fin, binary64, fits, isNan, le, neg}
 use Rattle.laws.proofs.Tests.{and-both}
 use Rattle.floats.specs.Product.{productOf}
@@ -22,9 +22,9 @@ use Rattle.kernels.specs.Pieces.{GoodRate}
 use Rattle.kernels.proofs.Feeding.{feed-holds, feed-related}
 use Rattle.kernels.proofs.Factors.{lane-lt, set-cases}
 use Rattle.kernels.proofs.Lanewise.{depth, turn-small, lanes-turn, exponents-same}
-use Rattle.kernels.proofs.Least.{least-lesser}
+use Rattle.kernels.proofs.Least.{least-value, least-lesser}
 use Rattle.vectors.specs.declared.vector.Waiting.{Waiting}
-use Rattle.vectors.specs.InnerWaiting.{square, lesser, waitStep, notBelow, notPast}
+use Rattle.vectors.specs.InnerWaiting.{measure, lesser, waitStep, leastOf, notBelow, notPast}
 use Rattle.vectors.proofs.Squares.{square-least, square-nan}
 use Rattle.vectors.proofs.Waits.{Waits, WaitLanes, waits-more, waits-times, waits-rate}
 
@@ -58,51 +58,61 @@ module _ (ms : List Float) (j : ℕ) (J : j < 8) where
             (λ p. lost-product (getD ms j nan) x (subst (λ (k : ℕ). isLost (getD ms k nan) ≡ true) p (h .lost))) (λ n. h .lost);
       }
 
--- ---- one value
--- its square is not below 2^-29, or a NaN
-pub record Guarded (x : Float) : Type 0 where
+-- ---- one value, from 2^-(k + 1) on
+-- its measure is not below the least, or a NaN
+pub record Guarded (signs : Bool) (k : ℕ) (x : Float) : Type 0 where
   pub value : T (fits binary64 x)
-  pub from : (notBelow (square x) ≡ true) ⊎ (isNan (square x) ≡ true)
+  pub from : (notBelow (leastOf signs (suc k)) (measure signs x) ≡ true) ⊎ (isNan (measure signs x) ≡ true)
 
 -- a NaN and an infinity are lost; any other is a rate that waits
-abbrev Good : Float → Type 0
-Good x = GoodRate x × Waits 15 x (pos 0) (rateFactor x)
+abbrev Good : ℕ → Float → Type 0
+Good k x = GoodRate x × Waits (suc k) x (pos 0) (rateFactor x)
 
-guard-cases : (x : Float) → Guarded x → Good x ⊎ (isLost x ≡ true)
-guard-cases x g = go (g .from)
+nan-lost : (x : Float) → isNan x ≡ true → isLost x ≡ true
+unfolding isNan
+nan-lost nan h = refl
+nan-lost (inf s) h = refl
+nan-lost (fin s m e) h = absurd (true≢false (sym h))
+
+guard-cases : (signs : Bool) (k : ℕ) → k ≤ 510 → (x : Float) → Guarded signs k x → Good k x ⊎ (isLost x ≡ true)
+guard-cases signs k few x g = go signs (g .from)
   where
-    good : (isLost x ≡ true) ⊎ ((isBad x ≡ false) × (leZ (negsuc 14) (rateFactor x .exp) ≡ true)) → Good x ⊎ (isLost x ≡ true)
+    good : (isLost x ≡ true) ⊎ ((isBad x ≡ false) × (leZ (negsuc k) (rateFactor x .exp) ≡ true)) → Good k x ⊎ (isLost x ≡ true)
     good (inl e) = inr e
-    good (inr p) = inl (record { value = g .value; good = p .0 }, waits-rate 14 x (g .value) (p .0) (p .1))
+    good (inr p) = inl (record { value = g .value; good = p .0 }, waits-rate k x (g .value) (p .0) (p .1))
 
-    go : (notBelow (square x) ≡ true) ⊎ (isNan (square x) ≡ true) → Good x ⊎ (isLost x ≡ true)
-    go (inl h) = good (square-least x (g .value) h)
-    go (inr h) = inr (square-nan x h)
+    go : (b : Bool) → (notBelow (leastOf b (suc k)) (measure b x) ≡ true) ⊎ (isNan (measure b x) ≡ true) → Good k x ⊎ (isLost x ≡ true)
+    go true (inl h) = good (square-least k few x (g .value) h)
+    go true (inr h) = inr (square-nan x h)
+    go false (inl h) = good (least-value k (omega arith) x (g .value) h)
+    go false (inr h) = inr (nan-lost x h)
 
 -- the lanes after i values
-abbrev pub Out : ℕ → List Float → List ℤ → List Factor → Type 0
-Out i ms es fs = WaitLanes (depth 15 i) ms es fs ⊎ LostLane ms
+abbrev pub Out : ℕ → ℕ → List Float → List ℤ → List Factor → Type 0
+Out c i ms es fs = WaitLanes (depth c i) ms es fs ⊎ LostLane ms
 
--- a value y with an exponent d that wait for a factor g: lane i mod 8 then waits for its product with g, or is lost
-pub value-out : (i : ℕ) (ms : List Float) (es : List ℤ) (fs : List Factor) (y : Float) (d : ℤ) (g : Factor) → i < 512 → Waits 15 y d g
-    → WaitLanes (depth 15 i) ms es fs
-    → Out (suc i) (set ms (laneOf i) (productOf 11 52 (getD ms (laneOf i) nan) y)) (set es (laneOf i) (getD es (laneOf i) (pos 0) +ℤ d)) (laneTimes 52 i fs g)
-value-out i ms es fs y d g l G h =
-    go
-    (waits-times (depth 15 i j) 15 (getD ms j nan) y (getD es j (pos 0)) d (getD fs j (unit 52)) g (h .at j (lane-lt i)) G (turn-small 15 64 i (lit≤ tt) l))
-  where
-    j : ℕ
-    j = laneOf i
+-- ---- values of which each widens its lane by c at most, n to a lane
+module _ (c n : ℕ) (room : c * n ≤ 1022) where
+  -- a value y with an exponent d that wait for a factor g: lane i mod 8 then waits for its product with g, or is lost
+  pub value-out : (i : ℕ) (ms : List Float) (es : List ℤ) (fs : List Factor) (y : Float) (d : ℤ) (g : Factor) → i < 8 * n → Waits c y d g
+      → WaitLanes (depth c i) ms es fs
+      → Out c (suc i) (set ms (laneOf i) (productOf 11 52 (getD ms (laneOf i) nan) y)) (set es (laneOf i) (getD es (laneOf i) (pos 0) +ℤ d)) (laneTimes 52 i fs g)
+  value-out i ms es fs y d g l G h =
+      go
+      (waits-times (depth c i j) c (getD ms j nan) y (getD es j (pos 0)) d (getD fs j (unit 52)) g (h .at j (lane-lt i)) G (turn-small c n i room l))
+    where
+      j : ℕ
+      j = laneOf i
 
-    p : Float
-    p = productOf 11 52 (getD ms j nan) y
+      p : Float
+      p = productOf 11 52 (getD ms j nan) y
 
-    f : Factor
-    f = times 52 (getD fs j (unit 52)) g
+      f : Factor
+      f = times 52 (getD fs j (unit 52)) g
 
-    go : Waits (depth 15 i j + 15) p (getD es j (pos 0) +ℤ d) f ⊎ (isLost p ≡ true) → Out (suc i) (set ms j p) (set es j (getD es j (pos 0) +ℤ d)) (set fs j f)
-    go (inl W) = inl (lanes-turn Waits waits-more ms es fs 15 i p (getD es j (pos 0) +ℤ d) f h W)
-    go (inr e) = inr (lost-here ms j (lane-lt i) p (h .m-long) e)
+      go : Waits (depth c i j + c) p (getD es j (pos 0) +ℤ d) f ⊎ (isLost p ≡ true) → Out c (suc i) (set ms j p) (set es j (getD es j (pos 0) +ℤ d)) (set fs j f)
+      go (inl W) = inl (lanes-turn Waits waits-more ms es fs c i p (getD es j (pos 0) +ℤ d) f h W)
+      go (inr e) = inr (lost-here ms j (lane-lt i) p (h .m-long) e)
 
 -- ---- a step that multiplies value i, as it is, into lane i mod 8
 module _ {S : Type 0} (step : ℕ → S → Float → S) (m : S → List Float) (e : S → List ℤ)
@@ -127,34 +137,36 @@ module _ {S : Type 0} (step : ℕ → S → Float → S) (m : S → List Float) 
   hit-lost i s (x ∷ xs) zero l h b = fed-lost (suc i) (step i s x) xs (value-lost i s x l b)
   hit-lost i s (x ∷ xs) (suc k) l h b = hit-lost (suc i) (step i s x) xs k (step-long i s x l) (omega arith) b
 
-  -- no value is bad, or a lane is lost
-  pub fed-good : (i : ℕ) (s : S) {xs : List Float} → length (m s) ≡ 8 → Each Guarded xs → Each GoodRate xs ⊎ LostLane (m (feed step i s xs))
-  unfolding feed
-  fed-good i s l none = inl none
-  fed-good i s l (more {x = x} {xs = xs} g gs) = go (guard-cases x g) (fed-good (suc i) (step i s x) (step-long i s x l) gs)
-    where
-      go : Good x ⊎ (isLost x ≡ true) → Each GoodRate xs ⊎ LostLane (m (feed step (suc i) (step i s x) xs))
-          → Each GoodRate (x ∷ xs) ⊎ LostLane (m (feed step (suc i) (step i s x) xs))
-      go (inl p) (inl r) = inl (more (p .0) r)
-      go (inl p) (inr r) = inr r
-      go (inr b) r = inr (fed-lost (suc i) (step i s x) xs (value-lost i s x l b))
+  -- ---- values from 2^-(k + 1) on, n to a lane
+  module _ (signs : Bool) (k n : ℕ) (few : k ≤ 510) (room : suc k * n ≤ 1022) where
+    -- no value is bad, or a lane is lost
+    pub fed-good : (i : ℕ) (s : S) {xs : List Float} → length (m s) ≡ 8 → Each (Guarded signs k) xs → Each GoodRate xs ⊎ LostLane (m (feed step i s xs))
+    unfolding feed
+    fed-good i s l none = inl none
+    fed-good i s l (more {x = x} {xs = xs} g gs) = go (guard-cases signs k few x g) (fed-good (suc i) (step i s x) (step-long i s x l) gs)
+      where
+        go : Good k x ⊎ (isLost x ≡ true) → Each GoodRate xs ⊎ LostLane (m (feed step (suc i) (step i s x) xs))
+            → Each GoodRate (x ∷ xs) ⊎ LostLane (m (feed step (suc i) (step i s x) xs))
+        go (inl p) (inl r) = inl (more (p .0) r)
+        go (inl p) (inr r) = inr r
+        go (inr b) r = inr (fed-lost (suc i) (step i s x) xs (value-lost i s x l b))
 
-  step-out : (i : ℕ) (s : S) (fs : List Factor) (x : Float) → i < 512 → Guarded x → Out i (m s) (e s) fs
-      → Out (suc i) (m (step i s x)) (e (step i s x)) (laneTimes 52 i fs (rateFactor x))
-  step-out i s fs x l g (inr p) = inr (step-lost i s x p)
-  step-out i s fs x l g (inl h) = go (guard-cases x g)
-    where
-      go : Good x ⊎ (isLost x ≡ true) → Out (suc i) (m (step i s x)) (e (step i s x)) (laneTimes 52 i fs (rateFactor x))
-      go (inr b) = inr (value-lost i s x (h .m-long) b)
-      go (inl p) =
-          subst (λ (es : List ℤ). Out (suc i) (m (step i s x)) es (laneTimes 52 i fs (rateFactor x))) (sym (e-is i s x))
-          (subst (λ (ms : List Float). Out (suc i) ms (e s) (laneTimes 52 i fs (rateFactor x))) (sym (m-is i s x))
-          (subst (λ (es : List ℤ). Out (suc i) (set (m s) (laneOf i) (productOf 11 52 (getD (m s) (laneOf i) nan) x)) es (laneTimes 52 i fs (rateFactor x)))
-          (exponents-same (e s) (laneOf i)) (value-out i (m s) (e s) fs x (pos 0) (rateFactor x) l (p .1) h)))
+    step-out : (i : ℕ) (s : S) (fs : List Factor) (x : Float) → i < 8 * n → Guarded signs k x → Out (suc k) i (m s) (e s) fs
+        → Out (suc k) (suc i) (m (step i s x)) (e (step i s x)) (laneTimes 52 i fs (rateFactor x))
+    step-out i s fs x l g (inr p) = inr (step-lost i s x p)
+    step-out i s fs x l g (inl h) = go (guard-cases signs k few x g)
+      where
+        go : Good k x ⊎ (isLost x ≡ true) → Out (suc k) (suc i) (m (step i s x)) (e (step i s x)) (laneTimes 52 i fs (rateFactor x))
+        go (inr b) = inr (value-lost i s x (h .m-long) b)
+        go (inl p) =
+            subst (λ (es : List ℤ). Out (suc k) (suc i) (m (step i s x)) es (laneTimes 52 i fs (rateFactor x))) (sym (e-is i s x))
+            (subst (λ (ms : List Float). Out (suc k) (suc i) ms (e s) (laneTimes 52 i fs (rateFactor x))) (sym (m-is i s x))
+            (subst (λ (es : List ℤ). Out (suc k) (suc i) (set (m s) (laneOf i) (productOf 11 52 (getD (m s) (laneOf i) nan) x)) es (laneTimes 52 i fs (rateFactor x)))
+            (exponents-same (e s) (laneOf i)) (value-out (suc k) n room i (m s) (e s) fs x (pos 0) (rateFactor x) l (p .1) h)))
 
-  pub fed-out : (i : ℕ) (s : S) (fs : List Factor) {xs : List Float} → Each Guarded xs → i + length xs ≤ 512 → Out i (m s) (e s) fs
-      → Out (i + length xs) (m (feed step i s xs)) (e (feed step i s xs)) (feed (laneTimes 52) i fs (map rateFactor xs))
-  fed-out = feed-related step (laneTimes 52) rateFactor Guarded (λ (i : ℕ) (s : S). Out i (m s) (e s)) 512 step-out
+    pub fed-out : (i : ℕ) (s : S) (fs : List Factor) {xs : List Float} → Each (Guarded signs k) xs → i + length xs ≤ 8 * n → Out (suc k) i (m s) (e s) fs
+        → Out (suc k) (i + length xs) (m (feed step i s xs)) (e (feed step i s xs)) (feed (laneTimes 52) i fs (map rateFactor xs))
+    fed-out = feed-related step (laneTimes 52) rateFactor (Guarded signs k) (λ (i : ℕ) (s : S). Out (suc k) i (m s) (e s)) (8 * n) step-out
 
 -- ---- the tests
 every-set : {A : Type 0} (p : A → Bool) (l : List A) (k : ℕ) (y d : A) → k < length l → every p (set l k y) ≡ true
@@ -173,17 +185,19 @@ every-at p [] k d h e = absurd (omega arith)
 every-at p (x ∷ l) zero d h e = and-both (p x) (every p l) e .0
 every-at p (x ∷ l) (suc k) d h e = every-at p l k d (omega arith) (and-both (p x) (every p l) e .1)
 
--- if no lane's least is below 2^-29 at the end, each square passed, and none was below at the start
-pub guards : (i : ℕ) (w : Waiting) {xs : List Float} → Each (λ (x : Float). T (fits binary64 x)) xs → length (w .least) ≡ 8
-    → every notBelow (feed waitStep i w xs .least) ≡ true → (every notBelow (w .least) ≡ true) × Each Guarded xs
+-- if no lane's least is below the bound at the end, each measure passed, and none was below at the start
+pub guards : (signs : Bool) (k i : ℕ) (w : Waiting) {xs : List Float} → Each (λ (x : Float). T (fits binary64 x)) xs → length (w .least) ≡ 8
+    → every (notBelow (leastOf signs (suc k))) (feed (waitStep signs) i w xs .least) ≡ true
+    → (every (notBelow (leastOf signs (suc k))) (w .least) ≡ true) × Each (Guarded signs k) xs
 unfolding feed waitStep
-guards i w none h e = (e, none)
-guards i w (more {x = x} {xs = xs} v vs) h e =
+guards signs k i w none h e = (e, none)
+guards signs k i w (more {x = x} {xs = xs} v vs) h e =
     let j = laneOf i in
     let a = getD (w .least) j nan in
-    let r = guards (suc i) (waitStep i w x) vs (length-set (w .least) j (lesser (square x) a) ∙ h) e in
-    let s = every-set notBelow (w .least) j (lesser (square x) a) nan (subst (λ (n : ℕ). j < n) (sym h) (lane-lt i)) (r .0) in
-    let b = least-lesser 28 (square x) a (s .0) in
+    let y = lesser (measure signs x) a in
+    let r = guards signs k (suc i) (waitStep signs i w x) vs (length-set (w .least) j y ∙ h) e in
+    let s = every-set (notBelow (leastOf signs (suc k))) (w .least) j y nan (subst (λ (n : ℕ). j < n) (sym h) (lane-lt i)) (r .0) in
+    let b = least-lesser (cond signs (k + k) k) (measure signs x) a (s .0) in
     (s .1 (b .0), more (record { value = v; from = b .1 }) (r .1))
 
 -- what is not past 2^1000 is a number

@@ -1,6 +1,6 @@
 -- Inner: lanes that wait: values are multiplied in unsplit, eight at a time, and a test at the end says whether the lanes are what split values give.
-use Prim.Native.Nat.{ℕ, _+_, _-_, _%_}
-use mathlib.Core.Bool.{Bool, false, not, cond, _&&_}
+use Prim.Native.Nat.{ℕ, zero, suc, _+_, _-_, _/_, _%_}
+use mathlib.Core.Bool.{Bool, true, false, not, cond, _&&_}
 use mathlib.Core.List.{List, _++_}
 use lib.ListN.{length, getD, set, replicate}
 use lib.IntN.{ℤ, pos, negsuc, _+ℤ_}
@@ -31,18 +31,27 @@ lesser x y = cond (lt x y) x y
 abbrev pub square : Float → Float
 square x = productOf 11 52 x x
 
--- value i goes to lane i mod 8: multiplied in unsplit, and the least square of the lane's values is kept
-unfoldable pub waitStep : ℕ → Waiting → Float → Waiting
-waitStep i w x =
+-- what the least of a lane is taken of: the values, or their squares where signs may be mixed
+abbrev pub measure : Bool → Float → Float
+measure signs x = cond signs (square x) x
+
+-- value i goes to lane i mod 8: multiplied in unsplit, and the least measure of the lane's values is kept
+unfoldable pub waitStep : Bool → ℕ → Waiting → Float → Waiting
+waitStep signs i w x =
     let k = laneOf i in
-    record { m = set (w .m) k (productOf 11 52 (getD (w .m) k nan) x); least = set (w .least) k (lesser (square x) (getD (w .least) k nan)) }
+    record { m = set (w .m) k (productOf 11 52 (getD (w .m) k nan) x); least = set (w .least) k (lesser (measure signs x) (getD (w .least) k nan)) }
 
--- A square from 2^-29 on is that of a value from 2^-15 on: 64 of them, multiplied into a lane in [1, 2), stay normal.
-abbrev pub LEAST : Float
-LEAST = fin false 1 (negsuc 28)
+-- A measure from this on is that of a value from 2^-d on: 2^-d itself, or the square 2^-(2d - 1), which no square of a lower value is rounded to.
+abbrev pub leastOf : Bool → ℕ → Float
+leastOf signs zero = one
+leastOf signs (suc k) = fin false 1 (negsuc (cond signs (k + k) k))
 
-abbrev pub notBelow : Float → Bool
-notBelow y = le LEAST y
+abbrev pub notBelow : Float → Float → Bool
+notBelow least y = le least y
+
+-- how deep a short piece of n values may lie: eight lanes of its values, multiplied, stay above 2^-960
+abbrev pub shortDepth : ℕ → ℕ
+shortDepth n = 120 / ((n + 7) / 8)
 
 -- not infinite, not a NaN: no more than 2^1000 either way
 abbrev pub MOST : Float
@@ -70,8 +79,9 @@ leastSquare vector =
     (lesser (lesser (squareAt vector 0) (squareAt vector 4)) (lesser (squareAt vector 2) (squareAt vector 6)))
     (lesser (lesser (squareAt vector 1) (squareAt vector 5)) (lesser (squareAt vector 3) (squareAt vector 7)))
 
+-- a square from 2^-29 on is that of a value from 2^-15 on
 abbrev pub notLow : List Float → Bool
-notLow vector = notBelow (leastSquare vector)
+notLow vector = notBelow (leastOf true 15) (leastSquare vector)
 
 -- a vector multiplied unsplit if that is not below 2^-29 and not all are split, else split
 unfoldable pub guarded : Bool → Lanes → List Float → Lanes

@@ -1,3 +1,4 @@
 -- Vectors of eight values, and lanes that wait. Definitions only.
 pub mod InnerSteps
 pub mod InnerWaiting
+pub mod InnerShort

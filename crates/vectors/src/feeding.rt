@@ -2,14 +2,14 @@
 ghost use mathlib.Core.Path.{_≡_};
 ghost use mathlib.Core.Logic.{_⊎_};
 ghost use mathlib.Core.Bool.{_||_, true};
-ghost use Prim.Native.Nat.{_+_, _*_, _^_, _≤_};
+ghost use Prim.Native.Nat.{_+_, _*_, _^_, _≤_, _<_};
 ghost use lib.ListN.{length};
 ghost use Rattle.kernels.specs.Lanes.{every, feed};
 ghost use Rattle.kernels.specs.InnerLanes.{window, SmallLanes, LanesAfter};
 ghost use Rattle.kernels.specs.InnerStrided.{strided, PlacesInside};
 ghost use Rattle.kernels.specs.Blocks.{startLanes};
-ghost use Rattle.vectors.specs.InnerSteps.{NotYetNormalised, Progress, holdAfter};
-ghost use Rattle.vectors.specs.InnerWaiting.{notPast, waitStep, startWaiting, exponentsOf, lanesProduct};
+ghost use Rattle.vectors.specs.InnerSteps.{NotYetNormalised, Progress, SoundTry, patience};
+ghost use Rattle.vectors.specs.InnerWaiting.{notPast, waitStep, padded, startWaiting, exponentsOf, lanesProduct};
 use crate::vector::Vector;
 use crate::vector::Waiting;
 use accumulator::StableProductFloatAcc;
@@ -17,12 +17,12 @@ use kernels::lanes::Lanes;
 
 const LANES: usize = StableProductFloatAcc::LANES;
 
-// Vectors that lanes wait for at most, values that are guarded together, and such steps from a failed try to the next.
-const MOST_VECTORS: usize = 64;
-
+// Values that are guarded together, and such steps after the last way failed until the next try.
 const GUARDED: usize = 256;
 
 const HOLD: usize = 16;
+
+const LAST_WAY: usize = 4;
 
 // Lanes that wait to be brought back, and how many values went to them.
 pub struct Step {
@@ -41,31 +41,38 @@ pub fn start_waiting(s: Lanes) -> Waiting
 }
 
 // Vectors that lie side by side.
-fn wait_beside(w: Waiting, values: &[f64], at: usize, vectors: usize) -> Waiting
+fn wait_beside(w: Waiting, values: &[f64], at: usize, vectors: usize, signs: bool) -> Waiting
     requires { ⌜ (length (w .m) ≡ 8) × (length (w .least) ≡ 8) × (at + 8 * vectors ≤ length (now values)) ⌝ }
-    ensures { λ r. ⌜ r ≡ feed waitStep 0 w (window (now (values .entry)) at (8 * vectors)) ⌝ }
+    ensures { λ r. ⌜ r ≡ feed (waitStep signs) 0 w (window (now (values .entry)) at (8 * vectors)) ⌝ }
 {
     let mut t = w;
     let mut i: usize = 0;
     while i < vectors {
         let vector = crate::vector::vector_at(values, at + i * LANES);
-        t = crate::vector::wait_vector(t, vector);
+        t = crate::vector::wait_vector(t, vector, signs);
         i += 1;
     }
     t
 }
 
 // Vectors a stride apart.
-fn wait_apart(w: Waiting, values: &[f64], start: i64, stride: i64, vectors: usize) -> Waiting
+fn wait_apart(
+    w: Waiting,
+    values: &[f64],
+    start: i64,
+    stride: i64,
+    vectors: usize,
+    signs: bool,
+) -> Waiting
     requires { ⌜ (length (w .m) ≡ 8) × (length (w .least) ≡ 8) × (vectors ≤ 2 ^ 40) × PlacesInside (length (now values)) start stride (8 * vectors) ⌝ }
-    ensures { λ r. ⌜ r ≡ feed waitStep 0 w (strided (now (values .entry)) start stride (8 * vectors)) ⌝ }
+    ensures { λ r. ⌜ r ≡ feed (waitStep signs) 0 w (strided (now (values .entry)) start stride (8 * vectors)) ⌝ }
 {
     let mut t = w;
     let mut at = start;
     let mut i: usize = 0;
     while i < vectors {
         let vector = crate::vector::vector_of(values, at, stride, LANES);
-        t = crate::vector::wait_vector(t, vector);
+        t = crate::vector::wait_vector(t, vector, signs);
         i += 1;
         if i < vectors {
             at += stride * 8;
@@ -74,34 +81,110 @@ fn wait_apart(w: Waiting, values: &[f64], start: i64, stride: i64, vectors: usiz
     t
 }
 
-pub fn wait_vectors(w: Waiting, values: &[f64], start: i64, stride: i64, vectors: usize) -> Waiting
+fn wait_vectors(
+    w: Waiting,
+    values: &[f64],
+    start: i64,
+    stride: i64,
+    vectors: usize,
+    signs: bool,
+) -> Waiting
     requires { ⌜ (length (w .m) ≡ 8) × (length (w .least) ≡ 8) × (vectors ≤ 2 ^ 40) × PlacesInside (length (now values)) start stride (8 * vectors) ⌝ }
-    ensures { λ r. ⌜ r ≡ feed waitStep 0 w (strided (now (values .entry)) start stride (8 * vectors)) ⌝ }
+    ensures { λ r. ⌜ r ≡ feed (waitStep signs) 0 w (strided (now (values .entry)) start stride (8 * vectors)) ⌝ }
 {
     if vectors == 0 {
         return w;
     }
     if stride == 1 {
-        return wait_beside(w, values, start as usize, vectors);
+        return wait_beside(w, values, start as usize, vectors, signs);
     }
-    wait_apart(w, values, start, stride, vectors)
+    wait_apart(w, values, start, stride, vectors, signs)
 }
 
-// Up to 64 vectors that wait. They count only if no square was below 2^-29 and no lane is infinite or a NaN; else nothing is done.
-fn tried(s: Lanes, values: &[f64], start: i64, stride: i64, vectors: usize) -> Step
-    requires { ⌜ SmallLanes (2 ^ 56) s × (length (s .m) ≡ 8) × (vectors ≤ 64) × PlacesInside (length (now values)) start stride (8 * vectors) ⌝ }
-    ensures { λ r. ⌜ NotYetNormalised s (strided (now (values .entry)) start stride (r .done)) (r .lanes) ⌝ }
-    ensures done { λ r. ⌜ (r .done ≡ 8 * vectors) ⊎ (r .done ≡ 0) ⌝ }
+// Whole vectors, and a last one of the values that are left.
+pub fn wait_values(
+    w: Waiting,
+    values: &[f64],
+    start: i64,
+    stride: i64,
+    len: usize,
+    signs: bool,
+) -> Waiting
+    requires { ⌜ (length (w .m) ≡ 8) × (length (w .least) ≡ 8) × (len ≤ 2 ^ 40) × PlacesInside (length (now values)) start stride len ⌝ }
+    ensures { λ r. ⌜ r ≡ feed (waitStep signs) 0 w (padded (strided (now (values .entry)) start stride len)) ⌝ }
 {
-    let w = wait_vectors(start_waiting(s), values, start, stride, vectors);
+    let vectors = len / LANES;
+    let t = wait_vectors(w, values, start, stride, vectors, signs);
+    if len % LANES == 0 {
+        return t;
+    }
+    let at = crate::vector::place(start, stride, LANES * vectors);
+    let vector = crate::vector::vector_of(values, at, stride, len % LANES);
+    crate::vector::wait_vector(t, vector, signs)
+}
+
+// A way to try values: by themselves or by their squares, down to 2^-depth, in at most so many vectors.
+pub struct Try {
+    pub signs: bool,
+    pub depth: usize,
+    pub most: usize,
+}
+
+// Which way is tried next, and whether a way before it is tried again if it succeeds; before that, how many steps are guarded.
+pub struct Pace {
+    pub way: usize,
+    pub hold: usize,
+    pub rising: bool,
+}
+
+// Keep rates, positive rates, rates of both signs, and two ways for rates near 0 or large ones.
+fn try_at(way: usize) -> Try
+    ensures { λ r. ⌜ SoundTry r ⌝ }
+{
+    if way == 0 {
+        return Try {
+            signs: false,
+            depth: 3,
+            most: 256,
+        };
+    }
+    if way < 3 {
+        return Try {
+            signs: way == 2,
+            depth: 15,
+            most: 64,
+        };
+    }
+    if way == 3 {
+        return Try {
+            signs: true,
+            depth: 30,
+            most: 32,
+        };
+    }
+    Try {
+        signs: true,
+        depth: 120,
+        most: 8,
+    }
+}
+
+// Values that wait. They count only if none was too low and no lane is infinite or a NaN; else nothing is done.
+fn tried(s: Lanes, values: &[f64], start: i64, stride: i64, len: usize, y: Try) -> Step
+    requires { ⌜ SmallLanes (2 ^ 56) s × (length (s .m) ≡ 8) × SoundTry y × (len ≤ 8 * y .most) × PlacesInside (length (now values)) start stride len ⌝ }
+    ensures { λ r. ⌜ NotYetNormalised s (strided (now (values .entry)) start stride (r .done)) (r .lanes) ⌝ }
+    ensures done { λ r. ⌜ (r .done ≡ len) ⊎ (r .done ≡ 0) ⌝ }
+{
+    let w = wait_values(start_waiting(s), values, start, stride, len, y.signs);
     let v = w.m;
-    if crate::vector::none_below(w) & crate::vector::none_past(Vector { v }) {
+    let least = crate::vector::least_of(y.signs, y.depth);
+    if crate::vector::none_below(w, least) & crate::vector::none_past(Vector { v }) {
         let m = w.m;
         let e = s.e;
         let bad = s.bad;
         return Step {
             lanes: Lanes { m, e, bad },
-            done: LANES * vectors,
+            done: len,
         };
     }
     Step { lanes: s, done: 0 }
@@ -152,34 +235,56 @@ fn guarded(s: Lanes, values: &[f64], start: i64, stride: i64, len: usize) -> Lan
     t
 }
 
-// The next vectors of a piece: a try, unless one failed a short while ago.
-fn next_step(s: Lanes, values: &[f64], at: i64, stride: i64, left: usize, hold: usize) -> Step
+// The next values of a piece: a try, unless all failed a short while ago.
+fn next_step(s: Lanes, values: &[f64], at: i64, stride: i64, left: usize, pace: Pace) -> Step
     requires { ⌜ SmallLanes (2 ^ 56) s × (length (s .m) ≡ 8) × (left ≤ 2 ^ 40) × PlacesInside (length (now values)) at stride left ⌝ }
     ensures { λ r. ⌜ NotYetNormalised s (strided (now (values .entry)) at stride (r .done)) (r .lanes) ⌝ }
-    ensures done { λ r. ⌜ Progress left hold (r .done) ⌝ }
+    ensures done { λ r. ⌜ Progress left (pace .hold) (r .done) ⌝ }
 {
-    if hold == 0 {
-        if LANES <= left {
-            let n = integers::min_usize(MOST_VECTORS, left / LANES);
-            return tried(s, values, at, stride, n);
-        }
+    if pace.hold == 0 {
+        let y = try_at(pace.way);
+        let n = integers::min_usize(LANES * y.most, left);
+        return tried(s, values, at, stride, n, y);
     }
     let done = integers::min_usize(GUARDED, left);
     let lanes = guarded(s, values, at, stride, done);
     Step { lanes, done }
 }
 
-// After a try that failed, so many steps are guarded before the next.
-fn next_hold(hold: usize, done: usize) -> usize
-    ensures { λ r. ⌜ r ≡ holdAfter hold done ⌝ }
+// A way that failed is left for the next, and one that worked is kept. After the last the steps are guarded for a while, and then the ways
+// are tried again from the last on, as long as they work.
+fn next_pace(pace: Pace, done: usize) -> Pace
+    ensures { λ r. ⌜ (done ≡ 0 → pace .hold ≡ 0 → patience (r .hold) (r .way) < patience (pace .hold) (pace .way)) × (patience (r .hold) (r .way) ≤ 5) ⌝ }
 {
+    if pace.hold != 0 {
+        return Pace {
+            way: pace.way,
+            hold: pace.hold - 1,
+            rising: pace.rising,
+        };
+    }
     if done == 0 {
-        return HOLD;
+        if pace.way < LAST_WAY {
+            return Pace {
+                way: pace.way + 1,
+                hold: 0,
+                rising: false,
+            };
+        }
+        return Pace {
+            way: LAST_WAY,
+            hold: HOLD,
+            rising: true,
+        };
     }
-    if hold == 0 {
-        return 0;
+    if pace.rising & (pace.way != 0) {
+        return Pace {
+            way: pace.way - 1,
+            hold: 0,
+            rising: true,
+        };
     }
-    hold - 1
+    pace
 }
 
 // The lanes of a whole piece.
@@ -189,12 +294,16 @@ pub fn fed_lanes(values: &[f64], start: i64, stride: i64, len: usize) -> Lanes
 {
     let mut s = kernels::lanes::start_lanes();
     let mut i: usize = 0;
-    let mut hold: usize = 0;
+    let mut pace = Pace {
+        way: 0,
+        hold: 0,
+        rising: false,
+    };
     while i < len {
         let at = crate::vector::place(start, stride, i);
-        let t = next_step(s, values, at, stride, len - i, hold);
+        let t = next_step(s, values, at, stride, len - i, pace);
         s = kernels::lanes::stable_renorm(t.lanes);
-        hold = next_hold(hold, t.done);
+        pace = next_pace(pace, t.done);
         i += t.done;
     }
     s

@@ -9,7 +9,7 @@ ghost use Rattle.kernels.specs.Lanes.{feed, every};
 ghost use Rattle.kernels.specs.InnerLanes.{window, SmallLanes};
 ghost use Rattle.kernels.specs.InnerStrided.{strided, PlacesInside};
 ghost use Rattle.kernels.specs.Blocks.{unsplitStep, splitStep};
-ghost use Rattle.vectors.specs.InnerWaiting.{vectorOf, lesser, square, waitStep, notBelow, notPast, chained, leastSquare, notLow, guarded};
+ghost use Rattle.vectors.specs.InnerWaiting.{vectorOf, lesser, square, measure, waitStep, leastOf, notBelow, notPast, chained, leastSquare, notLow, guarded};
 use accumulator::StableProductFloatAcc;
 use kernels::lanes::Lanes;
 
@@ -24,7 +24,7 @@ pub struct Vector {
     pub v: [f64; LANES],
 }
 
-// Lanes multiplied unsplit, beside the least square of the values that each has met.
+// Lanes multiplied unsplit, beside the least of the values that each has met, or of their squares.
 pub struct Waiting {
     pub m: [f64; LANES],
     pub least: [f64; LANES],
@@ -39,6 +39,7 @@ pub fn place(start: i64, stride: i64, i: usize) -> i64
 }
 
 // n values from `at` on, a stride apart. The lanes past them get 1.0, which changes none. No offset is formed but those of the values.
+// Eight turns, whatever n is, so that the lanes stay in registers.
 pub fn vector_of(values: &[f64], at: i64, stride: i64, n: usize) -> Vector
     requires { ⌜ (n ≤ 8) × PlacesInside (length (now values)) at stride n ⌝ }
     ensures { λ r. ⌜ r .v ≡ vectorOf (strided (now (values .entry)) at stride n) ⌝ }
@@ -46,9 +47,11 @@ pub fn vector_of(values: &[f64], at: i64, stride: i64, n: usize) -> Vector
     let mut r = Vector { v: [1.0; LANES] };
     let mut place = at;
     let mut k: usize = 0;
-    while k < n {
-        let index = place as usize;
-        r.v[k] = values[index];
+    while k < LANES {
+        if k < n {
+            let index = place as usize;
+            r.v[k] = values[index];
+        }
         k += 1;
         if k < n {
             place += stride;
@@ -81,7 +84,10 @@ pub fn some_vector(values: &[f64], at: i64, stride: i64, left: usize) -> Vector
             return vector_at(values, at as usize);
         }
     }
-    vector_of(values, at, stride, integers::min_usize(LANES, left))
+    if LANES <= left {
+        return vector_of(values, at, stride, LANES);
+    }
+    vector_of(values, at, stride, left)
 }
 
 fn lesser(x: f64, y: f64) -> f64
@@ -90,30 +96,47 @@ fn lesser(x: f64, y: f64) -> f64
     if x < y { x } else { y }
 }
 
-pub fn wait_vector(w: Waiting, vector: Vector) -> Waiting
+// What the least of a lane is taken of: the value, or its square where signs may be mixed.
+fn measure(x: f64, signs: bool) -> f64
+    ensures { λ r. ⌜ r ≡ measure signs x ⌝ }
+{
+    if signs { x * x } else { x }
+}
+
+pub fn wait_vector(w: Waiting, vector: Vector, signs: bool) -> Waiting
     requires { ⌜ (length (w .m) ≡ 8) × (length (w .least) ≡ 8) × (length (vector .v) ≡ 8) ⌝ }
-    ensures { λ r. ⌜ r ≡ feed waitStep 0 w (vector .v) ⌝ }
+    ensures { λ r. ⌜ r ≡ feed (waitStep signs) 0 w (vector .v) ⌝ }
 {
     let mut t = w;
     let mut k: usize = 0;
     while k < LANES {
         let x = vector.v[k];
         t.m[k] = t.m[k] * x;
-        t.least[k] = lesser(x * x, t.least[k]);
+        t.least[k] = lesser(measure(x, signs), t.least[k]);
         k += 1;
     }
     t
 }
 
-// No square that a lane has met is below 2^-29.
-pub fn none_below(w: Waiting) -> bool
+// The measure of a value of 2^-depth: 2^-depth itself, or, rather than its square, twice that, so that no rounding can reach it from below.
+pub fn least_of(signs: bool, depth: usize) -> f64
+    requires { ⌜ (1 ≤ depth) × (depth ≤ 511) ⌝ }
+    ensures { λ r. ⌜ r ≡ leastOf signs depth ⌝ }
+{
+    let d = depth as u64;
+    let field = if signs { 1024 - 2 * d } else { 1023 - d };
+    f64::from_bits(field << 52)
+}
+
+// No measure that a lane has met is below the least.
+pub fn none_below(w: Waiting, least: f64) -> bool
     requires { ⌜ length (w .least) ≡ 8 ⌝ }
-    ensures { λ r. ⌜ r ≡ every notBelow (w .least) ⌝ }
+    ensures { λ r. ⌜ r ≡ every (notBelow least) (w .least) ⌝ }
 {
     let mut ok = true;
     let mut k: usize = 0;
     while k < LANES {
-        ok = ok & (LEAST <= w.least[k]);
+        ok = ok & (least <= w.least[k]);
         k += 1;
     }
     ok

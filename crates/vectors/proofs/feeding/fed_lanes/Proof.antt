@@ -16,7 +16,7 @@ use Rattle.kernels.specs.Blocks.{startLanes}
 use Rattle.kernels.specs.InnerLanes.{SmallLanes, LanesAfter}
 use Rattle.kernels.proofs.LaneSizes.{lanes-le}
 use Rattle.kernels.proofs.Striding.{inside-part}
-use Rattle.vectors.specs.InnerSteps.{holdAfter}
+use Rattle.vectors.specs.InnerSteps.{patience}
 use Rattle.vectors.proofs.Vectorwise.{place-fits, step-fits}
 use Rattle.vectors.proofs.Feds.{fed-none, fed-eight, vectors-small}
 use Rattle.vectors.proofs.Stepping.{fed-step}
@@ -24,12 +24,12 @@ use Rattle.vectors.proofs.feeding.fed_lanes.Statement.{statement}
 use Rattle.vectors.proofs.feeding.fed_lanes.Tie as tie
 
 abbrev Inv-loop : tie.InvT-loop
-Inv-loop values start stride len s₀ i₀ hold₀ s i hold =
+Inv-loop values start stride len s₀ i₀ pace₀ s i pace =
     (i ≤ len) × ((i % 8 ≡ 0) ⊎ (i ≡ len)) × LanesAfter startLanes (strided values (toZ w64 start) (toZ w64 stride) i) s
 
--- a try that fails takes no value, but the room for another try
+-- a try that fails takes no value, but patience
 abbrev μ-loop : tie.MeasureT-loop
-μ-loop values start stride len s₀ i₀ hold₀ s i hold = 2 * (len - i) + (1 - hold)
+μ-loop values start stride len s₀ i₀ pace₀ s i pace = 6 * (len - i) + patience (pace .hold) (pace .way)
 
 start-lanes-requires : tie.Need-start-lanes-requires Inv-loop μ-loop
 start-lanes-requires c κs = search needs
@@ -92,8 +92,8 @@ next-step-requires c κs =
 stable-renorm-requires : tie.Need-stable-renorm-requires Inv-loop μ-loop
 stable-renorm-requires c κs = lanes-le (2 ^ 59) (2 ^ 60) (c .next-step .result .lanes) (lit≤ tt) (c .next-step .ensures .0 .small)
 
-next-hold-requires : tie.Need-next-hold-requires Inv-loop μ-loop
-next-hold-requires c κs = search needs
+next-pace-requires : tie.Need-next-pace-requires Inv-loop μ-loop
+next-pace-requires c κs = search needs
 
 add-i : tie.Need-add-i Inv-loop μ-loop
 add-i c =
@@ -104,30 +104,20 @@ add-i c =
     let u = q .next-step .ensures .1 .upto in
     omega arith
 
--- less is left, or no room for another try
-less : (n i done hold k : ℕ) → i < n → done ≤ n - i → (0 < n - i → done ≡ 0 → hold ≡ 0) → k ≡ holdAfter hold done
-    → 2 * (n - (i + done)) + (1 - k) < 2 * (n - i) + (1 - hold)
-unfolding holdAfter
-less n i zero hold k l u m e =
-    let z = m (omega arith) refl in
-    subst (λ (h : ℕ). 2 * (n - (i + 0)) + (1 - k) < 2 * (n - i) + (1 - h)) (sym z)
-    (subst (λ (j : ℕ). 2 * (n - (i + 0)) + (1 - j) < 2 * (n - i) + (1 - 0)) (sym e) (omega arith))
-less n i (suc done) hold k l u m e = fewer (n - (i + suc done)) (n - i) (1 - k) (1 - hold) (omega arith) (at-most k)
-  where
-    fewer : (a b x y : ℕ) → a < b → x ≤ 1 → 2 * a + x < 2 * b + y
-    fewer a b x y p q = omega arith
-
-    at-most : (j : ℕ) → 1 - j ≤ 1
-    at-most j = omega arith
+-- less is left, or less patience
+less : (n i done hold p q : ℕ) → i < n → done ≤ n - i → (0 < n - i → done ≡ 0 → hold ≡ 0) → (done ≡ 0 → hold ≡ 0 → q < p) → q ≤ 5
+    → 6 * (n - (i + done)) + q < 6 * (n - i) + p
+less n i zero hold p q l u m f h = let k = f refl (m (omega arith) refl) in omega arith
+less n i (suc done) hold p q l u m f h = omega arith
 
 loop-less : tie.Need-loop-less Inv-loop μ-loop
 loop-less c =
-    let q = c .before .before .before in
+    let r = c .before in
+    let q = r .before .before in
     let t = q .before .before .before in
     let p = q .next-step .ensures .1 in
-    less (entry t .args .len) (t .loop .i) (q .next-step .result .done) (t .loop .hold) (c .before .next-hold .result) (q .before .before .loop-test .taken)
-    (p .upto) (p .moves)
-    (c .before .next-hold .ensures)
+    less (entry t .args .len) (t .loop .i) (q .next-step .result .done) (t .loop .pace .hold) _ _ (q .before .before .loop-test .taken)
+    (p .upto) (p .moves) (r .next-pace .ensures .0) (r .next-pace .ensures .1)
 
 -- whole vectors, or all: a vector is left, so the vectors before are whole
 vectors-of : (n i done : ℕ) → (i % 8 ≡ 0) ⊎ (i ≡ n) → i < n → (i % 8 ≡ 0)
@@ -179,7 +169,7 @@ fed-lanes-spec =
     sub-next-step
     next-step-requires
     stable-renorm-requires
-    next-hold-requires
+    next-pace-requires
     add-i
     loop-less
     loop-again

@@ -1,5 +1,5 @@
 -- `vectors::feeding::next_step` meets its contract. Assumes nothing.
-use Prim.Native.Nat.{ℕ, _*_, _/_, _%_, _≤_, _<_, min}
+use Prim.Native.Nat.{ℕ, _*_, _%_, _≤_, _<_, min}
 use mathlib.Core.Path.{_≡_, refl, ap}
 use mathlib.Core.Logic.{_⊎_, inl, inr}
 use native.Mathlib.Omega.{arith}
@@ -15,13 +15,20 @@ use Rattle.vectors.specs.InnerSteps.{Progress}
 use Rattle.vectors.proofs.feeding.next_step.Statement.{statement}
 use Rattle.vectors.proofs.feeding.next_step.Tie as tie
 
--- vectors that are tried: all of them, or none
-tried-progress : (left hold n done : ℕ) → n ≡ min 64 (left / 8) → hold ≡ 0 → 8 ≤ left → (done ≡ 8 * n) ⊎ (done ≡ 0) → Progress left hold done
-tried-progress left hold n done e h l (inl d) = record { upto = omega arith; vectors = inl (whole n d); moves = λ p z. h }
+-- values that are tried: whole vectors or all that are left, or none
+tried-progress : (left hold m n done : ℕ) → n ≡ min (8 * m) left → hold ≡ 0 → (done ≡ n) ⊎ (done ≡ 0) → Progress left hold done
+tried-progress left hold m n done e h (inl d) = record { upto = omega arith; vectors = go (ltb left (8 * m)) refl; moves = λ p z. h }
   where
-    whole : (n : ℕ) → done ≡ 8 * n → done % 8 ≡ 0
-    whole n d = omega arith
-tried-progress left hold n done e h l (inr d) = record { upto = omega arith; vectors = inl (ap (λ (k : ℕ). k % 8) d); moves = λ p z. h }
+    all : left < 8 * m → done ≡ left
+    all l = omega arith
+
+    whole : 8 * m ≤ left → done % 8 ≡ 0
+    whole l = omega arith
+
+    go : (b : Bool) → ltb left (8 * m) ≡ b → (done % 8 ≡ 0) ⊎ (done ≡ left)
+    go true q = inr (all (ltb-true left (8 * m) q))
+    go false q = inl (whole (ltb-false left (8 * m) q))
+tried-progress left hold m n done e h (inr d) = record { upto = omega arith; vectors = inl (ap (λ (k : ℕ). k % 8) d); moves = λ p z. h }
 
 -- 256 values, or all that is left
 guarded-progress : (left hold done : ℕ) → done ≡ min 256 left → Progress left hold done
@@ -37,34 +44,43 @@ guarded-progress left hold done e = record { upto = omega arith; vectors = go (l
     go true q = inr (all (ltb-true left 256 q))
     go false q = inl (block (ltb-false left 256 q))
 
+try-at-requires : tie.Need-try-at-requires
+try-at-requires c κs = search needs
+
+mul-min-usize : tie.Need-mul-min-usize
+mul-min-usize c = omega (arith, c .before .try-at .ensures .few)
+
 min-usize-requires : tie.Need-min-usize-requires
 min-usize-requires c κs = search needs
 
 tried-requires : tie.Need-tried-requires
 tried-requires c κs =
-    let s = c .before .before .before .before in
+    let y = c .before .before in
+    let s = y .before .before .before .before in
     let e = c .min-usize .ensures in
-    let h = c .before .if2 .taken in
     simp (toZ-ofZ w64 (s .args .at) (s .fits .at), toZ-ofZ w64 (s .args .stride) (s .fits .stride)) (
       s .pre .0,
       s .pre .1,
-      vectors-few _ _ e,
-      inside-less (length (s .args .values .now)) (s .args .at) (s .args .stride) (s .args .left) (8 * c .min-usize .result) (s .pre .3) (vectors-inside _ _ e),
+      y .try-at .ensures,
+      few _ _ _ e,
+      inside-less (length (s .args .values .now)) (s .args .at) (s .args .stride) (s .args .left) (c .min-usize .result) (s .pre .3) (within _ _ _ e),
     )
   where
-    vectors-few : (n l : ℕ) → n ≡ min 64 (l / 8) → n ≤ 64
-    vectors-few n l e = omega arith
+    few : (n m l : ℕ) → n ≡ min (8 * m) l → n ≤ 8 * m
+    few n m l e = omega arith
 
-    vectors-inside : (n l : ℕ) → n ≡ min 64 (l / 8) → 8 * n ≤ l
-    vectors-inside n l e = omega arith
+    within : (n m l : ℕ) → n ≡ min (8 * m) l → n ≤ l
+    within n m l e = omega arith
 
 returns : tie.Need-returns
 returns c =
     let q = c .before in
-    let s = q .before .before .before .before in (
+    let y = q .before .before in
+    let t = y .before in
+    let s = t .before .before .before in (
       simp (toZ-ofZ w64 (s .args .at) (s .fits .at), toZ-ofZ w64 (s .args .stride) (s .fits .stride)) at (c .tried .ensures .0),
-      tried-progress (s .args .left) (s .args .hold) (q .min-usize .result) (c .tried .result .done) (q .min-usize .ensures) (q .before .before .if1 .taken)
-          (q .before .if2 .taken) (c .tried .ensures .1),
+      tried-progress (s .args .left) (s .args .pace .hold) (y .try-at .result .most) (q .min-usize .result) (c .tried .result .done) (q .min-usize .ensures)
+          (t .if1 .taken) (c .tried .ensures .1),
     )
 
 min-usize-requires-2 : tie.Need-min-usize-requires-2
@@ -72,7 +88,7 @@ min-usize-requires-2 c κs = search needs
 
 guarded-requires : tie.Need-guarded-requires
 guarded-requires c κs =
-    let s = c .before .before .before in
+    let s = c .before .before .before .before in
     let e = c .min-usize2 .ensures in
     simp (toZ-ofZ w64 (s .args .at) (s .fits .at), toZ-ofZ w64 (s .args .stride) (s .fits .stride)) (
       s .pre .0,
@@ -90,15 +106,17 @@ guarded-requires c κs =
 returns-2 : tie.Need-returns-2
 returns-2 c =
     let q = c .before in
-    let s = q .before .before .before in (
+    let s = q .before .before .before .before in (
       simp (toZ-ofZ w64 (s .args .at) (s .fits .at), toZ-ofZ w64 (s .args .stride) (s .fits .stride)) at (c .guarded .ensures),
-      guarded-progress (s .args .left) (s .args .hold) (q .min-usize2 .result) (q .min-usize2 .ensures),
+      guarded-progress (s .args .left) (s .args .pace .hold) (q .min-usize2 .result) (q .min-usize2 .ensures),
     )
 
 pub next-step-spec : {M : Type 1} → statement M
 next-step-spec =
     tie.close
     (tie.spec
+    try-at-requires
+    mul-min-usize
     min-usize-requires
     tried-requires
     returns

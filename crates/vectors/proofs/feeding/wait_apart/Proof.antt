@@ -19,13 +19,13 @@ use Rattle.vectors.proofs.feeding.wait_apart.Statement.{statement}
 use Rattle.vectors.proofs.feeding.wait_apart.Tie as tie
 
 abbrev Inv-loop : tie.InvT-loop
-Inv-loop values start stride vectors t₀ at₀ i₀ t at i =
+Inv-loop values start stride vectors signs t₀ at₀ i₀ t at i =
     (i ≤ vectors)
-    × (t ≡ feed waitStep 0 t₀ (strided values (toZ w64 start) (toZ w64 stride) (8 * i)))
+    × (t ≡ feed (waitStep signs) 0 t₀ (strided values (toZ w64 start) (toZ w64 stride) (8 * i)))
     × (i < vectors → toZ w64 at ≡ toZ w64 start +ℤ toZ w64 stride *ℤ pos (8 * i))
 
 abbrev μ-loop : tie.MeasureT-loop
-μ-loop values start stride vectors t₀ at₀ i₀ t at i = vectors - i
+μ-loop values start stride vectors signs t₀ at₀ i₀ t at i = vectors - i
 
 loop-holds : tie.Need-loop-holds Inv-loop μ-loop
 unfolding feed strided
@@ -64,8 +64,8 @@ wait-vector-requires : tie.Need-wait-vector-requires Inv-loop μ-loop
 wait-vector-requires c κs =
     let t = c .before .before in
     let s = entry t in (
-      ap (λ (w : Waiting). length (w .m)) (t .loop .inv .1) ∙ wait-m-long 0 (s .args .w) _ ∙ s .pre .0,
-      ap (λ (w : Waiting). length (w .least)) (t .loop .inv .1) ∙ wait-least-long 0 (s .args .w) _ ∙ s .pre .1,
+      ap (λ (w : Waiting). length (w .m)) (t .loop .inv .1) ∙ wait-m-long (s .args .signs) 0 (s .args .w) _ ∙ s .pre .0,
+      ap (λ (w : Waiting). length (w .least)) (t .loop .inv .1) ∙ wait-least-long (s .args .signs) 0 (s .args .w) _ ∙ s .pre .1,
       ap length (c .vector-of .ensures) ∙ vector-long _,
     )
 
@@ -92,16 +92,16 @@ add-at c =
 -- the vector is in
 more : (c : tie.After-wait-vector Inv-loop μ-loop)
     → let t = c .before .before .before in
-    c .wait-vector .result ≡ feed waitStep 0 (entry t .args .w) (strided (entry t .args .values .now) (first t) (apart t) (8 * (t .loop .i + 1)))
+    c .wait-vector .result ≡ feed (waitStep (entry t .args .signs)) 0 (entry t .args .w) (strided (entry t .args .values .now) (first t) (apart t) (8 * (t .loop .i + 1)))
 more c =
     let q = c .before .before in
     let t = q .before in
     let s = entry t in
     let xs = s .args .values .now in
-    vectors-more waitStep wait-again (s .args .w) (t .loop .t) (c .wait-vector .result) xs (first t) (apart t) (t .loop .i) (t .loop .inv .1)
+    vectors-more (waitStep (s .args .signs)) (wait-again (s .args .signs)) (s .args .w) (t .loop .t) (c .wait-vector .result) xs (first t) (apart t) (t .loop .i) (t .loop .inv .1)
     (c .wait-vector .ensures
-    ∙ ap (feed waitStep 0 (t .loop .t)) (c .before .vector-of .ensures ∙ vector-whole xs (toZ w64 (t .loop .at)) (apart t))
-    ∙ ap (λ (z : ℤ). feed waitStep 0 (t .loop .t) (strided xs z (apart t) 8)) (t .loop .inv .2 (q .loop-test .taken)))
+    ∙ ap (feed (waitStep (s .args .signs)) 0 (t .loop .t)) (c .before .vector-of .ensures ∙ vector-whole xs (toZ w64 (t .loop .at)) (apart t))
+    ∙ ap (λ (z : ℤ). feed (waitStep (s .args .signs)) 0 (t .loop .t) (strided xs z (apart t) 8)) (t .loop .inv .2 (q .loop-test .taken)))
 
 loop-less : tie.Need-loop-less Inv-loop μ-loop
 loop-less c = omega arith
@@ -123,7 +123,7 @@ returns c =
     let t = c .before in
     let s = entry t in
     let z : t .loop .i ≡ s .args .vectors = omega arith in
-    let e = t .loop .inv .1 ∙ ap (λ (i : ℕ). feed waitStep 0 (s .args .w) (strided (s .args .values .now) (first t) (apart t) (8 * i))) z in
+    let e = t .loop .inv .1 ∙ ap (λ (i : ℕ). feed (waitStep (s .args .signs)) 0 (s .args .w) (strided (s .args .values .now) (first t) (apart t) (8 * i))) z in
     simp (toZ-ofZ w64 (s .args .start) (s .fits .start), toZ-ofZ w64 (s .args .stride) (s .fits .stride)) at e
 
 pub wait-apart-spec : {M : Type 1} → statement M

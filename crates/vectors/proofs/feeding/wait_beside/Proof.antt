@@ -13,11 +13,11 @@ use Rattle.vectors.proofs.feeding.wait_beside.Statement.{statement}
 use Rattle.vectors.proofs.feeding.wait_beside.Tie as tie
 
 abbrev Inv-loop : tie.InvT-loop
-Inv-loop values at vectors t₀ i₀ t i =
-    (i ≤ vectors) × (t ≡ feed waitStep 0 t₀ (window values at (8 * i)))
+Inv-loop values at vectors signs t₀ i₀ t i =
+    (i ≤ vectors) × (t ≡ feed (waitStep signs) 0 t₀ (window values at (8 * i)))
 
 abbrev μ-loop : tie.MeasureT-loop
-μ-loop values at vectors t₀ i₀ t i = vectors - i
+μ-loop values at vectors signs t₀ i₀ t i = vectors - i
 
 loop-holds : tie.Need-loop-holds Inv-loop μ-loop
 unfolding feed
@@ -38,8 +38,8 @@ wait-vector-requires c κs =
     let s = t .before .before in
     let h = s .pre .2 in
     let l = c .before .loop-test .taken in (
-      ap (λ (w : Waiting). length (w .m)) (t .loop .inv .1) ∙ wait-m-long 0 (s .args .w) _ ∙ s .pre .0,
-      ap (λ (w : Waiting). length (w .least)) (t .loop .inv .1) ∙ wait-least-long 0 (s .args .w) _ ∙ s .pre .1,
+      ap (λ (w : Waiting). length (w .m)) (t .loop .inv .1) ∙ wait-m-long (s .args .signs) 0 (s .args .w) _ ∙ s .pre .0,
+      ap (λ (w : Waiting). length (w .least)) (t .loop .inv .1) ∙ wait-least-long (s .args .signs) 0 (s .args .w) _ ∙ s .pre .1,
       ap length (c .vector-at .ensures) ∙ window-length (s .args .values .now) (s .args .at + t .loop .i * 8) 8 (omega arith),
     )
 
@@ -56,9 +56,9 @@ loop-again c =
     let h = s .pre .2 in
     let l = c .before .before .loop-test .taken in (
       omega arith,
-      vectors-beside waitStep wait-again (s .args .w) (t .loop .t) (c .wait-vector .result) (s .args .values .now) (s .args .at) (t .loop .i) (omega arith)
+      vectors-beside (waitStep (s .args .signs)) (wait-again (s .args .signs)) (s .args .w) (t .loop .t) (c .wait-vector .result) (s .args .values .now) (s .args .at) (t .loop .i) (omega arith)
           (t .loop .inv .1)
-          (c .wait-vector .ensures ∙ ap (feed waitStep 0 (t .loop .t)) (c .before .vector-at .ensures)),
+          (c .wait-vector .ensures ∙ ap (feed (waitStep (s .args .signs)) 0 (t .loop .t)) (c .before .vector-at .ensures)),
     )
 
 returns : tie.Need-returns Inv-loop μ-loop
@@ -66,7 +66,7 @@ returns c =
     let t = c .before in
     let s = t .before .before in
     t .loop .inv .1
-    ∙ ap (λ (i : ℕ). feed waitStep 0 (s .args .w) (window (s .args .values .now) (s .args .at) (8 * i)))
+    ∙ ap (λ (i : ℕ). feed (waitStep (s .args .signs)) 0 (s .args .w) (window (s .args .values .now) (s .args .at) (8 * i)))
     (let e : t .loop .i ≡ s .args .vectors = omega arith in e)
 
 pub wait-beside-spec : {M : Type 1} → statement M

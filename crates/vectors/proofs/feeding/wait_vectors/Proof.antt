@@ -17,7 +17,7 @@ returns : tie.Need-returns
 unfolding feed strided
 returns c =
     let s = c .before .before in
-    sym (ap (λ (n : ℕ). feed waitStep 0 (s .args .w) (strided (s .args .values .now) (s .args .start) (s .args .stride) (8 * n))) (c .if1 .taken))
+    sym (ap (λ (n : ℕ). feed (waitStep (s .args .signs)) 0 (s .args .w) (strided (s .args .values .now) (s .args .start) (s .args .stride) (8 * n))) (c .if1 .taken))
 
 -- at stride 1 the vectors lie side by side
 abbrev entry : tie.Then2 → tie.Start
@@ -39,7 +39,7 @@ wait-beside-requires : tie.Need-wait-beside-requires
 wait-beside-requires c κs = let s = entry c in (s .pre .0, s .pre .1, side c .ends)
 
 returns-2 : tie.Need-returns-2
-returns-2 c = c .wait-beside .ensures ∙ ap (feed waitStep 0 (entry (c .before) .args .w)) (side (c .before) .same)
+returns-2 c = c .wait-beside .ensures ∙ ap (feed (waitStep (entry (c .before) .args .signs)) 0 (entry (c .before) .args .w)) (side (c .before) .same)
 
 wait-apart-requires : tie.Need-wait-apart-requires
 wait-apart-requires c κs =

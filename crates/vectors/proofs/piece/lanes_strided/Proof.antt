@@ -13,7 +13,7 @@ use Rattle.vectors.proofs.piece.lanes_strided.Tie as tie
 worked-piece-requires : tie.Need-worked-piece-requires
 worked-piece-requires c κs =
     let s = c .before in
-    simp (toZ-ofZ w64 (s .args .start) (s .fits .start), toZ-ofZ w64 (s .args .stride) (s .fits .stride)) (s .pre .1, s .pre .0)
+    simp (toZ-ofZ w64 (s .args .start) (s .fits .start), toZ-ofZ w64 (s .args .stride) (s .fits .stride)) (s .pre .0, s .pre .2, s .pre .1)
 
 -- the piece in blocks of 64
 worked : (c : tie.After-worked-piece)
@@ -25,7 +25,7 @@ worked c =
 lanes-each-value-requires : tie.Need-lanes-each-value-requires
 lanes-each-value-requires c κs =
     let s = c .before .before .before in
-    simp (toZ-ofZ w64 (s .args .start) (s .fits .start), toZ-ofZ w64 (s .args .stride) (s .fits .stride)) (s .pre .0, s .pre .1)
+    simp (toZ-ofZ w64 (s .args .start) (s .fits .start), toZ-ofZ w64 (s .args .stride) (s .fits .stride)) (s .pre .1, s .pre .2)
 
 returns : tie.Need-returns
 returns c =

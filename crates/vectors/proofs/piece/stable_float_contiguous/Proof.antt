@@ -7,7 +7,7 @@ use Rattle.vectors.proofs.piece.stable_float_contiguous.Statement.{stat
 use Rattle.vectors.proofs.piece.stable_float_contiguous.Tie as tie
 
 worked-piece-requires : tie.Need-worked-piece-requires
-worked-piece-requires c κs = (c .before .pre, inside-all (length (c .before .args .values .now)))
+worked-piece-requires c κs = (c .before .pre .0, c .before .pre .1, inside-all (length (c .before .args .values .now)))
 
 returns : tie.Need-returns
 returns c = c .worked-piece .ensures ∙ ap contiguous (strided-all (c .before .before .args .values .now))

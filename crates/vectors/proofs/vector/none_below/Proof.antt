@@ -7,15 +7,14 @@ use lib.ListN.{getD}
 use lib.Ieee.{nan}
 use Rattle.kernels.proofs.Feeding.{Worked, worked-none, worked-more, over, tested, worked-tested}
 use Rattle.vectors.specs.InnerWaiting.{notBelow}
-use Rattle.vectors.proofs.Vectorwise.{below-test}
 use Rattle.vectors.proofs.vector.none_below.Statement.{statement}
 use Rattle.vectors.proofs.vector.none_below.Tie as tie
 
 abbrev Inv-loop : tie.InvT-loop
-Inv-loop w ok₀ k₀ ok k = Worked (over (tested notBelow) (w .least) nan) 8 true ok k
+Inv-loop least w ok₀ k₀ ok k = Worked (over (tested (notBelow least)) (w .least) nan) 8 true ok k
 
 abbrev μ-loop : tie.MeasureT-loop
-μ-loop w ok₀ k₀ ok k = 8 - k
+μ-loop least w ok₀ k₀ ok k = 8 - k
 
 loop-holds : tie.Need-loop-holds Inv-loop μ-loop
 loop-holds c = worked-none refl
@@ -36,12 +35,12 @@ loop-again : tie.Need-loop-again Inv-loop μ-loop
 loop-again c =
     let t = c .before .before in
     worked-more (t .loop .inv) (c .before .loop-test .taken)
-    (ap (λ (b : Bool). t .loop .ok && b) (below-test (getD (t .before .args .t1 .least) (t .loop .k) nan)))
+    refl
 
 returns : tie.Need-returns Inv-loop μ-loop
 returns c =
     let t = c .before in
-    worked-tested notBelow nan (t .before .args .t1 .least) (t .before .pre) (t .loop .inv) (c .loop-test .left)
+    worked-tested (notBelow (t .before .args .least)) nan (t .before .args .t1 .least) (t .before .pre) (t .loop .inv) (c .loop-test .left)
 
 pub none-below-spec : {M : Type 1} → statement M
 none-below-spec =

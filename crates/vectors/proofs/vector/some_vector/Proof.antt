@@ -7,7 +7,6 @@ use lib.IntN.{pos}
 use lib.Dec.{lit≤}
 use mir.ValLaws.{toZ-ofZ}
 use mir.Syntax.{w64}
-use borrow.Author.Needs.{needs}
 use Rattle.integers.proofs.Machine.{same-bits, pos-fits}
 use Rattle.kernels.specs.InnerStrided.{strided}
 use Rattle.kernels.proofs.Striding.{Beside, beside, inside-less}
@@ -43,26 +42,39 @@ returns c =
     ∙ sym (vector-whole (s .args .values .now) (s .args .at) (s .args .stride))
     ∙ ap (λ (n : ℕ). vectorOf (strided (s .args .values .now) (s .args .at) (s .args .stride) n)) (let e : 8 ≡ min 8 (s .args .left) = omega arith in e)
 
-min-usize-requires : tie.Need-min-usize-requires
-min-usize-requires c κs = search needs
-
+-- eight values a stride apart
 vector-of-requires : tie.Need-vector-of-requires
 vector-of-requires c κs =
     let s = c .before .before .before in
-    let e : c .min-usize .result ≡ min 8 (s .args .left) = c .min-usize .ensures in
     simp (toZ-ofZ w64 (s .args .at) (s .fits .at), toZ-ofZ w64 (s .args .stride) (s .fits .stride)) (
-      omega (arith, e),
-      inside-less (length (s .args .values .now)) (s .args .at) (s .args .stride) (s .args .left) (c .min-usize .result) (s .pre) (omega (arith, e)),
+      lit≤ tt,
+      inside-less (length (s .args .values .now)) (s .args .at) (s .args .stride) (s .args .left) 8 (s .pre) (c .if3 .taken),
     )
 
 returns-2 : tie.Need-returns-2
 returns-2 c =
     let l = c .before in
     let s = l .before .before .before in
+    let h = l .if3 .taken in
     simp (toZ-ofZ w64 (s .args .at) (s .fits .at), toZ-ofZ w64 (s .args .stride) (s .fits .stride)) at (c .vector-of .ensures)
-    ∙ ap (λ (n : ℕ). vectorOf (strided (s .args .values .now) (s .args .at) (s .args .stride) n)) (l .min-usize .ensures)
+    ∙ ap (λ (n : ℕ). vectorOf (strided (s .args .values .now) (s .args .at) (s .args .stride) n)) (let e : 8 ≡ min 8 (s .args .left) = omega arith in e)
+
+-- all that is left
+vector-of-requires-2 : tie.Need-vector-of-requires-2
+vector-of-requires-2 c κs =
+    let s = c .before .before .before in
+    let h = c .if3 .left in
+    simp (toZ-ofZ w64 (s .args .at) (s .fits .at), toZ-ofZ w64 (s .args .stride) (s .fits .stride)) (omega arith, s .pre)
+
+returns-3 : tie.Need-returns-3
+returns-3 c =
+    let l = c .before in
+    let s = l .before .before .before in
+    let h = l .if3 .left in
+    simp (toZ-ofZ w64 (s .args .at) (s .fits .at), toZ-ofZ w64 (s .args .stride) (s .fits .stride)) at (c .vector-of2 .ensures)
+    ∙ ap (λ (n : ℕ). vectorOf (strided (s .args .values .now) (s .args .at) (s .args .stride) n)) (let e : s .args .left ≡ min 8 (s .args .left) = omega arith in e)
 
 pub some-vector-spec : {M : Type 1} → statement M
 some-vector-spec =
     tie.close
-    (tie.spec cast-vector-at vector-at-requires returns min-usize-requires vector-of-requires returns-2)
+    (tie.spec cast-vector-at vector-at-requires returns vector-of-requires returns-2 vector-of-requires-2 returns-3)
