@@ -10,6 +10,10 @@ use lib.ListN.{getD}
 use lib.Dec.{T, ltb}
 use lib.IntN.{ℤ, pos, natAbs, _+ℤ_}
 use lib.Ieee.{Float, nan, binary64, fits}
+use mir.Val.{SFits, toZ, ofZ}
+use mir.ValLaws.{toZ-ofZ}
+use mir.Syntax.{w64}
+use Rattle.accumulator.specs.declared.StableProductFloatAcc.{StableProductFloatAcc}
 use borrow.Author.Tests.{lt-ltb, le-ltb, ltb-true}
 use Rattle.layout.specs.declared.traversal.FullTraversal.{FullTraversal}
 use Rattle.offsets.specs.InnerLists.{steps}
@@ -21,6 +25,10 @@ use Rattle.integers.specs.Integers.{eqZ}
 use Rattle.kernels.proofs.Bounded.{worked-size}
 use Rattle.kernels.proofs.Striding.{strided-values}
 use Rattle.reduction.specs.Ranges.{valueAt, pieceAt, piecesFrom, piecesOf}
+
+-- an accumulator whose fields are handed on one by one
+pub handed : (a : StableProductFloatAcc) → SFits w64 (a .e) → _≡_ {A = StableProductFloatAcc} (record { m = a .m; e = toZ w64 (ofZ w64 (a .e)); bad = a .bad }) a
+handed a h = ap (λ (z : ℤ). record { m = a .m; e = z; bad = a .bad }) (toZ-ofZ w64 (a .e) h)
 
 -- ---- the list of pieces
 module _ (l : FullTraversal) (base : ℤ) (values : List Float) (end : ℕ) where

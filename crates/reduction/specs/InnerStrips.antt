@@ -8,6 +8,11 @@ use Rattle.accumulator.specs.declared.StableProductFloatAcc.{StableProductFloat
 use Rattle.accumulator.specs.Joining.{combined}
 use Rattle.kernels.specs.InnerStrided.{strided}
 use Rattle.kernels.specs.Pieces.{worked}
+use Rattle.reduction.specs.declared.full.RunProduct.{RunProduct}
+
+-- a run's product as an accumulator
+abbrev pub runAcc : RunProduct → StableProductFloatAcc
+runAcc r = record { m = r .m; e = r .e; bad = r .bad }
 
 -- n whole runs of len values that begin a step apart, the first at z: each worked and joined from the right
 unfoldable pub strip : List Float → ℤ → ℤ → ℕ → ℕ → ℤ → StableProductFloatAcc → StableProductFloatAcc

@@ -1,6 +1,6 @@
 // The full reduction: reduce_full_range over a compiled layout, and the call that compiles by itself.
 ghost use mathlib.Core.Path.{_≡_};
-ghost use mathlib.Core.Bool.{true};
+ghost use mathlib.Core.Bool.{true, false};
 ghost use mathlib.Core.List.{_∷_};
 ghost use Prim.Native.Nat.{ℕ, _+_, _*_, _/_, _%_, _^_, _≤_, _<_};
 ghost use lib.ListN.{length, getD};
@@ -13,14 +13,18 @@ ghost use Rattle.offsets.specs.Pieces.{runOf, outerOf};
 ghost use Rattle.kernels.specs.InnerStrided.{strided, PlacesInside};
 ghost use Rattle.kernels.specs.InnerStepped.{Sound};
 ghost use Rattle.kernels.specs.Pieces.{worked, joinedPieces};
+ghost use Rattle.vectors.specs.InnerShort.{ShortLeast};
 ghost use Rattle.accumulator.specs.Joining.{answerOf};
-ghost use Rattle.reduction.specs.InnerStrips.{strip};
+ghost use Rattle.reduction.specs.InnerStrips.{runAcc, strip};
 ghost use Rattle.reduction.specs.Ranges.{piecesOf, reduceOf};
 use accumulator::Reduced;
 use accumulator::StableProductFloatAcc;
 use layout::traversal::FullTraversal;
 
-// One piece: in blocks of 64 at stride 1, in stepped lanes at any other.
+const BLOCK: usize = StableProductFloatAcc::BLOCK;
+
+// One piece: in blocks of 64 at stride 1, in stepped lanes at any other. Its fields are handed on one by one: copied as a whole, an accumulator takes
+// the bytes that fill it up with it, and waits for them.
 fn reduce_piece(values: &[f64], first: i64, stride: i64, len: usize) -> StableProductFloatAcc
     requires { ⌜ (1 ≤ len) × PlacesInside (length (now values)) first stride len × (len ≤ 2 ^ 40) ⌝ }
     ensures { λ r. ⌜ r ≡ worked (eqZ stride (pos 1)) (strided (now (values .entry)) first stride len) ⌝ }
@@ -28,9 +32,21 @@ fn reduce_piece(values: &[f64], first: i64, stride: i64, len: usize) -> StablePr
     if stride == 1 {
         let at = first as usize;
         let part = &values[at..at + len];
-        return vectors::piece::stable_float_contiguous(part);
+        let a = vectors::piece::stable_float_contiguous(part);
+        let e = a.e;
+        return StableProductFloatAcc {
+            m: a.m,
+            e,
+            bad: a.bad,
+        };
     }
-    vectors::piece::lanes_strided(values, first, stride, len)
+    let a = vectors::piece::lanes_strided(values, first, stride, len);
+    let e = a.e;
+    StableProductFloatAcc {
+        m: a.m,
+        e,
+        bad: a.bad,
+    }
 }
 
 // A strip of fewer runs is not worth the decoding of a new cursor behind it.
@@ -60,6 +76,48 @@ fn whole_runs(l: FullTraversal, at: u64, end: u64) -> u64
     if left < room { left } else { room }
 }
 
+// One run's product, and how many of the next runs are not tried as short pieces.
+pub struct RunProduct {
+    pub m: f64,
+    pub e: i64,
+    pub bad: bool,
+    pub hold: u64,
+}
+
+// So many runs after one that could not be had as a short piece.
+const HOLD: u64 = 16;
+
+// A short run side by side is tried first; any other, and one that fails, is worked as a piece of its own.
+fn next_run(values: &[f64], at: i64, stride: i64, len: usize, least: f64, hold: u64) -> RunProduct
+    requires { ⌜ (1 ≤ len) × PlacesInside (length (now values)) at stride len × (len ≤ 2 ^ 40) × (len ≤ 480 → ShortLeast false len least) ⌝ }
+    ensures { λ r. ⌜ runAcc r ≡ worked (eqZ stride (pos 1)) (strided (now (values .entry)) at stride len) ⌝ }
+{
+    if hold == 0 {
+        if stride == 1 {
+            if len <= BLOCK {
+                let q = vectors::piece::short_piece(values, at, len, least);
+                if q.ok {
+                    return RunProduct {
+                        m: q.m,
+                        e: q.e,
+                        bad: false,
+                        hold: 0,
+                    };
+                }
+            }
+        }
+    }
+    let b = reduce_piece(values, at, stride, len);
+    let e = b.e;
+    let left = if hold == 0 { HOLD } else { hold - 1 };
+    RunProduct {
+        m: b.m,
+        e,
+        bad: b.bad,
+        hold: left,
+    }
+}
+
 // `count` runs of `len` values that begin `step` apart, each joined from the right. No place past the last run's is formed.
 fn reduce_strip(
     values: &[f64],
@@ -74,12 +132,21 @@ fn reduce_strip(
         × ((j : ℕ) → j < count → PlacesInside (length (now values)) (first +ℤ step *ℤ pos j) stride len) × Sound acc ⌝ }
     ensures { λ r. ⌜ r ≡ strip (now (values .entry)) step stride len count first acc ⌝ }
 {
+    let least = vectors::piece::short_least(len, false);
     let mut a = acc;
+    let mut hold: u64 = 0;
     let mut at = first;
     let mut j: u64 = 0;
     while j < count {
-        let b = reduce_piece(values, at, stride, len);
+        let r = next_run(values, at, stride, len, least, hold);
+        let e = r.e;
+        let b = StableProductFloatAcc {
+            m: r.m,
+            e,
+            bad: r.bad,
+        };
         a = accumulator::combine_units(a, b);
+        hold = r.hold;
         j += 1;
         if j < count {
             at += step;

@@ -4,7 +4,7 @@ use mathlib.Core.Path.{_≡_, refl, sym, ap, _∙_, subst}
 use mathlib.Core.Bool.{Bool, true, false}
 use mathlib.Core.List.{List, [], _∷_, _++_, map}
 use mathlib.Core.Logic.{_⊎_, inl, inr}
-use native.Mathlib.Nat.{mul-le-mul-left, le-div-iff-mul-le, div-mul-le-self, div-le-self}
+use native.Mathlib.Nat.{mul-le-mul-left}
 use native.Mathlib.Omega.{arith}
 use lib.ListN.{length, getD, replicate, length-append, length-replicate}
 use lib.IntN.{ℤ, pos, _+ℤ_, +ℤ-idl}
@@ -24,10 +24,9 @@ use Rattle.kernels.proofs.Sizes.{replicate-either}
 use Rattle.kernels.proofs.Standing.{represents-acc}
 use Rattle.kernels.proofs.Lanewise.{turns, depth, lanes-widen}
 use Rattle.kernels.proofs.Blocking.{Value, rates-good, represent-start, contiguous-is}
-use Rattle.vectors.specs.InnerWaiting.{one, padded, startWaiting, waitStep, leastOf, shortDepth, notBelow, notPast, chained}
-use Rattle.vectors.specs.declared.piece.Short.{Short}
-use Rattle.vectors.specs.InnerShort.{waitingProduct, ShortProduct}
-use Rattle.laws.proofs.Tests.{and-both}
+use Rattle.vectors.specs.InnerWaiting.{one, padded, startWaiting, waitStep, leastOf, notBelow, notPast, chained}
+use Rattle.vectors.specs.declared.vector.Waiting.{Waiting}
+use Rattle.vectors.specs.InnerShort.{ShortLeast}
 use Rattle.vectors.proofs.Waits.{Waits, waits-more, waits-split}
 use Rattle.vectors.proofs.Waiting.{LostLane, Out, past-lost}
 use Rattle.vectors.proofs.Chaining.{times-in, chain-waits, chain-lost}
@@ -121,49 +120,19 @@ module _ (signs : Bool) (k n : ℕ) (few : k ≤ 510) (room : 8 * (suc k * n) �
           (lanes-widen Waits waits-more (depth (suc k) (0 + length (padded xs))) (λ (j : ℕ). suc k * n) (λ j i. shallow j) q))
 
 -- ---- by the number of values
-module _ (signs : Bool) (xs : List Float) (v : Each Value xs) (some : 1 ≤ length xs) (most : length xs ≤ 480) where
-  n : ℕ
-  n = (length xs + 7) / 8
-
-  n-some : 1 ≤ n
-  unfolding n
-  n-some = omega arith
-
-  n-most : n ≤ 60
-  unfolding n
-  n-most = omega arith
-
-  -- some depth, which all vectors have room for
-  deep : 1 ≤ shortDepth (length xs)
-  unfolding n
-  deep = le-div-iff-mul-le n-some .1 (omega (arith, n-most))
-
-  room : shortDepth (length xs) * n ≤ 120
-  unfolding n
-  room = div-mul-le-self 120 n
-
-  pub short-by : (d : ℕ) → d ≡ shortDepth (length xs)
-      → every (notBelow (leastOf signs d)) (feed (waitStep signs) 0 (startWaiting (replicate 8 one)) (padded xs) .least) ≡ true
-      → notPast (chained (feed (waitStep signs) 0 (startWaiting (replicate 8 one)) (padded xs) .m)) ≡ true
-      → let q = split (chained (feed (waitStep signs) 0 (startWaiting (replicate 8 one)) (padded xs) .m)) in
-      _≡_ {A = StableProductFloatAcc} (record { m = q .m; e = q .e; bad = false }) (contiguous xs)
-  unfolding n
-  short-by zero e b p = absurd (let h = deep in omega (arith, e))
-  short-by (suc k) e b p =
-      short-contiguous signs k n (few (subst (λ (d : ℕ). d ≤ 120) (sym e) (div-le-self 120 ((length xs + 7) / 8)))) (eight (suc k * n) (subst (λ (d : ℕ). d * n ≤ 120) (sym e) room)) xs v
-      (omega arith) b p
+module _ (signs : Bool) (xs : List Float) (v : Each Value xs) (least : Float) (L : ShortLeast signs (length xs) least) (w : Waiting)
+    (waited : w ≡ feed (waitStep signs) 0 (startWaiting (replicate 8 one)) (padded xs)) where
+  by-depth : (d : ℕ) → 1 ≤ d → d ≤ 120 → d * ((length xs + 7) / 8) ≤ 120 → every (notBelow (leastOf signs d)) (w .least) ≡ true → notPast (chained (w .m)) ≡ true
+      → let q = split (chained (w .m)) in _≡_ {A = StableProductFloatAcc} (record { m = q .m; e = q .e; bad = false }) (contiguous xs)
+  by-depth zero some few room b p = absurd (omega arith)
+  by-depth (suc k) some few room b p =
+      ap (λ (u : Waiting). let q = split (chained (u .m)) in record { m = q .m; e = q .e; bad = false }) waited
+      ∙ short-contiguous signs k ((length xs + 7) / 8) (omega arith) (eight (suc k * ((length xs + 7) / 8)) room) xs v (omega arith)
+      (ap (λ (u : Waiting). every (notBelow (leastOf signs (suc k))) (u .least)) (sym waited) ∙ b) (ap (λ (u : Waiting). notPast (chained (u .m))) (sym waited) ∙ p)
     where
-      few : suc k ≤ 120 → k ≤ 510
-      few h = omega arith
-
       eight : (m : ℕ) → m ≤ 120 → 8 * m ≤ 1022
       eight m h = omega arith
 
-  pub short-product : (r : Short) (least : Float) → least ≡ leastOf signs (shortDepth (length xs))
-      → r ≡ waitingProduct (feed (waitStep signs) 0 (startWaiting (replicate 8 one)) (padded xs)) least → r .ok ≡ true → ShortProduct xs r
-  unfolding waitingProduct
-  short-product r least l e ok =
-      let w = feed (waitStep signs) 0 (startWaiting (replicate 8 one)) (padded xs) in
-      let t = and-both (every (notBelow least) (w .least)) (notPast (chained (w .m))) (ap (λ (q : Short). q .ok) (sym e) ∙ ok) in
-      ap (λ (q : Short). record { m = q .m; e = q .e; bad = false }) e
-      ∙ short-by (shortDepth (length xs)) refl (ap (λ (z : Float). every (notBelow z) (w .least)) (sym l) ∙ t .0) (t .1)
+  pub short-product : every (notBelow least) (w .least) ≡ true → notPast (chained (w .m)) ≡ true
+      → let q = split (chained (w .m)) in _≡_ {A = StableProductFloatAcc} (record { m = q .m; e = q .e; bad = false }) (contiguous xs)
+  short-product b p = by-depth (L .depth) (L .some) (L .few) (L .room) (ap (λ (z : Float). every (notBelow z) (w .least)) (sym (L .is)) ∙ b) p

@@ -1,14 +1,13 @@
 -- Vectors of eight values, one after another: a step that goes by the number mod 8 may begin anew with each vector. Assumes nothing.
 use Prim.Native.Nat.{ℕ, suc, _+_, _-_, _*_, _/_, _%_, _^_, _≤_, _<_, min, zero-le}
 use mathlib.Core.Path.{_≡_, refl, sym, ap, _∙_, subst}
-use mathlib.Core.Bool.{Bool, true, false}
+use mathlib.Core.Bool.{Bool}
 use mathlib.Core.List.{List, [], _∷_, _++_, append-nil, append-assoc}
-use native.Mathlib.Nat.{le-trans, le-of-lt, add-le-add}
+use native.Mathlib.Nat.{le-trans, add-le-add}
 use native.Mathlib.Omega.{arith}
 use lib.ListN.{length, getD, set, replicate, length-set, length-replicate}
 use lib.IntN.{ℤ, pos, natAbs, _+ℤ_, _*ℤ_}
-use lib.Dec.{ltb, lit≤}
-use borrow.Author.Tests.{ltb-true, ltb-false}
+use lib.Dec.{lit≤}
 use lib.Ieee.{Float, nan}
 use mir.Val.{SFits, toZ, ofZ}
 use mir.ValLaws.{toZ-ofZ}
@@ -153,39 +152,6 @@ module _ (xs : List Float) (s d : ℤ) (n i : ℕ) (left : 8 * i < n) where
     where
       not-whole : 0 < n % 8 → n % 8 ≡ 0 → ⊥
       not-whole a z = omega arith
-
--- ---- lanes that wait for i vectors of a piece of n values, the last with 1.0 after its values
-pub record Waited (signs : Bool) (w : Waiting) (xs : List Float) (s d : ℤ) (n i : ℕ) (t : Waiting) : Type 0 where
-  pub whole : 8 * i ≤ n → t ≡ feed (waitStep signs) 0 w (strided xs s d (8 * i))
-  pub last : n < 8 * i → t ≡ feed (waitStep signs) 0 w (padded (strided xs s d n))
-
-module _ (signs : Bool) (w : Waiting) (xs : List Float) (s d : ℤ) (n : ℕ) where
-  pub waited-none : Waited signs w xs s d n 0 w
-  unfolding feed strided
-  waited-none = record { whole = λ h. refl; last = λ h. absurd (omega arith) }
-
-  pub waited-next : (i : ℕ) (t u : Waiting) → 8 * i < n → Waited signs w xs s d n i t
-      → u ≡ feed (waitStep signs) 0 t (vectorOf (strided xs (s +ℤ d *ℤ pos (8 * i)) d (min 8 (n - 8 * i)))) → Waited signs w xs s d n (suc i) u
-  waited-next i t u left W e = record { whole = λ h. on ∙ ap (feed (waitStep signs) 0 w) (next-whole xs s d n i left h); last = λ h. on ∙ ap (feed (waitStep signs) 0 w) (next-last xs s d n i left h) }
-    where
-      on : u ≡ feed (waitStep signs) 0 w (after-next xs s d n i left)
-      on =
-          vectors-then (waitStep signs) (wait-again signs) w t u (strided xs s d (8 * i)) (vectorOf (strided xs (s +ℤ d *ℤ pos (8 * i)) d (min 8 (n - 8 * i)))) i
-          (length-strided xs s d (8 * i)) (W .whole (le-of-lt left)) e
-
-  pub waited-all : (i : ℕ) (t : Waiting) → Waited signs w xs s d n i t → n ≤ 8 * i → 8 * i < n + 8 → t ≡ feed (waitStep signs) 0 w (padded (strided xs s d n))
-  waited-all i t W up down = go (ltb n (8 * i)) refl
-    where
-      go : (b : Bool) → ltb n (8 * i) ≡ b → t ≡ feed (waitStep signs) 0 w (padded (strided xs s d n))
-      go true q = W .last (ltb-true n (8 * i) q)
-      go false q =
-          let l = ltb-false n (8 * i) q in
-          W .whole l
-          ∙ ap (λ (k : ℕ). feed (waitStep signs) 0 w (strided xs s d (8 * k))) (let e : i ≡ n / 8 = omega arith in e)
-          ∙ ap (feed (waitStep signs) 0 w) (vectors-padded xs s d n (let z : n ≡ 8 * i = omega arith in whole-count i z))
-        where
-          whole-count : (i : ℕ) → n ≡ 8 * i → n % 8 ≡ 0
-          whole-count i z = omega arith
 
 -- ---- the lanes' exponents, added
 -- lane k's exponent added

@@ -1,5 +1,5 @@
 -- Inner: lanes that wait: values are multiplied in unsplit, eight at a time, and a test at the end says whether the lanes are what split values give.
-use Prim.Native.Nat.{ℕ, zero, suc, _+_, _-_, _/_, _%_}
+use Prim.Native.Nat.{ℕ, zero, suc, _+_, _-_, _%_}
 use mathlib.Core.Bool.{Bool, true, false, not, cond, _&&_}
 use mathlib.Core.List.{List, _++_}
 use lib.ListN.{length, getD, set, replicate}
@@ -48,10 +48,6 @@ leastOf signs (suc k) = fin false 1 (negsuc (cond signs (k + k) k))
 
 abbrev pub notBelow : Float → Float → Bool
 notBelow least y = le least y
-
--- how deep a short piece of n values may lie: eight lanes of its values, multiplied, stay above 2^-960
-abbrev pub shortDepth : ℕ → ℕ
-shortDepth n = 120 / ((n + 7) / 8)
 
 -- not infinite, not a NaN: no more than 2^1000 either way
 abbrev pub MOST : Float

@@ -1,21 +1,20 @@
 // A piece, worked in one of the two ways. Both come from the same lanes.
 ghost use mathlib.Core.Path.{_≡_};
 ghost use mathlib.Core.Bool.{true, false};
-ghost use Prim.Native.Nat.{_^_, _≤_};
+ghost use Prim.Native.Nat.{_+_, _*_, _/_, _^_, _≤_};
 ghost use lib.ListN.{length, replicate};
+ghost use lib.IntN.{pos};
 ghost use Rattle.kernels.specs.Lanes.{feed};
 ghost use Rattle.kernels.specs.InnerStrided.{strided, PlacesInside};
 ghost use Rattle.kernels.specs.Blocks.{contiguous};
 ghost use Rattle.kernels.specs.Stepped.{stepped};
-ghost use Rattle.vectors.specs.InnerWaiting.{one, waitStep, padded, startWaiting, leastOf, shortDepth};
-ghost use Rattle.vectors.specs.InnerShort.{waitingProduct, ShortProduct};
+ghost use Rattle.vectors.specs.InnerWaiting.{one, waitStep, padded, startWaiting};
+ghost use Rattle.vectors.specs.InnerShort.{ShortLeast, ShortProduct};
 use crate::vector::Vector;
 use crate::vector::Waiting;
 use accumulator::StableProductFloatAcc;
 
 const LANES: usize = StableProductFloatAcc::LANES;
-
-const BLOCK: usize = StableProductFloatAcc::BLOCK;
 
 // Pieces of at most so many values are tried without bringing lanes back.
 const MOST_SHORT: usize = 480;
@@ -27,22 +26,63 @@ pub struct Short {
     pub e: i64,
 }
 
-// What the measures of a short piece are held to: the fewer values, the lower they may lie.
-pub fn short_least(len: usize, signs: bool) -> f64
-    requires { ⌜ 1 ≤ len ⌝ }
-    ensures { λ r. ⌜ (len ≤ 480 → r ≡ leastOf signs (shortDepth len)) ⌝ }
+// How deep the values of a short piece may lie: the fewer, the deeper.
+fn short_depth(len: usize) -> usize
+    ensures { λ r. ⌜ (1 ≤ r) × (r ≤ 120) × (len ≤ 480 → r * ((len + 7) / 8) ≤ 120) ⌝ }
 {
-    if MOST_SHORT < len {
-        return 1.0;
+    if len <= 8 {
+        return 120;
     }
-    crate::vector::least_of(signs, 120 / ((len + 7) / LANES))
+    if len <= 16 {
+        return 60;
+    }
+    if len <= 32 {
+        return 30;
+    }
+    if len <= 64 {
+        return 15;
+    }
+    if len <= 128 {
+        return 7;
+    }
+    2
 }
 
-// The product of lanes that wait and need not be brought back: multiplied, they stay normal, or the product is infinite or a NaN.
-fn waiting_product(w: Waiting, least: f64) -> Short
-    requires { ⌜ (length (w .m) ≡ 8) × (length (w .least) ≡ 8) ⌝ }
-    ensures { λ r. ⌜ r ≡ waitingProduct w least ⌝ }
+// What the measures of a short piece are held to.
+pub fn short_least(len: usize, signs: bool) -> f64
+    ensures { λ r. ⌜ (len ≤ 480 → ShortLeast signs len r) ⌝ }
 {
+    crate::vector::least_of(signs, short_depth(len))
+}
+
+// A piece of at most 64 values side by side, in lanes that wait by their values: a loop of its own, so that it can stand inside that of a strip.
+fn short_lanes(values: &[f64], start: i64, len: usize) -> Waiting
+    requires { ⌜ (1 ≤ len) × (len ≤ 64) × PlacesInside (length (now values)) start (pos 1) len ⌝ }
+    ensures { λ r. ⌜ r ≡ feed (waitStep false) 0 (startWaiting (replicate 8 one)) (padded (strided (now (values .entry)) start (pos 1) len)) ⌝ }
+{
+    let vectors = len / LANES;
+    let at = start as usize;
+    let mut t = crate::feeding::start_waiting(kernels::lanes::start_lanes());
+    let mut i: usize = 0;
+    while i < vectors {
+        let vector = crate::vector::vector_at(values, at + i * LANES);
+        t = crate::vector::wait_vector(t, vector, false);
+        i += 1;
+    }
+    if len % LANES == 0 {
+        return t;
+    }
+    let behind = crate::vector::place(start, 1, LANES * vectors);
+    let rest = crate::vector::vector_of(values, behind, 1, len % LANES);
+    crate::vector::wait_vector(t, rest, false)
+}
+
+// The product of such a piece. The lanes need not be brought back: multiplied, they stay normal, or the product is infinite or a NaN.
+pub fn short_piece(values: &[f64], start: i64, len: usize, least: f64) -> Short
+    requires { ⌜ (1 ≤ len) × (len ≤ 64) × PlacesInside (length (now values)) start (pos 1) len × ShortLeast false len least ⌝ }
+    ensures { λ r. ⌜ (r .ok ≡ true → ShortProduct (strided (now (values .entry)) start (pos 1) len) r) ⌝ }
+{
+    let w = short_lanes(values, start, len);
     let v = w.m;
     let p = crate::vector::chain(Vector { v });
     let q = floats::split_f64(p);
@@ -50,50 +90,7 @@ fn waiting_product(w: Waiting, least: f64) -> Short
     Short { ok, m: q.m, e: q.e }
 }
 
-// A piece of at most 64 values in lanes that wait: a loop of its own, short enough to stand inside that of a strip.
-fn short_lanes(values: &[f64], start: i64, stride: i64, len: usize, signs: bool) -> Waiting
-    requires { ⌜ (len ≤ 64) × PlacesInside (length (now values)) start stride len ⌝ }
-    ensures { λ r. ⌜ r ≡ feed (waitStep signs) 0 (startWaiting (replicate 8 one)) (padded (strided (now (values .entry)) start stride len)) ⌝ }
-{
-    let vectors = (len + 7) / LANES;
-    let mut t = crate::feeding::start_waiting(kernels::lanes::start_lanes());
-    let mut at = start;
-    let mut i: usize = 0;
-    while i < vectors {
-        let vector = crate::vector::some_vector(values, at, stride, len - LANES * i);
-        t = crate::vector::wait_vector(t, vector, signs);
-        i += 1;
-        if i < vectors {
-            at += stride * 8;
-        }
-    }
-    t
-}
-
-// A piece of at most 64 values, tried in one of the two ways.
-pub fn short_piece(
-    values: &[f64],
-    start: i64,
-    stride: i64,
-    len: usize,
-    signs: bool,
-    least: f64,
-) -> Short
-    requires { ⌜ (1 ≤ len) × PlacesInside (length (now values)) start stride len × (len ≤ 480 → least ≡ leastOf signs (shortDepth len)) ⌝ }
-    ensures { λ r. ⌜ (r .ok ≡ true → ShortProduct (strided (now (values .entry)) start stride len) r) ⌝ }
-{
-    if BLOCK < len {
-        return Short {
-            ok: false,
-            m: 1.0,
-            e: 0,
-        };
-    }
-    let w = short_lanes(values, start, stride, len, signs);
-    waiting_product(w, least)
-}
-
-// A piece of at most 480 values, tried by squares.
+// A piece of at most 480 values at any stride, tried by squares, likewise.
 fn middle_piece(values: &[f64], start: i64, stride: i64, len: usize) -> Short
     requires { ⌜ (1 ≤ len) × PlacesInside (length (now values)) start stride len ⌝ }
     ensures { λ r. ⌜ (r .ok ≡ true → ShortProduct (strided (now (values .entry)) start stride len) r) ⌝ }
@@ -107,7 +104,12 @@ fn middle_piece(values: &[f64], start: i64, stride: i64, len: usize) -> Short
     }
     let t = crate::feeding::start_waiting(kernels::lanes::start_lanes());
     let w = crate::feeding::wait_values(t, values, start, stride, len, true);
-    waiting_product(w, short_least(len, true))
+    let least = short_least(len, true);
+    let v = w.m;
+    let p = crate::vector::chain(Vector { v });
+    let q = floats::split_f64(p);
+    let ok = crate::vector::none_below(w, least) & crate::vector::not_past(p);
+    Short { ok, m: q.m, e: q.e }
 }
 
 // A piece at any stride, as blocks of 64 have it.

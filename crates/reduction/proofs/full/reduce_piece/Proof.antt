@@ -16,6 +16,7 @@ use Rattle.kernels.specs.Blocks.{contiguous}
 use Rattle.kernels.specs.Pieces.{worked}
 use Rattle.kernels.proofs.Striding.{first-natural, strided-window, at-first, at-last}
 use borrow.Author.Needs.{needs}
+use Rattle.reduction.proofs.Pieces.{handed}
 use Rattle.reduction.proofs.full.reduce_piece.Statement.{statement}
 use Rattle.reduction.proofs.full.reduce_piece.Tie as tie
 use Rattle.reduction.proofs.full.reduce_piece.Reads as reads
@@ -64,10 +65,12 @@ stable-float-contiguous-requires c κs = search needs
 returns : tie.Need-returns
 unfolding eqZ
 returns c =
-    let t = c .before .before in
+    let r = c .before in
+    let t = r .before .before in
     let s = t .before .before in
     let at = natAbs (toZ w64 (ofZ w64 (s .args .first))) in
-    c .stable-float-contiguous .ensures
+    handed (r .stable-float-contiguous .result) (record { sfits = c .struct-told .given .1 .0 .1 })
+    ∙ r .stable-float-contiguous .ensures
     ∙ ap (λ (n : ℕ). contiguous (take n (drop at (s .args .values .now)))) (count at (s .args .len))
     ∙ ap contiguous (strided-window (s .args .values .now) at (s .args .len) (ends t))
     ∙ ap (λ (z : ℤ). contiguous (strided (s .args .values .now) z (pos 1) (s .args .len)))
@@ -82,10 +85,12 @@ lanes-strided-requires c κs = search needs
 
 returns-2 : tie.Need-returns-2
 returns-2 c =
-    let s = c .before .before .before in
-    simp (toZ-ofZ (s .fits .first), toZ-ofZ (s .fits .stride)) at (c .lanes-strided .ensures)
+    let r = c .before in
+    let s = r .before .before .before in
+    handed (r .lanes-strided .result) (record { sfits = c .struct-told2 .given .1 .0 .1 })
+    ∙ simp (toZ-ofZ (s .fits .first), toZ-ofZ (s .fits .stride)) at (r .lanes-strided .ensures)
     ∙ ap (λ (b : Bool). worked b (strided (s .args .values .now) (s .args .first) (s .args .stride) (s .args .len)))
-    (sym (ne-eqZ _ _ (λ q. c .before .if1 .left (ap (ofZ w64) q))))
+    (sym (ne-eqZ _ _ (λ q. r .before .if1 .left (ap (ofZ w64) q))))
 
 pub reduce-piece-spec : {M : Type 1} → statement M
 reduce-piece-spec =

@@ -1,22 +1,27 @@
 -- `vectors::piece::middle_piece` meets its contract. Assumes nothing.
-use Prim.Native.Nat.{ℕ, _≤_, _<_}
-use mathlib.Core.Path.{_≡_, refl, sym, ap, _∙_, subst}
-use mathlib.Core.Bool.{true, true≢false}
+use Prim.Native.Nat.{ℕ, _≤_}
+use mathlib.Core.Path.{_≡_, sym, ap, _∙_, subst}
+use mathlib.Core.Bool.{true, false, true≢false}
+use mathlib.Core.List.{List}
 use native.Mathlib.Nat.{le-trans}
-use native.Mathlib.Omega.{arith}
-use lib.ListN.{length, replicate}
 use lib.Dec.{lit≤}
+use lib.ListN.{length, replicate}
+use lib.IntN.{ℤ}
 use lib.Ieee.{Float}
+use mir.Val.{SFits}
 use mir.ValLaws.{toZ-ofZ}
 use mir.Syntax.{w64}
 use borrow.Author.Needs.{needs}
+use Rattle.laws.proofs.Tests.{and-both}
+use Rattle.floats.specs.declared.Split.{Split}
+use Rattle.floats.specs.Splitting.{split}
 use Rattle.kernels.specs.declared.lanes.Lanes.{Lanes}
 use Rattle.kernels.specs.Lanes.{feed}
 use Rattle.kernels.specs.InnerStrided.{strided}
 use Rattle.kernels.proofs.Striding.{length-strided, strided-values}
 use Rattle.vectors.specs.declared.vector.Waiting.{Waiting}
-use Rattle.vectors.specs.InnerWaiting.{one, padded, waitStep, startWaiting, leastOf, shortDepth}
-use Rattle.vectors.specs.InnerShort.{waitingProduct}
+use Rattle.vectors.specs.InnerWaiting.{one, padded, waitStep, startWaiting, notPast}
+use Rattle.vectors.specs.InnerShort.{ShortLeast}
 use Rattle.vectors.proofs.Vectors.{wait-m-long, wait-least-long}
 use Rattle.vectors.proofs.Shorts.{short-product}
 use Rattle.vectors.proofs.piece.middle_piece.Statement.{statement}
@@ -42,40 +47,51 @@ wait-values-requires c κs =
     simp (toZ-ofZ w64 (s .args .start) (s .fits .start), toZ-ofZ w64 (s .args .stride) (s .fits .stride))
     (ap (λ (w : Waiting). length (w .m)) (begun c), ap (λ (w : Waiting). length (w .least)) (begun c), le-trans (e .if1 .left) (lit≤ tt), s .pre .1)
 
--- the lanes of the piece
+-- the entry, and the values of the piece
 abbrev entry : tie.After-wait-values → tie.Start
 entry c = c .before .before .before .before .before
 
-waited : (c : tie.After-wait-values)
-    → let s = entry c in
-    c .wait-values .result
-    ≡ feed (waitStep true) 0 (startWaiting (replicate 8 one)) (padded (strided (s .args .values .now) (s .args .start) (s .args .stride) (s .args .len)))
+abbrev piece : tie.Start → List Float
+piece s = strided (s .args .values .now) (s .args .start) (s .args .stride) (s .args .len)
+
+-- the lanes of the piece
+waited : (c : tie.After-wait-values) → c .wait-values .result ≡ feed (waitStep true) 0 (startWaiting (replicate 8 one)) (padded (piece (entry c)))
 waited c =
     let s = entry c in
     simp (toZ-ofZ w64 (s .args .start) (s .fits .start), toZ-ofZ w64 (s .args .stride) (s .fits .stride)) at (c .wait-values .ensures)
-    ∙ ap (λ (w : Waiting). feed (waitStep true) 0 w (padded (strided (s .args .values .now) (s .args .start) (s .args .stride) (s .args .len)))) (begun (c .before))
+    ∙ ap (λ (w : Waiting). feed (waitStep true) 0 w (padded (piece s))) (begun (c .before))
 
 short-least-requires : tie.Need-short-least-requires
-short-least-requires c κs = entry c .pre .0
+short-least-requires c κs = search needs
 
-waiting-product-requires : tie.Need-waiting-product-requires
-waiting-product-requires c κs = (
-  ap (λ (w : Waiting). length (w .m)) (waited (c .before)) ∙ wait-m-long _ 0 (startWaiting (replicate 8 one)) _,
-  ap (λ (w : Waiting). length (w .least)) (waited (c .before)) ∙ wait-least-long _ 0 (startWaiting (replicate 8 one)) _,
-)
+chain-requires : tie.Need-chain-requires
+chain-requires c κs = ap (λ (w : Waiting). length (w .m)) (waited (c .before .before)) ∙ wait-m-long _ 0 (startWaiting (replicate 8 one)) _
+
+split-f64-requires : tie.Need-split-f64-requires
+split-f64-requires c κs = search needs
+
+none-below-requires : tie.Need-none-below-requires
+none-below-requires c κs =
+    ap (λ (w : Waiting). length (w .least)) (waited (c .before .before .before .before)) ∙ wait-least-long _ 0 (startWaiting (replicate 8 one)) _
+
+not-past-requires : tie.Need-not-past-requires
+not-past-requires c κs = search needs
 
 returns-2 : tie.Need-returns-2
 returns-2 c ok =
-    let h = c .before in
-    let w = h .before in
-    let e = w .before .before .before in
+    let p = c .before in
+    let b = p .before in
+    let f = b .before in
+    let h = f .before in
+    let w = h .before .before .before in
     let s = entry w in
-    let xs = strided (s .args .values .now) (s .args .start) (s .args .stride) (s .args .len) in
-    let l = length-strided (s .args .values .now) (s .args .start) (s .args .stride) (s .args .len) in
-    short-product true xs (strided-values (s .args .values .now) (e .before .shared-slice-known .given) (s .args .start) (s .args .stride) (s .args .len))
-    (subst (λ (n : ℕ). 1 ≤ n) (sym l) (s .pre .0)) (subst (λ (n : ℕ). n ≤ 480) (sym l) (e .if1 .left)) (c .waiting-product .result) (h .short-least .result)
-    (h .short-least .ensures (e .if1 .left) ∙ ap (λ (n : ℕ). leastOf true (shortDepth n)) (sym l))
-    (c .waiting-product .ensures ∙ ap (λ (u : Waiting). waitingProduct u (h .short-least .result)) (waited w)) ok
+    let t = and-both (b .none-below .result) (p .not-past .result) ok in
+    let fits : SFits w64 (f .split-f64 .result .e) = record { sfits = c .struct-told .given .1 .0 .1 } in
+    ap (λ (z : ℤ). record { m = f .split-f64 .result .m; e = z; bad = false }) (toZ-ofZ w64 (f .split-f64 .result .e) fits)
+    ∙ ap (λ (z : Split). record { m = z .m; e = z .e; bad = false }) (f .split-f64 .ensures ∙ ap split (h .chain .ensures))
+    ∙ short-product true (piece s) (strided-values (s .args .values .now) (w .before .before .before .before .shared-slice-known .given) (s .args .start) (s .args .stride) (s .args .len)) (h .before .before .short-least .result)
+    (subst (λ (n : ℕ). ShortLeast true n (h .before .before .short-least .result)) (sym (length-strided (s .args .values .now) (s .args .start) (s .args .stride) (s .args .len))) (h .before .before .short-least .ensures (w .before .before .before .if1 .left)))
+    (w .wait-values .result) (waited w) (sym (b .none-below .ensures) ∙ t .0) (ap notPast (sym (h .chain .ensures)) ∙ sym (p .not-past .ensures) ∙ t .1)
 
 pub middle-piece-spec : {M : Type 1} → statement M
 middle-piece-spec =
@@ -86,5 +102,8 @@ middle-piece-spec =
     start-waiting-requires
     wait-values-requires
     short-least-requires
-    waiting-product-requires
+    chain-requires
+    split-f64-requires
+    none-below-requires
+    not-past-requires
     returns-2)

@@ -1,23 +1,26 @@
--- `vectors::piece::short_lanes` meets its contract. The loop's invariant: i vectors are in the lanes (`Waited`). Assumes nothing.
-use Prim.Native.Nat.{ℕ, _+_, _-_, _*_, _≤_, _<_, min}
-use mathlib.Core.Path.{_≡_, sym, ap, _∙_, subst}
+-- `vectors::piece::short_lanes` meets its contract. The loop's invariant: i vectors are in. Assumes nothing.
+use Prim.Native.Nat.{ℕ, _+_, _-_, _*_, _/_, _%_, _^_, _≤_, _<_}
+use mathlib.Core.Path.{_≡_, refl, sym, ap, _∙_, subst}
+use mathlib.Core.Bool.{false}
+use mathlib.Core.List.{List}
 use native.Mathlib.Omega.{arith}
-use native.Mathlib.Numerals.{add-one}
 use lib.ListN.{length, replicate}
-use lib.IntN.{ℤ, pos, _+ℤ_, _*ℤ_}
-use mir.Val.{toZ, ofZ, SFits}
-use mir.ValLaws.{toZ-ofZ}
+use lib.IntN.{ℤ, pos, natAbs, _+ℤ_, _*ℤ_}
+use lib.Ieee.{Float}
+use mir.Val.{SFits, toZ, ofZ}
 use mir.Syntax.{w64}
+use mir.ValLaws.{toZ-ofZ}
 use borrow.Author.Needs.{needs}
+use Rattle.integers.proofs.Difference.{ints, atoms}
 use Rattle.kernels.specs.declared.lanes.Lanes.{Lanes}
 use Rattle.kernels.specs.Lanes.{feed}
 use Rattle.kernels.specs.InnerStrided.{strided, PlacesInside}
-use Rattle.integers.proofs.Places.{place-first}
-use Rattle.kernels.proofs.Striding.{inside-part}
+use Rattle.kernels.proofs.Striding.{Beside, beside, at-first, length-strided, strided-window, inside-part}
+use Rattle.kernels.proofs.Windows.{window-length}
 use Rattle.vectors.specs.declared.vector.Waiting.{Waiting}
 use Rattle.vectors.specs.InnerWaiting.{one, vectorOf, padded, waitStep, startWaiting}
 use Rattle.vectors.proofs.Vectorwise.{place-fits, step-fits}
-use Rattle.vectors.proofs.Vectors.{vector-long, place-on, wait-m-long, wait-least-long, Waited, waited-none, waited-next, waited-all}
+use Rattle.vectors.proofs.Vectors.{vector-long, vectors-then, vectors-more, wait-again, wait-m-long, wait-least-long, vectors-padded, rest-padded}
 use Rattle.vectors.proofs.piece.short_lanes.Statement.{statement}
 use Rattle.vectors.proofs.piece.short_lanes.Tie as tie
 
@@ -25,18 +28,32 @@ abbrev begun : Waiting
 begun = startWaiting (replicate 8 one)
 
 abbrev Inv-loop : tie.InvT-loop
-Inv-loop values start stride len signs vectors t₀ at₀ i₀ t at i =
-    (i ≤ vectors)
-    × Waited signs begun values (toZ w64 start) (toZ w64 stride) len i t
-    × (length (t .m) ≡ 8)
-    × (length (t .least) ≡ 8)
-    × (i < vectors → toZ w64 at ≡ toZ w64 start +ℤ toZ w64 stride *ℤ pos (8 * i))
+Inv-loop values start len vectors at t₀ i₀ t i = (i ≤ vectors) × (t ≡ feed (waitStep false) 0 begun (strided values (toZ w64 start) (pos 1) (8 * i)))
 
 abbrev μ-loop : tie.MeasureT-loop
-μ-loop values start stride len signs vectors t₀ at₀ i₀ t at i = vectors - i
+μ-loop values start len vectors at t₀ i₀ t i = vectors - i
 
-add-vectors : tie.Need-add-vectors Inv-loop μ-loop
-add-vectors c = let h = c .before .pre .0 in omega arith
+-- side by side, of the numbers as the code holds them
+abbrev first : tie.Start Inv-loop μ-loop → ℤ
+first s = toZ w64 (ofZ w64 (s .args .start))
+
+abbrev from : tie.Start Inv-loop μ-loop → ℕ
+from s = natAbs (toZ w64 (ofZ w64 (s .args .start)))
+
+exact : (s : tie.Start Inv-loop μ-loop) → first s ≡ s .args .start
+exact s = toZ-ofZ w64 (s .args .start) (s .fits .start)
+
+inside : (s : tie.Start Inv-loop μ-loop) → PlacesInside (length (s .args .values .now)) (first s) (pos 1) (s .args .len)
+inside s = subst (λ (z : ℤ). PlacesInside (length (s .args .values .now)) z (pos 1) (s .args .len)) (sym (exact s)) (s .pre .2)
+
+side : (s : tie.Start Inv-loop μ-loop) → Beside (s .args .values .now) (s .args .start) (pos 1) (s .args .len)
+side s = beside (s .args .values .now) (s .args .start) (pos 1) (s .args .len) (s .fits .start) refl (s .pre .2) (s .pre .0)
+
+first-is : (s : tie.Start Inv-loop μ-loop) → first s ≡ pos (from s)
+first-is s = at-first (length (s .args .values .now)) (from s) (first s) (s .args .len) (inside s) (s .pre .0) refl
+
+cast-at : tie.Need-cast-at Inv-loop μ-loop
+cast-at c = let s = c .before in (side s .natural, omega (arith, side s .ends, s .good .0 .1))
 
 start-lanes-requires : tie.Need-start-lanes-requires Inv-loop μ-loop
 start-lanes-requires c κs = search needs
@@ -45,134 +62,144 @@ start-waiting-requires : tie.Need-start-waiting-requires Inv-loop μ-loop
 start-waiting-requires c κs = search needs
 
 loop-holds : tie.Need-loop-holds Inv-loop μ-loop
-loop-holds c =
-    let s = c .before .before .before in
-    let e : c .start-waiting .result ≡ begun = c .start-waiting .ensures ∙ ap (λ (s : Lanes). startWaiting (s .m)) (c .before .start-lanes .ensures) in (
-      omega arith,
-      subst (Waited (s .args .signs) begun (s .args .values .now) _ _ (s .args .len) 0) (sym e) (waited-none (s .args .signs) begun (s .args .values .now) _ _ (s .args .len)),
-      ap (λ (w : Waiting). length (w .m)) e,
-      ap (λ (w : Waiting). length (w .least)) e,
-      λ h. place-first (toZ w64 (ofZ w64 (s .args .start))) (toZ w64 (ofZ w64 (s .args .stride))),
-    )
+unfolding feed strided
+loop-holds c = (omega arith, c .start-waiting .ensures ∙ ap (λ (s : Lanes). startWaiting (s .m)) (c .before .start-lanes .ensures))
 
--- a turn of the loop, as it is entered: the entry, and its numbers as the code holds them
+-- a turn of the loop: the entry
 abbrev entry : tie.At-loop Inv-loop μ-loop → tie.Start Inv-loop μ-loop
 entry t = t .before .before .before .before
 
-abbrev size : tie.At-loop Inv-loop μ-loop → ℕ
-size t = length (entry t .args .values .now)
-
-abbrev first : tie.At-loop Inv-loop μ-loop → ℤ
-first t = toZ w64 (ofZ w64 (entry t .args .start))
-
-abbrev apart : tie.At-loop Inv-loop μ-loop → ℤ
-apart t = toZ w64 (ofZ w64 (entry t .args .stride))
-
-abbrev turn : tie.Then1 Inv-loop μ-loop → tie.In-loop Inv-loop μ-loop
-turn c = c .before .before .before
-
--- what is required, of the numbers as the code holds them
-inside : (t : tie.At-loop Inv-loop μ-loop) → PlacesInside (size t) (first t) (apart t) (entry t .args .len)
-inside t = let s = entry t in simp (toZ-ofZ w64 (s .args .start) (s .fits .start), toZ-ofZ w64 (s .args .stride) (s .fits .stride)) (s .pre .1)
-
 -- a vector is left
-left : (c : tie.In-loop Inv-loop μ-loop) → 8 * c .before .loop .i < entry (c .before) .args .len
-left c = let h = c .loop-test .taken in omega arith
+left : (c : tie.In-loop Inv-loop μ-loop) → let s = entry (c .before) in from s + (c .before .loop .i * 8 + 8) ≤ length (s .args .values .now)
+left c = let s = entry (c .before) in let l = c .loop-test .taken in omega (arith, side s .ends)
 
-mul-some-vector : tie.Need-mul-some-vector Inv-loop μ-loop
-mul-some-vector c = omega (arith, left c, entry (c .before) .pre .0)
+mul-vector-at : tie.Need-mul-vector-at Inv-loop μ-loop
+mul-vector-at c = omega (arith, left c, entry (c .before) .good .0 .1)
 
-sub-some-vector : tie.Need-sub-some-vector Inv-loop μ-loop
-sub-some-vector c = omega (arith, left c)
+add-vector-at : tie.Need-add-vector-at Inv-loop μ-loop
+add-vector-at c = omega (arith, left c, entry (c .before) .good .0 .1)
 
-some-vector-requires : tie.Need-some-vector-requires Inv-loop μ-loop
-some-vector-requires c κs =
-    let t = c .before in
-    let n = entry t .args .len in
-    let i = t .loop .i in
-    subst (λ (z : ℤ). PlacesInside (size t) z (apart t) (n - 8 * i)) (sym (t .loop .inv .4 (c .loop-test .taken)))
-    (inside-part (size t) (first t) (apart t) n (8 * i) (n - 8 * i) (inside t) (omega (arith, left c)))
+vector-at-requires : tie.Need-vector-at-requires Inv-loop μ-loop
+vector-at-requires c κs = omega (arith, left c)
 
 wait-vector-requires : tie.Need-wait-vector-requires Inv-loop μ-loop
-wait-vector-requires c κs = let t = c .before .before in (t .loop .inv .2, t .loop .inv .3, ap length (c .some-vector .ensures) ∙ vector-long _)
+wait-vector-requires c κs =
+    let q = c .before in
+    let t = q .before in
+    let s = entry t in (
+      ap (λ (w : Waiting). length (w .m)) (t .loop .inv .1) ∙ wait-m-long false 0 begun _,
+      ap (λ (w : Waiting). length (w .least)) (t .loop .inv .1) ∙ wait-least-long false 0 begun _,
+      ap length (c .vector-at .ensures) ∙ window-length (s .args .values .now) (from s + t .loop .i * 8) 8 (omega (arith, left q)),
+    )
 
 add-i : tie.Need-add-i Inv-loop μ-loop
 add-i c = omega arith
 
-mul-at : tie.Need-mul-at Inv-loop μ-loop
-mul-at c =
-    let t = turn c .before in
-    step-fits (size t) (first t) (apart t) (entry t .args .len) (inside t) 8 (omega (arith, left (turn c), c .if1 .taken)) (omega (arith, entry t .good .0 .1))
-
--- the place a vector further
-next : (c : tie.Then1 Inv-loop μ-loop)
-    → let t = turn c .before in toZ w64 (t .loop .at) +ℤ toZ w64 (ofZ w64 (apart t *ℤ pos 8)) ≡ first t +ℤ apart t *ℤ pos (8 * (t .loop .i + 1))
-next c = let t = turn c .before in place-on (first t) (apart t) (toZ w64 (t .loop .at)) (t .loop .i) (mul-at c) (t .loop .inv .4 (turn c .loop-test .taken))
-
-add-at : tie.Need-add-at Inv-loop μ-loop
-add-at c =
-    let t = turn c .before in
-    let l = c .if1 .taken in
-    subst (SFits w64) (sym (next c))
-    (place-fits (size t) (first t) (apart t) (entry t .args .len) (inside t) (8 * (t .loop .i + 1)) (omega arith) (omega (arith, entry t .good .0 .1)))
-
--- the vector is in
-module _ (c : tie.After-wait-vector Inv-loop μ-loop) where
-  q : tie.In-loop Inv-loop μ-loop
-  q = c .before .before
-
-  t : tie.At-loop Inv-loop μ-loop
-  t = q .before
-
-  waited : c .wait-vector .result
-      ≡ feed (waitStep (entry t .args .signs)) 0 (t .loop .t)
-      (vectorOf (strided (entry t .args .values .now) (first t +ℤ apart t *ℤ pos (8 * t .loop .i)) (apart t) (min 8 (entry t .args .len - 8 * t .loop .i))))
-  unfolding t q
-  waited =
-      c .wait-vector .ensures
-      ∙ ap (feed (waitStep (entry t .args .signs)) 0 (t .loop .t))
-      (c .before .some-vector .ensures
-      ∙ ap (λ (z : ℤ). vectorOf (strided (entry t .args .values .now) z (apart t) (min 8 (entry t .args .len - 8 * t .loop .i)))) (t .loop .inv .4 (q .loop-test .taken)))
-
-  more : let t = c .before .before .before in
-      Waited (entry t .args .signs) begun (entry t .args .values .now) (first t) (apart t) (entry t .args .len) (t .loop .i + 1) (c .wait-vector .result)
-  unfolding t q
-  more =
-      subst (λ (m : ℕ). Waited (entry t .args .signs) begun (entry t .args .values .now) (first t) (apart t) (entry t .args .len) m (c .wait-vector .result)) (sym (add-one (t .loop .i)))
-      (waited-next (entry t .args .signs) begun (entry t .args .values .now) (first t) (apart t) (entry t .args .len) (t .loop .i) (t .loop .t) (c .wait-vector .result) (left q) (t .loop .inv .1)
-      waited)
-
-  m-long : length (c .wait-vector .result .m) ≡ 8
-  unfolding t q
-  m-long = ap (λ (w : Waiting). length (w .m)) waited ∙ wait-m-long _ 0 _ _ ∙ t .loop .inv .2
-
-  least-long : length (c .wait-vector .result .least) ≡ 8
-  unfolding t q
-  least-long = ap (λ (w : Waiting). length (w .least)) waited ∙ wait-least-long _ 0 _ _ ∙ t .loop .inv .3
-
 loop-less : tie.Need-loop-less Inv-loop μ-loop
 loop-less c = omega arith
 
+vector-place : (a i : ℕ) → pos (a + i * 8) ≡ pos a +ℤ pos 1 *ℤ pos (8 * i)
+vector-place a i = simp ints (simp atoms (omega arith))
+
 loop-again : tie.Need-loop-again Inv-loop μ-loop
 loop-again c =
-    let u = turn c .before in
-    (omega arith, more (c .before), m-long (c .before), least-long (c .before), λ h. toZ-ofZ w64 (toZ w64 (u .loop .at) +ℤ toZ w64 (ofZ w64 (apart u *ℤ pos 8))) (add-at c) ∙ next c)
+    let q = c .before .before in
+    let t = q .before in
+    let s = entry t in
+    let xs = s .args .values .now in
+    let l = q .loop-test .taken in (
+      omega arith,
+      vectors-more (waitStep false) (wait-again false) begun (t .loop .t) (c .wait-vector .result) xs (first s) (pos 1) (t .loop .i) (t .loop .inv .1)
+          (c .wait-vector .ensures
+          ∙ ap (feed (waitStep false) 0 (t .loop .t))
+          (c .before .vector-at .ensures
+          ∙ strided-window xs (from s + t .loop .i * 8) 8 (omega (arith, left q))
+          ∙ ap (λ (z : ℤ). strided xs z (pos 1) 8)
+          (vector-place (from s) (t .loop .i) ∙ ap (λ (z : ℤ). z +ℤ pos 1 *ℤ pos (8 * t .loop .i)) (sym (first-is s))))),
+    )
 
-loop-less-2 : tie.Need-loop-less-2 Inv-loop μ-loop
-loop-less-2 c = omega arith
+-- ---- behind the loop
+abbrev whole : tie.Start Inv-loop μ-loop → ℕ
+whole s = 8 * (s .args .len / 8)
 
--- the last vector: no further place is formed
-loop-again-2 : tie.Need-loop-again-2 Inv-loop μ-loop
-loop-again-2 c = (omega arith, more (c .before), m-long (c .before), least-long (c .before), λ h. absurd (omega arith))
+vectors : (c : tie.After-loop Inv-loop μ-loop) → let s = entry (c .before) in
+    c .before .loop .t ≡ feed (waitStep false) 0 begun (strided (s .args .values .now) (s .args .start) (pos 1) (whole s))
+vectors c =
+    let t = c .before in
+    let s = entry t in
+    let a = t .loop .inv .0 in
+    let l = c .loop-test .left in
+    t .loop .inv .1
+    ∙ ap (λ (z : ℤ). feed (waitStep false) 0 begun (strided (s .args .values .now) z (pos 1) (8 * t .loop .i))) (exact s)
+    ∙ ap (λ (n : ℕ). feed (waitStep false) 0 begun (strided (s .args .values .now) (s .args .start) (pos 1) (8 * n))) (let e : t .loop .i ≡ s .args .len / 8 = omega arith in e)
 
 returns : tie.Need-returns Inv-loop μ-loop
 returns c =
-    let u = c .before in
-    let s = entry u in
-    let a = u .loop .inv .0 in
-    let l = c .loop-test .left in
-    let e = waited-all (s .args .signs) begun (s .args .values .now) (first u) (apart u) (s .args .len) (u .loop .i) (u .loop .t) (u .loop .inv .1) (omega arith) (omega arith) in
-    simp (toZ-ofZ w64 (s .args .start) (s .fits .start), toZ-ofZ w64 (s .args .stride) (s .fits .stride)) at e
+    let s = entry (c .before .before) in
+    vectors (c .before)
+    ∙ ap (feed (waitStep false) 0 begun) (vectors-padded (s .args .values .now) (s .args .start) (pos 1) (s .args .len) (c .if1 .taken))
+
+mul-place : tie.Need-mul-place Inv-loop μ-loop
+mul-place c = let s = entry (c .before .before) in omega (arith, s .pre .1)
+
+abbrev rest : tie.Start Inv-loop μ-loop → ℤ
+rest s = s .args .start +ℤ pos 1 *ℤ pos (whole s)
+
+-- where the values that are left begin, in i64
+fits-there : (c : tie.Else1 Inv-loop μ-loop) → let s = entry (c .before .before) in SFits w64 (pos 1 *ℤ pos (whole s)) × SFits w64 (rest s)
+fits-there c =
+    let s = entry (c .before .before) in
+    let l = length (s .args .values .now) in
+    let h : whole s < s .args .len = omega (arith, c .if1 .left) in
+    let m : l < 2 ^ 63 = omega (arith, s .good .0 .1) in (
+      step-fits l (s .args .start) (pos 1) (s .args .len) (s .pre .2) (whole s) h m,
+      place-fits l (s .args .start) (pos 1) (s .args .len) (s .pre .2) (whole s) h m,
+    )
+
+place-requires : tie.Need-place-requires Inv-loop μ-loop
+place-requires c κs =
+    let s = entry (c .before .before) in
+    simp (toZ-ofZ w64 (s .args .start) (s .fits .start)) (omega (arith, s .pre .1), fits-there c .0, fits-there c .1)
+
+there : (c : tie.After-place Inv-loop μ-loop) → c .place .result ≡ rest (entry (c .before .before .before))
+there c = let s = entry (c .before .before .before) in simp (toZ-ofZ w64 (s .args .start) (s .fits .start)) at (c .place .ensures)
+
+at-is : (c : tie.After-place Inv-loop μ-loop) → toZ w64 (ofZ w64 (c .place .result)) ≡ rest (entry (c .before .before .before))
+at-is c = toZ-ofZ w64 (c .place .result) (subst (SFits w64) (sym (there c)) (fits-there (c .before) .1)) ∙ there c
+
+vector-of-requires : tie.Need-vector-of-requires Inv-loop μ-loop
+vector-of-requires c κs =
+    let s = entry (c .before .before .before) in
+    let l = length (s .args .values .now) in
+    let n = s .args .len in (
+      omega arith,
+      subst (λ (z : ℤ). PlacesInside l z (pos 1) (n % 8)) (sym (at-is c))
+          (inside-part l (s .args .start) (pos 1) n (whole s) (n % 8) (s .pre .2) (omega arith)),
+    )
+
+wait-vector-requires-2 : tie.Need-wait-vector-requires-2 Inv-loop μ-loop
+wait-vector-requires-2 c κs =
+    let t = c .before .before .before in (
+      ap (λ (w : Waiting). length (w .m)) (vectors t) ∙ wait-m-long false 0 begun _,
+      ap (λ (w : Waiting). length (w .least)) (vectors t) ∙ wait-least-long false 0 begun _,
+      ap length (c .vector-of .ensures) ∙ vector-long _,
+    )
+
+returns-2 : tie.Need-returns-2 Inv-loop μ-loop
+returns-2 c =
+    let p = c .before .before in
+    let t = p .before .before in
+    let s = entry (t .before) in
+    let n = s .args .len in
+    let xs = s .args .values .now in
+    vectors-then (waitStep false) (wait-again false) begun (t .before .loop .t) (c .wait-vector2 .result) (strided xs (s .args .start) (pos 1) (whole s))
+    (vectorOf (strided xs (rest s) (pos 1) (n % 8)))
+    (n / 8)
+    (length-strided xs (s .args .start) (pos 1) (whole s))
+    (vectors t)
+    (c .wait-vector2 .ensures
+    ∙ ap (feed (waitStep false) 0 (t .before .loop .t)) (c .before .vector-of .ensures ∙ ap (λ (z : ℤ). vectorOf (strided xs z (pos 1) (n % 8))) (at-is p)))
+    ∙ ap (feed (waitStep false) 0 begun) (rest-padded xs (s .args .start) (pos 1) n (p .before .if1 .left))
 
 pub short-lanes-spec : {M : Type 1} → statement M
 short-lanes-spec =
@@ -180,19 +207,20 @@ short-lanes-spec =
     (tie.spec
     Inv-loop
     μ-loop
-    add-vectors
+    cast-at
     start-lanes-requires
     start-waiting-requires
     loop-holds
-    mul-some-vector
-    sub-some-vector
-    some-vector-requires
+    mul-vector-at
+    add-vector-at
+    vector-at-requires
     wait-vector-requires
     add-i
-    mul-at
-    add-at
     loop-less
     loop-again
-    loop-less-2
-    loop-again-2
-    returns)
+    returns
+    mul-place
+    place-requires
+    vector-of-requires
+    wait-vector-requires-2
+    returns-2)
