@@ -26,7 +26,7 @@ use Rattle.accumulator.proofs.Joins.{multiplied-unit, multiplied-fits}
 use Rattle.kernels.specs.Lanes.{Each, none, more, feed, laneOf, inOrder}
 use Rattle.kernels.specs.InnerPlain.{laneTimes, lanes, pieceProduct}
 use Rattle.kernels.specs.Stepped.{rateAcc, accAt, laneJoined, steppedLanes, lanesJoined, stepped}
-use Rattle.kernels.specs.InnerStepped.{Sound, SmallAccs, UnitAccs}
+use Rattle.kernels.specs.InnerStepped.{Sound}
 use Rattle.kernels.specs.Blocks.{contiguous}
 use Rattle.kernels.specs.Pieces.{Piece, worked, workedPiece, joinedPieces, ratesOf}
 use Rattle.kernels.proofs.Feeding.{feed-keeps, order-keeps, each-of}
@@ -119,7 +119,7 @@ pub identity-sound : Sound identityAcc
 unfolding inUnit fits
 identity-sound = record { value = tt; in-unit = refl }
 
-pub rate-sound : (x : Float) → Sound (rateAcc x)
+rate-sound : (x : Float) → Sound (rateAcc x)
 unfolding rateAcc
 rate-sound x = record {
   value = subst (λ (m : Float). T (fits binary64 m)) (sym (split-m x)) (floatOf-fits binary64 11 52 refl refl (withExponent (rateFactor x) (pos 0)));
@@ -142,16 +142,17 @@ combined-sound a b A C = go (a .bad || b .bad) refl
 abbrev accSize : StableProductFloatAcc → ℕ
 accSize a = natAbs (a .e)
 
+-- each of eight lanes is sound
+record UnitAccs (ls : List StableProductFloatAcc) : Type 0 where
+  at : (k : ℕ) → k < 8 → Sound (accAt ls k)
+
 -- i values are in the lanes ls
-pub record Joined (i : ℕ) (ls : List StableProductFloatAcc) : Type 0 where
-  pub long : length ls ≡ 8
-  pub near : total accSize ls ≤ 1025 * i
-  pub sound : UnitAccs ls
+record Joined (i : ℕ) (ls : List StableProductFloatAcc) : Type 0 where
+  long : length ls ≡ 8
+  near : total accSize ls ≤ 1025 * i
+  sound : UnitAccs ls
 
-pub joined-small : (i : ℕ) (ls : List StableProductFloatAcc) → Joined i ls → SmallAccs (1025 * i) ls
-joined-small i ls h = record { at = λ k. le-trans (total-at accSize ls k (accAt [] 0)) (let w = h .near in omega arith) }
-
-pub joined-start : Joined 0 (replicate 8 identityAcc)
+joined-start : Joined 0 (replicate 8 identityAcc)
 unfolding total
 joined-start = record {
   long = length-replicate 8 identityAcc;
@@ -159,7 +160,7 @@ joined-start = record {
   sound = record { at = λ k h. subst Sound (sym (getD-replicate 8 k identityAcc (accAt [] 0) h)) identity-sound };
 }
 
-pub joined-more : (i : ℕ) (ls : List StableProductFloatAcc) (x : Float) → Joined i ls → Joined (suc i) (laneJoined i ls x)
+joined-more : (i : ℕ) (ls : List StableProductFloatAcc) (x : Float) → Joined i ls → Joined (suc i) (laneJoined i ls x)
 unfolding laneJoined
 joined-more i ls x h =
     let j = laneOf i in
@@ -184,14 +185,14 @@ joined-feed i ls (x ∷ xs) h =
     (joined-feed (suc i) (laneJoined i ls x) xs (joined-more i ls x h))
 
 -- k lanes joined in order
-pub order-sound : (ls : List StableProductFloatAcc) (k : ℕ) → k ≤ 8 → UnitAccs ls
+order-sound : (ls : List StableProductFloatAcc) (k : ℕ) → k ≤ 8 → UnitAccs ls
     → Sound (inOrder (λ (k : ℕ) (a : StableProductFloatAcc). combined a (accAt ls k)) k identityAcc)
 order-sound ls k h u =
     order-keeps (λ (k : ℕ) (a : StableProductFloatAcc). combined a (accAt ls k)) (λ (k : ℕ). Sound) k
     (λ j a l s. combined-sound a (accAt ls j) s (u .at j (le-trans l h))) identityAcc identity-sound
 
 module _ (xs : List Float) where
-  pub joined-all : Joined (length xs) (steppedLanes xs)
+  joined-all : Joined (length xs) (steppedLanes xs)
   unfolding steppedLanes
   joined-all =
       subst (λ (n : ℕ). Joined n (feed laneJoined 0 (replicate 8 identityAcc) xs)) (omega arith) (joined-feed 0 (replicate 8 identityAcc) xs joined-start)

@@ -1,5 +1,5 @@
 -- How far an exponent can be from 0: no sum of exponents of a piece comes near the ends of i64. Assumes nothing.
-use Prim.Native.Nat.{ℕ, zero, suc, _+_, _-_, _*_, _≤_, _<_, zero-le}
+use Prim.Native.Nat.{ℕ, zero, suc, _+_, _-_, _≤_, _<_}
 use mathlib.Core.Path.{_≡_, refl, sym, ap, subst}
 use mathlib.Core.Bool.{Bool, true, false, cond, _||_}
 use mathlib.Core.List.{List, [], _∷_}
@@ -16,12 +16,9 @@ use Rattle.floats.specs.Splitting.{bitsOf, split}
 use Rattle.floats.proofs.Fields.{field-lt}
 use Rattle.floats.proofs.Factor.{add-size}
 use Rattle.accumulator.specs.declared.StableProductFloatAcc.{StableProductFloatAcc}
-use Rattle.accumulator.specs.Joining.{identityAcc, combined, multiplied}
+use Rattle.accumulator.specs.Joining.{combined, multiplied}
 use Rattle.accumulator.proofs.Combining.{combined-bad, combined-good, multiplied-two, multiplied-less}
-use Rattle.kernels.specs.Lanes.{inOrder}
-use Rattle.kernels.specs.Stepped.{rateAcc, accAt}
-use Rattle.kernels.specs.InnerStepped.{SmallAccs}
-use Rattle.kernels.proofs.Feeding.{order-keeps}
+use Rattle.kernels.specs.Stepped.{rateAcc}
 
 -- a place of a list after a store: what was stored, or what was there
 pub set-either : {A : Type 0} (P : A → Type 0) (l : List A) (j k : ℕ) (a d : A) → P a → P (getD l k d) → P (getD (set l j a) k d)
@@ -75,14 +72,3 @@ combined-size a b = go (a .bad || b .bad) refl
     go false h =
         size (combined a b) (natAbs (a .e) + natAbs (b .e) + 1) (multiplied a b .e) (ap (λ (r : StableProductFloatAcc). r .e) (combined-good a b h))
         (product (twoOrMore (productOf 11 52 (a .m) (b .m))) refl)
-
--- ---- stepped lanes
-pub accs-le : (n m : ℕ) (ls : List StableProductFloatAcc) → n ≤ m → SmallAccs n ls → SmallAccs m ls
-accs-le n m ls h s = record { at = λ k. le-trans (s .at k) h }
-
--- k lanes joined in order
-pub joined-size : (n : ℕ) (ls : List StableProductFloatAcc) (k : ℕ) → SmallAccs n ls
-    → natAbs (inOrder (λ (k : ℕ) (a : StableProductFloatAcc). combined a (accAt ls k)) k identityAcc .e) ≤ suc n * k
-joined-size n ls k h =
-    order-keeps (λ (k : ℕ) (a : StableProductFloatAcc). combined a (accAt ls k)) (λ (k : ℕ) (a : StableProductFloatAcc). natAbs (a .e) ≤ suc n * k) k
-    (λ j a l r. le-trans (combined-size a (accAt ls j)) (omega (arith, h .at j, r))) identityAcc zero-le

@@ -1,127 +1,234 @@
--- Stepped lanes: with no bad rate they are the plain product's piece; the mark is set exactly if some rate is bad. Assumes nothing.
-use Prim.Native.Nat.{ℕ, suc, _<_}
+-- Stepped lanes: those before the first that met a bad rate are the plain product's, and that one stops the joining; the mark is set exactly if a rate is bad.
+-- Assumes nothing.
+use Prim.Native.Nat.{ℕ, zero, suc, _≤_, _<_, min}
 use mathlib.Core.Path.{_≡_, refl, sym, ap, _∙_, subst}
-use mathlib.Core.Bool.{Bool, false, _||_, or-false, or-assoc}
+use mathlib.Core.Bool.{Bool, true, false, _||_, or-true, or-false, or-assoc, true≢false}
 use mathlib.Core.List.{List, [], _∷_, map}
-use native.Mathlib.Nat.{le-of-eq}
+use native.Mathlib.Nat.{le-refl, le-of-lt, le-of-eq, le-trans}
 use native.Mathlib.Omega.{arith}
 use lib.ListN.{length, getD, set, take, replicate, length-set, length-replicate, getD-replicate}
 use lib.Seq.{take-suc, take-all}
 use lib.IntN.{pos}
+use lib.Dec.{ltb}
 use lib.Ieee.{Float, nan}
+use borrow.Author.Tests.{ltb-true, ltb-false}
 use Rattle.floats.specs.Factor.{Factor, Normalised, unit, times}
 use Rattle.floats.specs.Splitting.{isBad, rateFactor}
 use Rattle.floats.proofs.Factor.{unit-normal, times-normal}
 use Rattle.floats.proofs.Splitting.{rate-normal}
 use Rattle.accumulator.specs.declared.StableProductFloatAcc.{StableProductFloatAcc}
 use Rattle.accumulator.specs.Joining.{identityAcc, combined}
-use Rattle.kernels.specs.Lanes.{Each, feed, laneOf, some}
+use Rattle.accumulator.proofs.Combining.{combined-bad}
+use Rattle.kernels.specs.Lanes.{Each, none, more, feed, laneOf, inOrder, some}
 use Rattle.kernels.specs.InnerPlain.{laneTimes, lanes, pieceProduct}
 use Rattle.kernels.specs.Stepped.{rateAcc, accAt, laneJoined, steppedLanes, lanesJoined, stepped}
+use Rattle.kernels.specs.InnerStepped.{lower, badStep, firstBad}
 use Rattle.kernels.specs.Pieces.{GoodRate, accOf}
-use Rattle.kernels.proofs.Feeding.{feed-related, order-keeps, order-related, some-append, some-one, some-set}
+use Rattle.kernels.proofs.Feeding.{order-keeps, each-map, some-append, some-one, some-set}
 use Rattle.kernels.proofs.Factors.{lane-lt, set-cases}
 use Rattle.kernels.proofs.Joining.{combined-mark, combined-times, identity-is, rate-is, rate-mark}
+use Rattle.kernels.proofs.Blocking.{Value}
 
 abbrev noAcc : StableProductFloatAcc
 noAcc = record { m = nan; e = pos 0; bad = false }
 
--- ---- eight lanes of accumulators are those of eight factors
-pub record SameLanes (ls : List StableProductFloatAcc) (fs : List Factor) : Type 0 where
-  pub acc-long : length ls ≡ 8
-  pub factor-long : length fs ≡ 8
-  pub at : (k : ℕ) → k < 8 → (accAt ls k ≡ accOf (getD fs k (unit 52))) × Normalised 52 (getD fs k (unit 52))
+-- lane k's factor multiplied in
+abbrev times-in : List Factor → ℕ → Factor → Factor
+times-in fs k p = times 52 p (getD fs k (unit 52))
 
-same-start : SameLanes (replicate 8 identityAcc) (replicate 8 (unit 52))
-same-start = record {
+-- lane j is that of a factor
+abbrev GoodLane : List StableProductFloatAcc → List Factor → ℕ → Type 0
+GoodLane ls fs j = (accAt ls j ≡ accOf (getD fs j (unit 52))) × Normalised 52 (getD fs j (unit 52))
+
+-- ---- lanes below k are those of factors, and lane k, if there is one, is bad
+record Parted (ls : List StableProductFloatAcc) (fs : List Factor) (k : ℕ) : Type 0 where
+  acc-long : length ls ≡ 8
+  factor-long : length fs ≡ 8
+  few : k ≤ 8
+  good : (j : ℕ) → j < k → GoodLane ls fs j
+  bad : k < 8 → accAt ls k .bad ≡ true
+
+parted-start : Parted (replicate 8 identityAcc) (replicate 8 (unit 52)) 8
+parted-start = record {
   acc-long = length-replicate 8 identityAcc;
   factor-long = length-replicate 8 (unit 52);
-  at = λ k h. (
-    getD-replicate 8 k identityAcc noAcc h
-        ∙ identity-is
-        ∙ ap accOf (sym (getD-replicate 8 k (unit 52) (unit 52) h)),
-    subst (Normalised 52) (sym (getD-replicate 8 k (unit 52) (unit 52) h)) (unit-normal 52),
-  );
+  few = le-refl 8;
+  good = λ j h.
+      let e = sym (getD-replicate 8 j (unit 52) (unit 52) h) in
+      (getD-replicate 8 j identityAcc noAcc h ∙ identity-is ∙ ap accOf e, subst (Normalised 52) e (unit-normal 52));
+  bad = λ h. absurd (omega arith);
 }
 
--- An accumulator that is a factor's, from whatever format it came, joined to lane i mod 8.
-pub joined-value : (i : ℕ) (ls : List StableProductFloatAcc) (fs : List Factor) (b : StableProductFloatAcc) (g : Factor) → b ≡ accOf g → Normalised 52 g
-    → SameLanes ls fs
-    → SameLanes (set ls (laneOf i) (combined (accAt ls (laneOf i)) b)) (laneTimes 52 i fs g)
-joined-value i ls fs b g e N s = record {
-  acc-long = length-set ls j a ∙ s .acc-long;
-  factor-long = length-set fs j f ∙ s .factor-long;
-  at = λ k h. both k h;
-}
-  where
-    j : ℕ
-    j = laneOf i
+module _ (i : ℕ) (ls : List StableProductFloatAcc) (fs : List Factor) (k : ℕ) (x : Float) (v : Value x) (P : Parted ls fs k) where
+  l : ℕ
+  l = laneOf i
 
-    a : StableProductFloatAcc
-    a = combined (accAt ls j) b
+  a : StableProductFloatAcc
+  a = combined (accAt ls l) (rateAcc x)
 
-    f : Factor
-    f = times 52 (getD fs j (unit 52)) g
+  f : Factor
+  f = times 52 (getD fs l (unit 52)) (rateFactor x)
 
-    normal : Normalised 52 (getD fs j (unit 52))
-    normal = s .at j (lane-lt i) .1
+  in-acc : l < length ls
+  unfolding l
+  in-acc = subst (λ (n : ℕ). laneOf i < n) (sym (P .acc-long)) (lane-lt i)
 
-    joined : a ≡ accOf f
-    joined =
-        ap (λ (c : StableProductFloatAcc). combined c b) (s .at j (lane-lt i) .0)
-        ∙ ap (combined (accOf (getD fs j (unit 52)))) e
-        ∙ combined-times (getD fs j (unit 52)) g normal N
+  in-factor : l < length fs
+  unfolding l
+  in-factor = subst (λ (n : ℕ). laneOf i < n) (sym (P .factor-long)) (lane-lt i)
 
-    in-acc : j < length ls
-    in-acc = subst (λ (n : ℕ). j < n) (sym (s .acc-long)) (lane-lt i)
+  -- another lane than l is as it was
+  kept : (j : ℕ) → (j ≡ l → ⊥) → (accAt (set ls l a) j ≡ accAt ls j) × (getD (set fs l f) j (unit 52) ≡ getD fs j (unit 52))
+  kept j n = (
+    set-cases (λ (c : StableProductFloatAcc). c ≡ accAt ls j) ls l j a noAcc in-acc (λ p. absurd (n p)) (λ q. refl),
+    set-cases (λ (g : Factor). g ≡ getD fs j (unit 52)) fs l j f (unit 52) in-factor (λ p. absurd (n p)) (λ q. refl),
+  )
 
-    in-factor : j < length fs
-    in-factor = subst (λ (n : ℕ). j < n) (sym (s .factor-long)) (lane-lt i)
+  here : (accAt (set ls l a) l ≡ a) × (getD (set fs l f) l (unit 52) ≡ f)
+  here = (
+    set-cases (λ (c : StableProductFloatAcc). c ≡ a) ls l l a noAcc in-acc (λ p. refl) (λ q. absurd (q refl)),
+    set-cases (λ (g : Factor). g ≡ f) fs l l f (unit 52) in-factor (λ p. refl) (λ q. absurd (q refl)),
+  )
 
-    both : (k : ℕ) → k < 8 → (accAt (set ls j a) k ≡ accOf (getD (set fs j f) k (unit 52))) × Normalised 52 (getD (set fs j f) k (unit 52))
-    both k h =
-        set-cases (λ (y : Factor). (accAt (set ls j a) k ≡ accOf y) × Normalised 52 y) fs j k f (unit 52) in-factor
-        (λ p. (
-          set-cases (λ (c : StableProductFloatAcc). c ≡ accOf f) ls j k a noAcc in-acc (λ p'. joined) (λ n. absurd (n p)),
-          times-normal 52 (getD fs j (unit 52)) g normal N,
-        ))
-        (λ n. (
-          set-cases (λ (c : StableProductFloatAcc). c ≡ accOf (getD fs k (unit 52))) ls j k a noAcc in-acc (λ p. absurd (n p))
-              (λ n'. s .at k h .0),
-          s .at k h .1,
-        ))
+  marked : (accAt ls l .bad || isBad x) ≡ true → accAt (set ls l a) l .bad ≡ true
+  unfolding a
+  marked h =
+      ap (λ (c : StableProductFloatAcc). c .bad) (here .0)
+      ∙ combined-mark (accAt ls l) (rateAcc x)
+      ∙ ap (λ (b : Bool). accAt ls l .bad || b) (rate-mark x)
+      ∙ h
 
-same-more : (i : ℕ) (ls : List StableProductFloatAcc) (fs : List Factor) (x : Float) → GoodRate x → SameLanes ls fs
-    → SameLanes (laneJoined i ls x) (laneTimes 52 i fs (rateFactor x))
-unfolding laneJoined
-same-more i ls fs x r s = joined-value i ls fs (rateAcc x) (rateFactor x) (rate-is x r) (rate-normal x) s
+  same : (j : ℕ) → j < k → (j ≡ l → ⊥) → GoodLane (set ls l a) (set fs l f) j
+  same j h n =
+      let q = kept j n in
+      let g = P .good j h in
+      (q .0 ∙ g .0 ∙ ap accOf (sym (q .1)), subst (Normalised 52) (sym (q .1)) (g .1))
 
-same-all : {xs : List Float} → Each GoodRate xs → SameLanes (steppedLanes xs) (lanes 52 (map rateFactor xs))
-unfolding steppedLanes lanes
-same-all {xs} R =
-    feed-related laneJoined (laneTimes 52) rateFactor GoodRate (λ (i : ℕ). SameLanes) (length xs) (λ i s s' x h. same-more i s s' x) 0 (replicate 8 identityAcc)
-    (replicate 8 (unit 52)) R (omega arith) same-start
+  joined : isBad x ≡ false → l < k → GoodLane (set ls l a) (set fs l f) l
+  unfolding a f
+  joined e h =
+      let g = P .good l h in
+      let w = getD fs l (unit 52) in (
+        here .0
+            ∙ ap (λ (c : StableProductFloatAcc). combined c (rateAcc x)) (g .0)
+            ∙ ap (combined (accOf w)) (rate-is x (record { value = v; good = e }))
+            ∙ combined-times w (rateFactor x) (g .1) (rate-normal x)
+            ∙ ap accOf (sym (here .1)),
+        subst (Normalised 52) (sym (here .1)) (times-normal 52 w (rateFactor x) (g .1) (rate-normal x)),
+      )
 
--- with no bad rate, stepped lanes give the plain product of the piece
-pub stepped-agrees : {xs : List Float} → Each GoodRate xs → stepped xs ≡ accOf (pieceProduct 52 (map rateFactor xs))
-unfolding stepped lanesJoined pieceProduct
-stepped-agrees {xs} R =
-    order-related (λ (k : ℕ) (a : StableProductFloatAcc). combined a (accAt (steppedLanes xs) k))
-    (λ (k : ℕ) (p : Factor). times 52 p (getD (lanes 52 (map rateFactor xs)) k (unit 52)))
-    (λ (a : StableProductFloatAcc) (p : Factor). (a ≡ accOf p) × Normalised 52 p) 8 (λ k a p h r. turn k a p h r) identityAcc (unit 52)
-    (identity-is, unit-normal 52) .0
-  where
-    turn : (k : ℕ) (a : StableProductFloatAcc) (p : Factor) → k < 8 → (a ≡ accOf p) × Normalised 52 p
-        → (combined a (accAt (steppedLanes xs) k) ≡ accOf (times 52 p (getD (lanes 52 (map rateFactor xs)) k (unit 52))))
-        × Normalised 52 (times 52 p (getD (lanes 52 (map rateFactor xs)) k (unit 52)))
-    turn k a p h r =
-        let g = getD (lanes 52 (map rateFactor xs)) k (unit 52) in
-        let s = same-all R .at k h in (
-          ap (λ (b : StableProductFloatAcc). combined b (accAt (steppedLanes xs) k)) (r .0)
-              ∙ ap (combined (accOf p)) (s .0)
-              ∙ combined-times p g (r .1) (s .1),
-          times-normal 52 p g (r .1) (s .1),
-        )
+  by-lane : (P' : ℕ → Type 0) (j : ℕ) → (j ≡ l → P' l) → ((j ≡ l → ⊥) → P' j) → P' j
+  by-lane P' j s n = go (ltb j l) (ltb l j) refl refl
+    where
+      apart-lt : j < l → j ≡ l → ⊥
+      apart-lt h e = omega arith
+
+      apart-gt : l < j → j ≡ l → ⊥
+      apart-gt h e = omega arith
+
+      equal : l ≤ j → j ≤ l → j ≡ l
+      equal h g = omega arith
+
+      go : (b c : Bool) → ltb j l ≡ b → ltb l j ≡ c → P' j
+      go true c p q = n (apart-lt (ltb-true j l p))
+      go false true p q = n (apart-gt (ltb-true l j q))
+      go false false p q = let e = equal (ltb-false j l p) (ltb-false l j q) in subst P' (sym e) (s e)
+
+  next : (b : Bool) → isBad x ≡ b → Parted (set ls l a) (set fs l f) (lower k l b)
+  next false e = record {
+    acc-long = length-set ls l a ∙ P .acc-long;
+    factor-long = length-set fs l f ∙ P .factor-long;
+    few = P .few;
+    good = λ j h. by-lane (GoodLane (set ls l a) (set fs l f)) j (λ p. joined e (subst (λ (m : ℕ). m < k) p h)) (same j h);
+    bad = λ h.
+        by-lane (λ (m : ℕ). accAt (set ls l a) m .bad ≡ true) k
+        (λ p. marked (ap (λ (m : ℕ). accAt ls m .bad || isBad x) (sym p) ∙ ap (λ (c : Bool). c || isBad x) (P .bad h)))
+        (λ n. ap (λ (c : StableProductFloatAcc). c .bad) (kept k n .0) ∙ P .bad h);
+  }
+  next true e = record {
+    acc-long = length-set ls l a ∙ P .acc-long;
+    factor-long = length-set fs l f ∙ P .factor-long;
+    few = le-trans (min-left k l) (P .few);
+    good = λ j h. same j (omega arith) (λ p. omega arith);
+    bad = λ h. go (ltb k l) refl h;
+  }
+    where
+      min-left : (m n : ℕ) → min m n ≤ m
+      min-left m n = omega arith
+
+      first : l ≤ k → min k l ≡ l
+      first q = omega arith
+
+      second : k < l → min k l ≡ k
+      second q = omega arith
+
+      other : k < l → k ≡ l → ⊥
+      other q p = omega arith
+
+      go : (c : Bool) → ltb k l ≡ c → min k l < 8 → accAt (set ls l a) (min k l) .bad ≡ true
+      go true p h =
+          let q = ltb-true k l p in
+          ap (λ (m : ℕ). accAt (set ls l a) m .bad) (second q)
+          ∙ ap (λ (c : StableProductFloatAcc). c .bad) (kept k (other q) .0)
+          ∙ P .bad (subst (λ (m : ℕ). m < 8) (second q) h)
+      go false p h =
+          ap (λ (m : ℕ). accAt (set ls l a) m .bad) (first (ltb-false k l p))
+          ∙ marked (ap (λ (b : Bool). accAt ls l .bad || b) e ∙ or-true (accAt ls l .bad))
+
+  parted-more : Parted (laneJoined i ls x) (laneTimes 52 i fs (rateFactor x)) (badStep i k x)
+  unfolding laneJoined l a f
+  parted-more = next (isBad x) refl
+
+parted-all : (i : ℕ) (ls : List StableProductFloatAcc) (fs : List Factor) (k : ℕ) {xs : List Float} → Each Value xs → Parted ls fs k
+    → Parted (feed laneJoined i ls xs) (feed (laneTimes 52) i fs (map rateFactor xs)) (feed badStep i k xs)
+unfolding feed
+parted-all i ls fs k none P = P
+parted-all i ls fs k (more {x = x} v vs) P =
+    parted-all (suc i) (laneJoined i ls x) (laneTimes 52 i fs (rateFactor x)) (badStep i k x) vs (parted-more i ls fs k x v P)
+
+-- ---- joined in lane order: the factors' product before lane k, and its mark alone from there on
+abbrev joined-in : List StableProductFloatAcc → ℕ → StableProductFloatAcc → StableProductFloatAcc
+joined-in ls n c = combined c (accAt ls n)
+
+-- the accumulator of a factor, with the mark
+abbrev pub markedOf : Factor → StableProductFloatAcc
+markedOf f = record { m = accOf f .m; e = accOf f .e; bad = true }
+
+module _ (ls : List StableProductFloatAcc) (fs : List Factor) (k : ℕ) (P : Parted ls fs k) where
+  before : (n : ℕ) → n ≤ k
+      → (inOrder (joined-in ls) n identityAcc ≡ accOf (inOrder (times-in fs) n (unit 52))) × Normalised 52 (inOrder (times-in fs) n (unit 52))
+  unfolding inOrder
+  before zero h = (identity-is, unit-normal 52)
+  before (suc n) h =
+      let r = before n (le-of-lt h) in
+      let g = P .good n h in
+      let p = inOrder (times-in fs) n (unit 52) in
+      let w = getD fs n (unit 52) in (
+        ap (λ (c : StableProductFloatAcc). combined c (accAt ls n)) (r .0) ∙ ap (combined (accOf p)) (g .0) ∙ combined-times p w (r .1) (g .1),
+        times-normal 52 p w (r .1) (g .1),
+      )
+
+  after : k < 8 → (n : ℕ) → k < n → inOrder (joined-in ls) n identityAcc ≡ markedOf (inOrder (times-in fs) k (unit 52))
+  unfolding inOrder
+  after b zero h = absurd (omega arith)
+  after b (suc n) h = go (ltb k n) refl (λ l. after b n l)
+    where
+      same : n ≤ k → n ≡ k
+      same l = omega arith
+
+      stop : n ≡ k → combined (inOrder (joined-in ls) n identityAcc) (accAt ls n) ≡ markedOf (inOrder (times-in fs) k (unit 52))
+      stop e =
+          let c = inOrder (joined-in ls) n identityAcc in
+          combined-bad c (accAt ls n) (ap (λ (t : Bool). c .bad || t) (ap (λ (j : ℕ). accAt ls j .bad) e ∙ P .bad b) ∙ or-true (c .bad))
+          ∙ ap (λ (a : StableProductFloatAcc). record { m = a .m; e = a .e; bad = true })
+          (ap (λ (j : ℕ). inOrder (joined-in ls) j identityAcc) e ∙ before k (le-refl k) .0)
+
+      go : (t : Bool) → ltb k n ≡ t → (k < n → inOrder (joined-in ls) n identityAcc ≡ markedOf (inOrder (times-in fs) k (unit 52)))
+          → combined (inOrder (joined-in ls) n identityAcc) (accAt ls n) ≡ markedOf (inOrder (times-in fs) k (unit 52))
+      go true q r =
+          ap (λ (a : StableProductFloatAcc). combined a (accAt ls n)) (r (ltb-true k n q))
+          ∙ combined-bad (markedOf (inOrder (times-in fs) k (unit 52))) (accAt ls n) refl
+      go false q r = stop (same (ltb-false k n q))
 
 -- ---- the mark
 abbrev bad : StableProductFloatAcc → Bool
@@ -173,3 +280,44 @@ stepped-mark xs =
   where
     none : some bad (replicate 8 identityAcc) ≡ false
     none = refl
+
+-- ---- a piece
+module _ (xs : List Float) (v : Each Value xs) where
+  parted : Parted (steppedLanes xs) (lanes 52 (map rateFactor xs)) (firstBad xs)
+  unfolding steppedLanes lanes firstBad
+  parted = parted-all 0 (replicate 8 identityAcc) (replicate 8 (unit 52)) 8 v parted-start
+
+  pub first-few : firstBad xs ≤ 8
+  first-few = parted .few
+
+  pub joined-before : firstBad xs < 8 → stepped xs ≡ markedOf (inOrder (times-in (lanes 52 (map rateFactor xs))) (firstBad xs) (unit 52))
+  unfolding stepped lanesJoined
+  joined-before h = after (steppedLanes xs) (lanes 52 (map rateFactor xs)) (firstBad xs) parted h 8 h
+
+  -- with a bad value, some lane met it
+  pub some-first : some isBad xs ≡ true → firstBad xs < 8
+  unfolding stepped lanesJoined
+  some-first e = go (ltb (firstBad xs) 8) refl
+    where
+      go : (t : Bool) → ltb (firstBad xs) 8 ≡ t → firstBad xs < 8
+      go true q = ltb-true (firstBad xs) 8 q
+      go false q =
+          absurd
+          (true≢false
+          (sym e
+          ∙ sym (stepped-mark xs)
+          ∙ ap (λ (a : StableProductFloatAcc). a .bad)
+          (before (steppedLanes xs) (lanes 52 (map rateFactor xs)) (firstBad xs) parted 8 (ltb-false (firstBad xs) 8 q) .0)))
+
+-- ---- no bad rate
+none-first : (i k : ℕ) {xs : List Float} → Each GoodRate xs → feed badStep i k xs ≡ k
+unfolding feed
+none-first i k none = refl
+none-first i k (more {x = x} {xs = xs} r rs) = ap (λ (b : Bool). feed badStep (suc i) (lower k (laneOf i) b) xs) (r .good) ∙ none-first (suc i) k rs
+
+-- with no bad rate, stepped lanes give the plain product of the piece
+pub stepped-agrees : {xs : List Float} → Each GoodRate xs → stepped xs ≡ accOf (pieceProduct 52 (map rateFactor xs))
+unfolding stepped lanesJoined pieceProduct firstBad
+stepped-agrees {xs} R =
+    before (steppedLanes xs) (lanes 52 (map rateFactor xs)) (firstBad xs) (parted xs (each-map GoodRate Value (λ x r. r .value) R)) 8
+    (le-of-eq (sym (none-first 0 8 R))) .0

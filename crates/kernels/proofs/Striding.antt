@@ -1,10 +1,9 @@
--- Values a stride apart: their places in the slice, and the loop of stepped lanes over them. Assumes nothing.
-use Prim.Native.Nat.{ℕ, zero, suc, _+_, _-_, _*_, _^_, _≤_, _<_}
+-- Values a stride apart, and their places in the slice. Assumes nothing.
+use Prim.Native.Nat.{ℕ, zero, suc, _+_, _-_, _*_, _≤_, _<_}
 use mathlib.Core.Path.{_≡_, refl, sym, ap, _∙_, subst}
 use mathlib.Core.List.{List, _∷_, _++_}
-use native.Mathlib.Numerals.{add-one}
 use native.Mathlib.Omega.{arith}
-use lib.ListN.{length, getD, set, take, drop, replicate}
+use lib.ListN.{length, getD, take, drop}
 use lib.Seq.{drop-cons, take-all}
 use native.Mathlib.Nat.{le-refl, zero-add}
 use lib.IntN.{ℤ, pos, negsuc, natAbs, _+ℤ_, _*ℤ_}
@@ -16,15 +15,9 @@ use mir.ValLaws.{toZ-ofZ}
 use mir.Syntax.{w64}
 use Rattle.integers.proofs.Places.{place-first}
 use Rattle.integers.proofs.Difference.{ints, atoms}
-use Rattle.accumulator.specs.declared.StableProductFloatAcc.{StableProductFloatAcc}
-use Rattle.accumulator.specs.Joining.{identityAcc, combined}
-use Rattle.kernels.specs.Lanes.{Each, none, more, feed, laneOf}
+use Rattle.kernels.specs.Lanes.{Each, none, more}
 use Rattle.kernels.specs.InnerStrided.{strided, PlacesInside}
-use Rattle.kernels.specs.Stepped.{rateAcc, accAt, laneJoined, steppedLanes}
-use Rattle.kernels.specs.InnerStepped.{SmallAccs}
 use Rattle.kernels.proofs.Blocking.{Value}
-use Rattle.kernels.proofs.Sizes.{accs-le}
-use Rattle.kernels.proofs.Bounded.{Joined, joined-small, joined-start, joined-more, joined-all}
 
 -- ---- places
 
@@ -43,15 +36,6 @@ inside-part len s t n a b h l = record {
 
     high : (i : ℕ) → (s +ℤ t *ℤ pos (a + i)) <ℤ pos len → (s +ℤ t *ℤ pos a +ℤ t *ℤ pos i) <ℤ pos len
     high i = simp ints (simp atoms (omega arith))
-
-inside-next : (len : ℕ) (at stride : ℤ) (n : ℕ) → PlacesInside len at stride (suc n) → PlacesInside len (at +ℤ stride) stride n
-inside-next len at stride n h = subst (λ (z : ℤ). PlacesInside len z stride n) place-one (inside-part len at stride (suc n) 1 n h (omega arith))
-  where
-    place-one : at +ℤ stride *ℤ pos 1 ≡ at +ℤ stride
-    place-one = simp ints (simp atoms (omega arith))
-
-inside-none : (len : ℕ) (at stride : ℤ) → PlacesInside len at stride 0
-inside-none len at stride = record { least = λ i l. absurd (omega arith); most = λ i l. absurd (omega arith) }
 
 module _ (len : ℕ) (at stride : ℤ) (n : ℕ) (h : PlacesInside len at stride n) where
   first-least : 0 < n → pos 0 ≤ℤ at
@@ -80,13 +64,6 @@ module _ (len : ℕ) (at stride : ℤ) (n : ℕ) (h : PlacesInside len at stride
       go : (z : ℤ) → T (nonNeg z) → z <ℤ pos len → natAbs z < len
       go (pos k) t p = ltb→lt k len (p .lt)
       go (negsuc k) t p = absurd t
-
-  -- the place of the next value, in i64
-  pub next-fits : 1 < n → len < 2 ^ 63 → SFits w64 (at +ℤ stride)
-  next-fits l s = go (h .least 1 l) (h .most 1 l) s
-    where
-      go : pos 0 ≤ℤ (at +ℤ stride *ℤ pos 1) → (at +ℤ stride *ℤ pos 1) <ℤ pos len → len < 2 ^ 63 → SFits w64 (at +ℤ stride)
-      go = simp ints (simp atoms (omega arith))
 
 pub length-strided : (xs : List Float) (start stride : ℤ) (n : ℕ) → length (strided xs start stride n) ≡ n
 unfolding strided
@@ -175,83 +152,3 @@ beside xs z d n f e i some = record {
 
     ends : natAbs (toZ w64 (ofZ w64 z)) + n ≤ length xs
     ends = at-last (length xs) (natAbs (toZ w64 (ofZ w64 z))) z n i' some is
-
--- the lanes of at most 2^40 values are far from the ends of i64
-pub strided-small : (xs : List Float) (start stride : ℤ) (n : ℕ) → n ≤ 2 ^ 40 → SmallAccs (2 ^ 52) (steppedLanes (strided xs start stride n))
-strided-small xs start stride n h =
-    let ys = strided xs start stride n in
-    accs-le (1025 * length ys) (2 ^ 52) (steppedLanes ys) (rw (length-strided xs start stride n) (omega arith))
-    (joined-small (length ys) (steppedLanes ys) (joined-all ys))
-
--- ---- the loop: i values are in the lanes ls, and the next is at `at`
-pub record PlacesPassed (xs : List Float) (start stride : ℤ) (n : ℕ) (ls : List StableProductFloatAcc) (at : ℤ) (i : ℕ) : Type 0 where
-  pub short : i ≤ n
-  pub inside : PlacesInside (length xs) at stride (n - i)
-  pub same : feed laneJoined i ls (strided xs at stride (n - i)) ≡ steppedLanes (strided xs start stride n)
-  pub joined : Joined i ls
-
-module _ (xs : List Float) (start stride : ℤ) (n : ℕ) where
-  pub passed-none : (ls : List StableProductFloatAcc) → ls ≡ replicate 8 identityAcc → PlacesInside (length xs) start stride n
-      → PlacesPassed xs start stride n ls start 0
-  unfolding steppedLanes
-  passed-none ls e h = record {
-    short = omega arith;
-    inside = subst (PlacesInside (length xs) start stride) (sym all) h;
-    same =
-        ap (λ (k : ℕ). feed laneJoined 0 ls (strided xs start stride k)) all
-        ∙ ap (λ (l : List StableProductFloatAcc). feed laneJoined 0 l (strided xs start stride n)) e;
-    joined = subst (Joined 0) (sym e) joined-start;
-  }
-    where
-      all : n - 0 ≡ n
-      all = omega arith
-
-  module _ (ls : List StableProductFloatAcc) (at : ℤ) (i : ℕ) (p : PlacesPassed xs start stride n ls at i) where
-    pub passed-all : n ≤ i → ls ≡ steppedLanes (strided xs start stride n)
-    unfolding feed strided
-    passed-all h = sym (ap (λ (k : ℕ). feed laneJoined i ls (strided xs at stride k)) (let z : n - i ≡ 0 = omega arith in z)) ∙ p .same
-
-    module _ (us : List StableProductFloatAcc) (l : i < n)
-        (e : us ≡ set ls (laneOf i) (combined (accAt ls (laneOf i)) (rateAcc (getD xs (natAbs at) nan)))) where
-      one-less : n - i ≡ suc (n - (i + 1))
-      one-less = omega arith
-
-      -- the value at `at` is in, and the rest begins a stride further
-      turned : feed laneJoined (i + 1) us (strided xs (at +ℤ stride) stride (n - (i + 1))) ≡ steppedLanes (strided xs start stride n)
-      unfolding feed strided laneJoined
-      turned =
-          ap (λ (u : List StableProductFloatAcc). feed laneJoined (i + 1) u (strided xs (at +ℤ stride) stride (n - (i + 1)))) e
-          ∙ ap (λ (k : ℕ). feed laneJoined k (laneJoined i ls (getD xs (natAbs at) nan)) (strided xs (at +ℤ stride) stride (n - (i + 1)))) (add-one i)
-          ∙ ap (λ (k : ℕ). feed laneJoined i ls (strided xs at stride k)) (sym one-less)
-          ∙ p .same
-
-      longer : Joined (i + 1) us
-      unfolding laneJoined
-      longer =
-          subst (Joined (i + 1)) (sym e)
-          (subst (λ (k : ℕ). Joined k (laneJoined i ls (getD xs (natAbs at) nan))) (sym (add-one i))
-          (joined-more i ls (getD xs (natAbs at) nan) (p .joined)))
-
-      pub passed-more : i + 1 < n → PlacesPassed xs start stride n us (at +ℤ stride) (i + 1)
-      passed-more h = record {
-        short = omega arith;
-        inside = inside-next (length xs) at stride (n - (i + 1)) (subst (PlacesInside (length xs) at stride) one-less (p .inside));
-        same = turned;
-        joined = longer;
-      }
-
-      -- the last value: no further place is formed
-      pub passed-last : n ≤ i + 1 → PlacesPassed xs start stride n us at (i + 1)
-      unfolding feed strided
-      passed-last h = record {
-        short = omega arith;
-        inside = subst (PlacesInside (length xs) at stride) (sym none) (inside-none (length xs) at stride);
-        same =
-            ap (λ (k : ℕ). feed laneJoined (i + 1) us (strided xs at stride k)) none
-            ∙ sym (ap (λ (k : ℕ). feed laneJoined (i + 1) us (strided xs (at +ℤ stride) stride k)) none)
-            ∙ turned;
-        joined = longer;
-      }
-        where
-          none : n - (i + 1) ≡ 0
-          none = omega arith

@@ -1,3 +1,2 @@
-// The two ways of working a piece: blocks of 64 at stride 1, and stepped lanes at any other stride.
+// The lanes of a piece. The two ways of working one are defined in specs/; `vectors` has the code.
 pub mod lanes;
-pub mod stepped;

@@ -26,12 +26,12 @@ use Rattle.vectors.proofs.Waiting.{LostLane}
 abbrev pub times-in : List Factor → ℕ → Factor → Factor
 times-in fs k p = times 52 p (getD fs k (unit 52))
 
-abbrev product-in : List Float → ℕ → Float → Float
+abbrev pub product-in : List Float → ℕ → Float → Float
 product-in ms k p = productOf 11 52 p (getD ms k nan)
 
 -- ---- lanes in [1, 2): the product is below 2^9
 module _ (s : Lanes) (fs : List Factor) (H : LanesRepresent zeros s fs) where
-  upto : (n : ℕ) → n ≤ 8
+  pub upto : (n : ℕ) → n ≤ 8
       → Represents n (inOrder (product-in (s .m)) n one) (inOrder (λ (k : ℕ) (e : ℤ). e +ℤ eOf s k) n (pos 0)) (inOrder (times-in fs) n (unit 52))
   unfolding inOrder
   upto zero h = represents-one

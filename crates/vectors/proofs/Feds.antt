@@ -1,7 +1,7 @@
 -- What values make of lanes: one list after another, whole vectors, and the product at the end. Assumes nothing.
 use Prim.Native.Nat.{ℕ, zero, suc, _+_, _*_, _^_, _≤_, _<_, zero-le}
 use mathlib.Core.Path.{_≡_, refl, sym, ap, _∙_, subst}
-use mathlib.Core.Bool.{Bool, true, false, _||_, or-false, or-assoc}
+use mathlib.Core.Bool.{Bool, true, false, not, _&&_, _||_, or-false, or-assoc, true≢false}
 use mathlib.Core.List.{List, [], _∷_, _++_, map, map-append}
 use native.Mathlib.Nat.{le-trans}
 use native.Mathlib.Omega.{arith}
@@ -19,10 +19,10 @@ use Rattle.accumulator.specs.declared.StableProductFloatAcc.{StableProductFloat
 use Rattle.kernels.specs.declared.lanes.Lanes.{Lanes}
 use Rattle.kernels.specs.Lanes.{Each, none, more, feed, laneOf, some}
 use Rattle.kernels.specs.InnerPlain.{laneTimes, lanes, pieceProduct}
-use Rattle.kernels.specs.Pieces.{GoodRate, accOf}
+use Rattle.kernels.specs.Stepped.{stepped}
+use Rattle.kernels.specs.Pieces.{GoodRate, accOf, worked}
 use Rattle.kernels.specs.Blocks.{startLanes, mOf, eOf, contiguous}
 use Rattle.kernels.specs.InnerLanes.{SmallLanes, LanesRepresent, LanesAfter, zeros, plainAfter}
-use Rattle.kernels.specs.Stepped.{stepped}
 use Rattle.kernels.specs.InnerStrided.{strided}
 use Rattle.kernels.proofs.Feeding.{feed-append, some-append}
 use Rattle.kernels.proofs.Factors.{NormalLanes, lane-normal, lane-lt}
@@ -147,12 +147,25 @@ module _ (xs : List Float) (r : Lanes) (F : LanesAfter startLanes xs r) where
       ∙ ap (λ (b : Bool). record { m = accOf (pieceProduct 52 (map rateFactor xs)) .m; e = pieceProduct 52 (map rateFactor xs) .exp; bad = b }) mark
       ∙ sym (contiguous-is v)
 
--- with no bad value, stepped lanes give the same
-pub unmarked-stepped : (xs : List Float) → Each Value xs → contiguous xs .bad ≡ false → contiguous xs ≡ stepped xs
-unmarked-stepped xs v e = contiguous-agrees rates ∙ sym (stepped-agrees rates)
+-- with no bad value, both ways give the same
+pub unmarked-worked : (b : Bool) (xs : List Float) → Each Value xs → contiguous xs .bad ≡ false → contiguous xs ≡ worked b xs
+unmarked-worked true xs v e = refl
+unmarked-worked false xs v e = contiguous-agrees rates ∙ sym (stepped-agrees rates)
   where
     rates : Each GoodRate xs
     rates = each-rate v (sym (contiguous-mark xs v) ∙ e)
+
+pub stepped-worked : (b : Bool) (xs : List Float) (a : StableProductFloatAcc) → not b ≡ true → a ≡ stepped xs → a ≡ worked b xs
+stepped-worked true xs a e p = absurd (true≢false (sym e))
+stepped-worked false xs a e p = p
+
+pub fed-worked : (b : Bool) (xs : List Float) (r : Lanes) → LanesAfter startLanes xs r → Each Value xs
+    → (not b && r .bad) ≡ false → lanesProduct r ≡ worked b xs
+unfolding lanesProduct
+fed-worked true xs r F v e = fed-contiguous xs r F v
+fed-worked false xs r F v e =
+    let c = fed-contiguous xs r F v in
+    c ∙ unmarked-worked false xs v (ap (λ (a : StableProductFloatAcc). a .bad) (sym c) ∙ e)
 
 -- the lanes of at most 2^40 values are far from the ends of i64
 pub vectors-small : (xs : List Float) (b d : ℤ) (n : ℕ) (s : Lanes) → n ≤ 2 ^ 40 → LanesAfter startLanes (strided xs b d n) s → SmallLanes (2 ^ 56) s

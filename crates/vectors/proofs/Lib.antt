@@ -12,3 +12,4 @@ pub mod Feds
 pub mod Shorts
 pub mod Trying
 pub mod Stepping
+pub mod Parting

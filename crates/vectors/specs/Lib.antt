@@ -2,3 +2,4 @@
 pub mod InnerSteps
 pub mod InnerWaiting
 pub mod InnerShort
+pub mod InnerMarked

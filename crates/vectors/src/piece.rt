@@ -8,6 +8,7 @@ ghost use Rattle.kernels.specs.Lanes.{feed};
 ghost use Rattle.kernels.specs.InnerStrided.{strided, PlacesInside};
 ghost use Rattle.kernels.specs.Blocks.{contiguous};
 ghost use Rattle.kernels.specs.Stepped.{stepped};
+ghost use Rattle.kernels.specs.Pieces.{worked};
 ghost use Rattle.vectors.specs.InnerWaiting.{one, waitStep, padded, startWaiting};
 ghost use Rattle.vectors.specs.InnerShort.{ShortLeast, ShortProduct};
 use crate::vector::Vector;
@@ -112,10 +113,16 @@ fn middle_piece(values: &[f64], start: i64, stride: i64, len: usize) -> Short
     Short { ok, m: q.m, e: q.e }
 }
 
-// A piece at any stride, as blocks of 64 have it.
-fn worked_piece(values: &[f64], start: i64, stride: i64, len: usize) -> StableProductFloatAcc
+// A piece at any stride, as blocks of 64 have it or as stepped lanes do. They differ only where a value is bad.
+fn worked_piece(
+    values: &[f64],
+    start: i64,
+    stride: i64,
+    len: usize,
+    in_blocks: bool,
+) -> StableProductFloatAcc
     requires { ⌜ (1 ≤ len) × (len ≤ 2 ^ 40) × PlacesInside (length (now values)) start stride len ⌝ }
-    ensures { λ r. ⌜ r ≡ contiguous (strided (now (values .entry)) start stride len) ⌝ }
+    ensures { λ r. ⌜ r ≡ worked in_blocks (strided (now (values .entry)) start stride len) ⌝ }
 {
     let q = middle_piece(values, start, stride, len);
     if q.ok {
@@ -125,7 +132,20 @@ fn worked_piece(values: &[f64], start: i64, stride: i64, len: usize) -> StablePr
             bad: false,
         };
     }
+    if !in_blocks {
+        if crate::marked::soon_bad(values, start, stride, len) {
+            return StableProductFloatAcc {
+                m: 1.0,
+                e: 0,
+                bad: true,
+            };
+        }
+    }
     let s = crate::feeding::fed_lanes(values, start, stride, len);
+    if !in_blocks & s.bad {
+        let first = crate::marked::first_bad(values, start, stride, len);
+        return crate::marked::product_before(s, first);
+    }
     crate::feeding::lanes_product(s)
 }
 
@@ -134,17 +154,13 @@ pub fn stable_float_contiguous(values: &[f64]) -> StableProductFloatAcc
     requires { ⌜ (1 ≤ length (now values)) × (length (now values) ≤ 2 ^ 40) ⌝ }
     ensures { λ r. ⌜ r ≡ contiguous (now (values .entry)) ⌝ }
 {
-    worked_piece(values, 0, 1, values.len())
+    worked_piece(values, 0, 1, values.len(), true)
 }
 
-// A piece of `len` values that begin at `start`, `stride` apart. With a bad value each is joined in its turn: the lanes keep what they held before it.
+// A piece of `len` values that begin at `start`, `stride` apart.
 pub fn lanes_strided(values: &[f64], start: i64, stride: i64, len: usize) -> StableProductFloatAcc
     requires { ⌜ (1 ≤ len) × PlacesInside (length (now values)) start stride len × (len ≤ 2 ^ 40) ⌝ }
     ensures { λ r. ⌜ r ≡ stepped (strided (now (values .entry)) start stride len) ⌝ }
 {
-    let a = worked_piece(values, start, stride, len);
-    if a.bad {
-        return kernels::stepped::lanes_each_value(values, start, stride, len);
-    }
-    a
+    worked_piece(values, start, stride, len, false)
 }

@@ -1,17 +1,35 @@
 -- `vectors::piece::worked_piece` meets its contract. Assumes nothing.
-use mathlib.Core.Path.{ap, _∙_}
-use mathlib.Core.Bool.{false}
+use Prim.Native.Nat.{ℕ, _^_, _≤_}
+use mathlib.Core.Path.{_≡_, sym, ap, _∙_, subst}
+use mathlib.Core.Bool.{not, false}
+use mathlib.Core.List.{List}
+use lib.Ieee.{Float, ofBits}
 use lib.IntN.{ℤ}
 use mir.Val.{SFits}
 use mir.ValLaws.{toZ-ofZ}
 use mir.Syntax.{w64}
+use borrow.Author.Needs.{needs}
+use Rattle.laws.proofs.Tests.{and-both}
+use Rattle.accumulator.specs.declared.StableProductFloatAcc.{StableProductFloatAcc}
+use Rattle.kernels.specs.Lanes.{Each}
 use Rattle.kernels.specs.InnerStrided.{strided}
 use Rattle.kernels.specs.Blocks.{startLanes}
-use Rattle.kernels.specs.InnerLanes.{LanesAfter}
+use Rattle.kernels.specs.InnerLanes.{SmallLanes, LanesAfter}
+use Rattle.kernels.proofs.Blocking.{Value}
 use Rattle.kernels.proofs.Striding.{strided-values}
-use Rattle.vectors.proofs.Feds.{fed-eight, fed-contiguous, vectors-small}
+use Rattle.kernels.specs.InnerStepped.{firstBad}
+use Rattle.vectors.specs.InnerMarked.{productBefore}
+use Rattle.vectors.proofs.Feds.{fed-eight, fed-worked, stepped-worked, unmarked-worked, vectors-small}
+use Rattle.kernels.proofs.Stepping.{first-few}
+use Rattle.vectors.proofs.Parting.{stepped-first, stepped-marked}
 use Rattle.vectors.proofs.piece.worked_piece.Statement.{statement}
 use Rattle.vectors.proofs.piece.worked_piece.Tie as tie
+
+abbrev piece : tie.Start → List Float
+piece s = strided (s .args .values .now) (s .args .start) (s .args .stride) (s .args .len)
+
+values : (c : tie.After-shared-slice-known) → Each Value (piece (c .before))
+values c = let s = c .before in strided-values (s .args .values .now) (c .shared-slice-known .given) (s .args .start) (s .args .stride) (s .args .len)
 
 middle-piece-requires : tie.Need-middle-piece-requires
 middle-piece-requires c κs =
@@ -22,38 +40,83 @@ returns : tie.Need-returns
 returns c =
     let t = c .before in
     let r = t .before in
-    let s = r .before .before in
+    let k = r .before in
+    let s = k .before in
     let fits : SFits w64 (r .middle-piece .result .e) = record { sfits = c .struct-told .given .1 .1 .0 .1 } in
+    let e = simp (toZ-ofZ w64 (s .args .start) (s .fits .start), toZ-ofZ w64 (s .args .stride) (s .fits .stride)) at (r .middle-piece .ensures (t .if1 .taken)) in
     ap (λ (z : ℤ). record { m = r .middle-piece .result .m; e = z; bad = false }) (toZ-ofZ w64 (r .middle-piece .result .e) fits)
-    ∙ simp (toZ-ofZ w64 (s .args .start) (s .fits .start), toZ-ofZ w64 (s .args .stride) (s .fits .stride)) at (r .middle-piece .ensures (t .if1 .taken))
+    ∙ e
+    ∙ unmarked-worked (s .args .in-blocks) (piece s) (values k) (ap (λ (a : StableProductFloatAcc). a .bad) (sym e))
 
-fed-lanes-requires : tie.Need-fed-lanes-requires
-fed-lanes-requires c κs =
-    let s = c .before .before .before in
-    simp (toZ-ofZ w64 (s .args .start) (s .fits .start), toZ-ofZ w64 (s .args .stride) (s .fits .stride)) (s .pre .1, s .pre .2)
-
--- the lanes of the piece
-fed : (c : tie.After-fed-lanes)
-    → let s = c .before .before .before .before in
-    LanesAfter startLanes (strided (s .args .values .now) (s .args .start) (s .args .stride) (s .args .len)) (c .fed-lanes .result)
-fed c =
-    let s = c .before .before .before .before in
-    simp (toZ-ofZ w64 (s .args .start) (s .fits .start), toZ-ofZ w64 (s .args .stride) (s .fits .stride)) at (c .fed-lanes .ensures)
-
-lanes-product-requires : tie.Need-lanes-product-requires
-lanes-product-requires c κs =
-    let s = c .before .before .before .before in (
-      vectors-small (s .args .values .now) (s .args .start) (s .args .stride) (s .args .len) (c .fed-lanes .result) (s .pre .1) (fed c),
-      fed-eight _ (c .fed-lanes .result) (fed c),
-    )
+soon-bad-requires : tie.Need-soon-bad-requires
+soon-bad-requires c κs = search needs
 
 returns-2 : tie.Need-returns-2
+unfolding ofBits
 returns-2 c =
     let f = c .before in
-    let s = f .before .before .before .before in
+    let k = f .before .before .before .before in
+    let s = k .before in
+    stepped-worked (s .args .in-blocks) (piece s) _ (f .before .if2 .taken)
+    (sym
+    (stepped-first (piece s) (values k)
+    (simp (toZ-ofZ w64 (s .args .start) (s .fits .start), toZ-ofZ w64 (s .args .stride) (s .fits .stride)) at (f .soon-bad .ensures (c .if3 .taken)))))
+
+fed-lanes-requires : tie.Need-fed-lanes-requires
+fed-lanes-requires c κs = search needs
+
+-- what the function was called with, from where its lanes are fed
+abbrev entry : tie.After-fed-lanes → tie.Start
+entry f = f .before .before .before .before .before
+
+-- the lanes of the piece
+fed : (f : tie.After-fed-lanes) → LanesAfter startLanes (piece (entry f)) (f .fed-lanes .result)
+fed f =
+    let s = entry f in
+    simp (toZ-ofZ w64 (s .args .start) (s .fits .start), toZ-ofZ w64 (s .args .stride) (s .fits .stride)) at (f .fed-lanes .ensures)
+
+small : (f : tie.After-fed-lanes) → SmallLanes (2 ^ 56) (f .fed-lanes .result)
+small f =
+    let s = entry f in
+    vectors-small (s .args .values .now) (s .args .start) (s .args .stride) (s .args .len) (f .fed-lanes .result) (s .pre .1) (fed f)
+
+first-bad-requires : tie.Need-first-bad-requires
+first-bad-requires c κs = search needs
+
+-- the first lane that met a bad value
+first : (c : tie.After-first-bad) → c .first-bad .result ≡ firstBad (piece (entry (c .before .before .before)))
+first c =
+    let s = entry (c .before .before .before) in
+    simp (toZ-ofZ w64 (s .args .start) (s .fits .start), toZ-ofZ w64 (s .args .stride) (s .fits .stride)) at (c .first-bad .ensures)
+
+product-before-requires : tie.Need-product-before-requires
+product-before-requires c κs =
+    let f = c .before .before .before in (
+      small f,
+      fed-eight _ (f .fed-lanes .result) (fed f),
+      subst (λ (k : ℕ). k ≤ 8) (sym (first c)) (first-few _ (values (f .before .before .before .before))),
+    )
+
+returns-3 : tie.Need-returns-3
+returns-3 c =
+    let q = c .before in
+    let f = q .before .before .before in
+    let s = entry f in
+    let t = and-both (not (s .args .in-blocks)) (f .fed-lanes .result .bad) (q .before .if4 .taken) in
+    stepped-worked (s .args .in-blocks) (piece s) _ (t .0)
+    (c .product-before .ensures
+    ∙ ap (productBefore (f .fed-lanes .result)) (first q)
+    ∙ stepped-marked (piece s) (values (f .before .before .before .before)) (f .fed-lanes .result) (fed f) (t .1))
+
+lanes-product-requires : tie.Need-lanes-product-requires
+lanes-product-requires c κs = let f = c .before .before in (small f, fed-eight _ (f .fed-lanes .result) (fed f))
+
+returns-4 : tie.Need-returns-4
+returns-4 c =
+    let f = c .before .before .before in
+    let s = entry f in
     c .lanes-product .ensures
-    ∙ fed-contiguous (strided (s .args .values .now) (s .args .start) (s .args .stride) (s .args .len)) (f .fed-lanes .result) (fed f)
-    (strided-values (s .args .values .now) (f .before .before .before .shared-slice-known .given) (s .args .start) (s .args .stride) (s .args .len))
+    ∙ fed-worked (s .args .in-blocks) (piece s) (f .fed-lanes .result) (fed f) (values (f .before .before .before .before)) (c .before .if4 .left)
 
 pub worked-piece-spec : {M : Type 1} → statement M
 worked-piece-spec =
@@ -61,6 +124,11 @@ worked-piece-spec =
     (tie.spec
     middle-piece-requires
     returns
+    soon-bad-requires
+    returns-2
     fed-lanes-requires
+    first-bad-requires
+    product-before-requires
+    returns-3
     lanes-product-requires
-    returns-2)
+    returns-4)
