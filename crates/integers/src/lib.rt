@@ -8,6 +8,9 @@ pub const I64_MAX: u64 = 0x7fff_ffff_ffff_ffff;
 
 pub const U64_MAX: u64 = 0xffff_ffff_ffff_ffff;
 
+// The largest number of 32 bits.
+const HALF_MAX: u64 = 0xffff_ffff;
+
 pub struct CheckedU64 {
     pub ok: bool,
     pub value: u64,
@@ -42,7 +45,8 @@ pub fn magnitude(x: i64) -> u64
     }
 }
 
-pub fn checked_mul_u64(a: u64, b: u64) -> CheckedU64
+// A product of any two: one division says whether it fits.
+fn checked_mul_wide(a: u64, b: u64) -> CheckedU64
     ensures { λ r. ⌜ r ≡ narrowU64 (a * b) ⌝ }
 {
     if b == 0 {
@@ -58,6 +62,21 @@ pub fn checked_mul_u64(a: u64, b: u64) -> CheckedU64
         ok: true,
         value: a * b,
     }
+}
+
+// Two factors of 32 bits have a product that fits, and need no division.
+pub fn checked_mul_u64(a: u64, b: u64) -> CheckedU64
+    ensures { λ r. ⌜ r ≡ narrowU64 (a * b) ⌝ }
+{
+    if a <= HALF_MAX {
+        if b <= HALF_MAX {
+            return CheckedU64 {
+                ok: true,
+                value: a * b,
+            };
+        }
+    }
+    checked_mul_wide(a, b)
 }
 
 pub fn checked_neg_i64(x: i64) -> CheckedI64
