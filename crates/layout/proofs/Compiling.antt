@@ -3,75 +3,29 @@
 use Prim.Native.Nat.{ℕ, _+_, _*_, _^_, _≤_, _<_}
 use mathlib.Core.Path.{_≡_, refl, sym, _∙_, ap, subst}
 use mathlib.Core.Bool.{Bool, true, false, cond}
-use mathlib.Core.List.{List, [], _∷_, _++_, append-nil, append-assoc}
+use mathlib.Core.List.{List, [], _∷_}
 use mathlib.Core.Option.{Option, none, some}
 use native.Mathlib.Omega.{arith}
 use native.Mathlib.Numerals.{add-one}
 use lib.Dec.{T}
-use lib.ListN.{length, take, drop, getD, length-append, drop-of-length-le}
+use lib.ListN.{length, drop, getD, drop-of-length-le}
 use lib.Seq.{drop-cons}
-use lib.IntN.{ℤ, pos}
+use lib.IntN.{ℤ}
 use borrow.Author.Tests.{lt-ltb, le-ltb, eq-eqb, ne-eqb}
 use Rattle.integers.specs.declared.CheckedU64.{CheckedU64}
 use Rattle.layout.specs.declared.axis.ReduceOuterAxis.{ReduceOuterAxis}
-use Rattle.layout.specs.declared.axis.AxisTable.{AxisTable}
 use Rattle.layout.specs.declared.traversal.FullTraversal.{FullTraversal}
-use Rattle.layout.specs.Axes.{PLACES, noAxis, placesOf}
-use Rattle.layout.specs.InnerTables.{CleanTable, tableOf, tableAxes}
-use Rattle.layout.specs.declared.order.Ordered.{Ordered}
+use Rattle.layout.specs.declared.order.Counted.{Counted}
+use Rattle.layout.specs.Axes.{PLACES}
+use Rattle.layout.specs.InnerTables.{held, heldIf}
 use Rattle.layout.specs.Order.{keptAxes, axesOf, resetsFit}
-use Rattle.layout.specs.InnerAnswers.{orderedIf, orderedOr, checkedOr}
+use Rattle.layout.specs.InnerAnswers.{checkedOr}
 use Rattle.layout.specs.Fuse.{fuse}
-use Rattle.layout.proofs.Ordering.{length-axes}
+use Rattle.layout.proofs.Ordering.{axes-resets}
+use Rattle.layout.proofs.Fusing.{fuse-resets}
 use Rattle.refusals.specs.Refusals.{firstOf}
 use Rattle.layout.specs.Compile.{totalFrom, totalOf, layoutOf, emptyLayout, fusedOf, traversalAt, traversalOf, compileRefusals, layoutBeside, compileOf}
 use Rattle.layout.specs.Compile.{overflows, aboveMost}
-use Rattle.layout.proofs.Tables.{table-axes-of, table-of, table-count, take-past}
-use Rattle.layout.proofs.Fusing.{count-of, from-i, length-fuse}
-
--- ---- rule L5: the axes after the first
-pub record Copied (t out : AxisTable) (i : ℕ) : Type 0 where
-  pub after : 1 ≤ i
-  pub table : CleanTable out
-  pub few : out .count + 1 ≡ i
-  pub copied : tableAxes out ++ drop i (tableAxes t) ≡ drop 1 (tableAxes t)
-
-pub copied-none : (t out : AxisTable) → out ≡ tableOf [] → Copied t out 1
-copied-none t out e =
-    rw e
-    (record {
-      after = omega arith;
-      table = table-of [] (omega arith);
-      few = omega (arith, count-of [] (omega arith));
-      copied = ap (λ (z : List ReduceOuterAxis). z ++ drop 1 (tableAxes t)) (table-axes-of []);
-    })
-
-pub copied-more : (t out r : AxisTable) (i : ℕ) → CleanTable t → i < t .count → Copied t out i
-    → r ≡ tableOf (tableAxes out ++ getD (t .places) i noAxis ∷ []) → Copied t r (i + 1)
-copied-more t out r i w h p e =
-    let c = table-count out (p .table) in
-    let f = p .few in
-    let m = w .1 in
-    let l : length (tableAxes out ++ getD (t .places) i noAxis ∷ []) ≡ length (tableAxes out) + 1 = length-append (tableAxes out)
-    (getD (t .places) i noAxis ∷ []) in
-    rw e
-    (record {
-      after = omega arith;
-      table = table-of (tableAxes out ++ getD (t .places) i noAxis ∷ []) (omega arith);
-      few = omega (arith, count-of (tableAxes out ++ getD (t .places) i noAxis ∷ []) (omega arith));
-      copied =
-          ap (λ (z : List ReduceOuterAxis). z ++ drop (i + 1) (tableAxes t)) (table-axes-of (tableAxes out ++ getD (t .places) i noAxis ∷ []))
-          ∙ append-assoc (tableAxes out) (getD (t .places) i noAxis ∷ []) (drop (i + 1) (tableAxes t))
-          ∙ ap (λ (z : List ReduceOuterAxis). tableAxes out ++ z) (sym (from-i t i w h))
-          ∙ p .copied;
-    })
-
-pub copied-all : (t out : AxisTable) (i : ℕ) → t .count ≤ i → Copied t out i → out ≡ tableOf (drop 1 (tableAxes t))
-unfolding tableAxes
-copied-all t out i h p =
-    p .table .0
-    ∙ ap tableOf
-    (sym (append-nil (tableAxes out)) ∙ ap (λ (z : List ReduceOuterAxis). tableAxes out ++ z) (sym (take-past (t .places) (t .count) i h)) ∙ p .copied)
 
 -- ---- rule L1
 pub total-more : (ns : List ℕ) (t i : ℕ) → i < length ns → t * getD ns i 0 < 2 ^ 64 → totalFrom t (drop i ns) ≡ totalFrom (t * getD ns i 0) (drop (i + 1) ns)
@@ -87,25 +41,6 @@ unfolding totalFrom
 total-all ns t i h = rw (drop-of-length-le ns h)
 
 -- ---- rule L5: the layout
-pub run-none : (n : ℕ) (t out : AxisTable) → t .count ≡ 0 → out ≡ tableOf (drop 1 (tableAxes t))
-    → record { total = n; «run_len» = 1; «run_stride» = pos 1; «axis_count» = 0; «run_axes» = out .places } ≡ layoutOf n (tableAxes t)
-unfolding layoutOf tableOf tableAxes
-run-none n t out z e =
-    let h : take (t .count) (t .places) ≡ [] = ap (λ (k : ℕ). take k (t .places)) z in
-    ap (λ (o : AxisTable). record { total = n; «run_len» = 1; «run_stride» = pos 1; «axis_count» = 0; «run_axes» = o .places }) e
-    ∙ ap (λ (xs : List ReduceOuterAxis). record { total = n; «run_len» = 1; «run_stride» = pos 1; «axis_count» = 0; «run_axes» = placesOf (drop 1 xs) }) h
-    ∙ ap (layoutOf n) (sym h)
-
-pub run-first : (n : ℕ) (t out : AxisTable) (a : ReduceOuterAxis) → CleanTable t → (t .count ≡ 0 → ⊥) → out ≡ tableOf (drop 1 (tableAxes t))
-    → a ≡ getD (t .places) 0 noAxis
-    → record { total = n; «run_len» = a .extent; «run_stride» = a .«source_step»; «axis_count» = out .count; «run_axes» = out .places }
-    ≡ layoutOf n (tableAxes t)
-unfolding layoutOf tableOf
-run-first n t out a w z e f =
-    ap (λ (o : AxisTable). record { total = n; «run_len» = a .extent; «run_stride» = a .«source_step»; «axis_count» = o .count; «run_axes» = o .places }) e
-    ∙ ap (λ (x : ReduceOuterAxis). layoutOf n (x ∷ drop 1 (tableAxes t))) f
-    ∙ ap (layoutOf n) (sym (from-i t 0 w (omega arith)))
-
 pub layout-total : (t : ℕ) (xs : List ReduceOuterAxis) → (layoutOf t xs) .total ≡ t
 unfolding layoutOf
 layout-total t [] = refl
@@ -146,66 +81,32 @@ module _ (ns : List ℕ) (ss : List ℤ) where
     pub fused-is : (xs : List ReduceOuterAxis) → fusedOf ns ss ≡ some xs → traversalOf ns ss ≡ some (layoutOf t xs)
     fused-is xs f = at-total ∙ ap (λ (o : Option (List ReduceOuterAxis)). elim o [ none ↦ none | some xs ↦ some (layoutOf t xs) ]) f
 
-    -- where rule L3 fails
-    pub no-resets : (o : Ordered) → o ≡ orderedIf (resetsFit (keptAxes ns ss)) (axesOf ns ss) → o .ok ≡ false → traversalOf ns ss ≡ none
-    unfolding orderedIf fusedOf
-    no-resets o q k = unfused (go (resetsFit (keptAxes ns ss)) refl)
-      where
-        go : (b : Bool) → resetsFit (keptAxes ns ss) ≡ b → fusedOf ns ss ≡ none
-        go true f = absurd (subst T (sym (ap (λ (o : Ordered). o .ok) (q ∙ ap (λ (b : Bool). orderedIf b (axesOf ns ss)) f)) ∙ k) tt)
-        go false f = ap (λ (b : Bool). cond b (fuse (axesOf ns ss)) none) f
-
-    -- where rule L3 holds
-    module _ (o : Ordered) (q : o ≡ orderedIf (resetsFit (keptAxes ns ss)) (axesOf ns ss)) (k : o .ok ≡ true) where
-      resets : resetsFit (keptAxes ns ss) ≡ true
-      unfolding orderedIf
-      resets = go (resetsFit (keptAxes ns ss)) refl
-        where
-          go : (b : Bool) → resetsFit (keptAxes ns ss) ≡ b → resetsFit (keptAxes ns ss) ≡ true
-          go true f = f
-          go false f = absurd (subst T (sym k ∙ ap (λ (o : Ordered). o .ok) (q ∙ ap (λ (b : Bool). orderedIf b (axesOf ns ss)) f)) tt)
-
-      ordered-table : o .table ≡ tableOf (axesOf ns ss)
-      unfolding orderedIf
-      ordered-table = ap (λ (o : Ordered). o .table) (q ∙ ap (λ (b : Bool). orderedIf b (axesOf ns ss)) resets)
-
-      pub ordered-in-table : length ns ≤ PLACES → CleanTable (o .table)
-      ordered-in-table h = rw ordered-table (table-of (axesOf ns ss) (omega (arith, length-axes ns ss)))
-
-      fused-option : fusedOf ns ss ≡ fuse (tableAxes (o .table))
+    -- rule L3 by the ordered axes, and where it holds
+    module _ (o : Counted) (q : o .ok ≡ resetsFit (keptAxes ns ss)) where
+      pub no-resets : o .ok ≡ false → traversalOf ns ss ≡ none
       unfolding fusedOf
-      fused-option = ap (λ (b : Bool). cond b (fuse (axesOf ns ss)) none) resets ∙ ap fuse (sym (ap tableAxes ordered-table ∙ table-axes-of (axesOf ns ss)))
+      no-resets k = unfused (ap (λ (b : Bool). cond b (fuse (axesOf ns ss)) none) (sym q ∙ k))
 
-      module _ (f : Ordered) (p : f ≡ orderedOr (fuse (tableAxes (o .table)))) where
+      module _ (k : o .ok ≡ true) (es : List ℕ) (ts : List ℤ) (w : held (o .count) es ts ≡ axesOf ns ss) (f : Counted) (es' : List ℕ) (ts' : List ℤ)
+          (p : fuse (held (o .count) es ts) ≡ heldIf (f .ok) (f .count) es' ts') where
+        fused-option : fusedOf ns ss ≡ heldIf (f .ok) (f .count) es' ts'
+        unfolding fusedOf
+        fused-option = ap (λ (b : Bool). cond b (fuse (axesOf ns ss)) none) (sym q ∙ k) ∙ ap fuse (sym w) ∙ p
+
         pub no-fusing : f .ok ≡ false → traversalOf ns ss ≡ none
-        unfolding orderedOr
-        no-fusing z = unfused (fused-option ∙ go (fuse (tableAxes (o .table))) refl)
-          where
-            go : (x : Option (List ReduceOuterAxis)) → fuse (tableAxes (o .table)) ≡ x → fuse (tableAxes (o .table)) ≡ none
-            go none g = g
-            go (some xs) g = absurd (subst T (sym (ap (λ (o : Ordered). o .ok) (p ∙ ap orderedOr g)) ∙ z) tt)
+        unfolding heldIf
+        no-fusing z = unfused (fused-option ∙ ap (λ (b : Bool). heldIf b (f .count) es' ts') z)
 
-        fusing : f .ok ≡ true → fuse (tableAxes (o .table)) ≡ some (tableAxes (f .table))
-        unfolding orderedOr
-        fusing z = go (fuse (tableAxes (o .table))) refl
-          where
-            go : (x : Option (List ReduceOuterAxis)) → fuse (tableAxes (o .table)) ≡ x → fuse (tableAxes (o .table)) ≡ some (tableAxes (f .table))
-            go none g = absurd (subst T (sym z ∙ ap (λ (o : Ordered). o .ok) (p ∙ ap orderedOr g)) tt)
-            go (some xs) g = g ∙ ap some (sym (ap (λ (o : Ordered). tableAxes (o .table)) (p ∙ ap orderedOr g) ∙ table-axes-of xs))
+        module _ (z : f .ok ≡ true) where
+          pub is-layout : traversalOf ns ss ≡ some (layoutOf t (held (f .count) es' ts'))
+          unfolding heldIf
+          is-layout = fused-is (held (f .count) es' ts') (fused-option ∙ ap (λ (b : Bool). heldIf b (f .count) es' ts') z)
 
-        pub fused-in-table : length ns ≤ PLACES → f .ok ≡ true → CleanTable (f .table)
-        unfolding orderedOr
-        fused-in-table h z =
-            let l = length-fuse (tableAxes (o .table)) (tableAxes (f .table)) (fusing z) in
-            let m = length-axes ns ss in
-            let j : length (tableAxes (o .table)) ≡ length (axesOf ns ss) = ap length (ap tableAxes ordered-table ∙ table-axes-of (axesOf ns ss)) in
-            rw table-is (table-of (tableAxes (f .table)) (omega arith))
-          where
-            table-is : f .table ≡ tableOf (tableAxes (f .table))
-            table-is = ap (λ (o : Ordered). o .table) (p ∙ ap orderedOr (fusing z))
-
-        pub is-layout : f .ok ≡ true → traversalOf ns ss ≡ some (layoutOf t (tableAxes (f .table)))
-        is-layout z = fused-is (tableAxes (f .table)) (fused-option ∙ fusing z)
+          pub fused-fit : resetsFit (held (f .count) es' ts') ≡ true
+          unfolding heldIf
+          fused-fit =
+              fuse-resets (held (o .count) es ts) (held (f .count) es' ts') (ap resetsFit w ∙ axes-resets ns ss (sym q ∙ k))
+              (p ∙ ap (λ (b : Bool). heldIf b (f .count) es' ts') z)
 
 -- ---- the ranks
 module _ (ns : List ℕ) (ss : List ℤ) where

@@ -3,6 +3,7 @@ pub mod Resets
 pub mod Ordering
 pub mod Sorting
 pub mod Fusing
+pub mod Outer
 pub mod Compiling
 pub mod Line
 pub mod Theorems

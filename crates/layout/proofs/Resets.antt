@@ -60,3 +60,7 @@ reset-not-ok r n s e = go (resetFits n s) refl
         let z : true ≡ false = sym (ap (λ (r : CheckedI64). r .ok) (e ∙ ap (λ (b : Bool). keepI b (negℤ (span n s))) f)) ∙ k in
         absurd (subst T z tt)
     go false f k = f
+
+-- the reset of an axis that has one
+pub reset-value : (r : CheckedI64) (n : ℕ) (s : ℤ) → r ≡ keepI (resetFits n s) (negℤ (span n s)) → resetFits n s ≡ true → r .value ≡ negℤ (span n s)
+reset-value r n s e f = ap (λ (r : CheckedI64). r .value) (e ∙ ap (λ (b : Bool). keepI b (negℤ (span n s))) f)

@@ -1,27 +1,42 @@
--- Inner: the table that holds a layout's axes while it is compiled.
-use Prim.Native.Nat.{ℕ, _≤_, suc}
+-- Inner: the axes of a layout while it is compiled, their sizes in one table and their strides in another.
+use Prim.Native.Nat.{ℕ, suc, _+_}
 use mathlib.Core.Path.{_≡_}
-use mathlib.Core.Bool.{cond}
-use mathlib.Core.List.{List, [], _∷_}
-use lib.ListN.{length, take}
-use lib.IntN.{ℤ}
+use mathlib.Core.Bool.{Bool, true, false, cond}
+use mathlib.Core.List.{List, [], _∷_, _++_}
+use mathlib.Core.Option.{Option, none, some}
+use lib.ListN.{length, take, drop}
+use lib.IntN.{ℤ, pos}
 use Rattle.layout.specs.declared.axis.ReduceOuterAxis.{ReduceOuterAxis}
-use Rattle.layout.specs.declared.axis.AxisTable.{AxisTable}
-use Rattle.layout.specs.Axes.{PLACES, placesOf}
+use Rattle.layout.specs.Axes.{PLACES, axisOf}
 use Rattle.layout.specs.Order.{precedes}
 
--- the table that holds xs and nothing else
-unfoldable pub tableOf : List ReduceOuterAxis → AxisTable
-tableOf xs = record { count = length xs; places = placesOf xs }
+-- both tables have all their places
+abbrev pub Whole : List ℕ → List ℤ → Type 0
+Whole ns ss = (length ns ≡ PLACES) × (length ss ≡ PLACES)
 
-unfoldable pub tableAxes : AxisTable → List ReduceOuterAxis
-tableAxes t = take (t .count) (t .places)
+-- the axes of these sizes and strides
+unfoldable pub axesIn : List ℕ → List ℤ → List ReduceOuterAxis
+axesIn [] ss = []
+axesIn (n ∷ ns) [] = []
+axesIn (n ∷ ns) (s ∷ ss) = axisOf n s ∷ axesIn ns ss
 
--- a table whose places past its axes hold zeros
-abbrev pub CleanTable : AxisTable → Type 0
-CleanTable t = (t ≡ tableOf (tableAxes t)) × (t .count ≤ PLACES)
+-- the axes in the first k places
+unfoldable pub held : ℕ → List ℕ → List ℤ → List ReduceOuterAxis
+held k ns ss = axesIn (take k ns) (take k ss)
 
--- how many axes stand before that place
-unfoldable pub placeFor : ℤ → List ReduceOuterAxis → ℕ
+unfoldable pub heldIf : Bool → ℕ → List ℕ → List ℤ → Option (List ReduceOuterAxis)
+heldIf true k ns ss = some (held k ns ss)
+heldIf false k ns ss = none
+
+-- an axis whose reset is not asked for
+abbrev pub bareAxis : ℕ → ℤ → ReduceOuterAxis
+bareAxis n s = record { extent = n; «source_step» = s; «source_reset» = pos 0 }
+
+-- how many strides stand before the place of one more
+unfoldable pub placeFor : ℤ → List ℤ → ℕ
 placeFor s [] = 0
-placeFor s (b ∷ bs) = cond (precedes s (b .«source_step»)) 0 (suc (placeFor s bs))
+placeFor s (t ∷ ts) = cond (precedes s t) 0 (suc (placeFor s ts))
+
+-- of the first n places those from `at` on moved up by one, and x in the place
+unfoldable pub opened : {A : Type 0} → ℕ → ℕ → A → List A → List A
+opened at n x l = take at l ++ x ∷ drop at (take n l) ++ drop (n + 1) l

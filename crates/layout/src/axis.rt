@@ -1,26 +1,20 @@
-// An axis of a traversal, and the table that holds a layout's axes.
+// An axis of a traversal.
 ghost use mathlib.Core.Path.{_≡_};
-ghost use mathlib.Core.List.{[], _∷_, _++_};
 ghost use Prim.Native.Nat.{_-_, _<_};
-ghost use lib.IntN.{negℤ};
+ghost use lib.ListN.{getD};
+ghost use lib.IntN.{pos, negℤ};
 ghost use Rattle.integers.specs.InnerChecked.{keepI};
 ghost use Rattle.layout.specs.Axes.{PLACES, noAxis, span, resetFits};
-ghost use Rattle.layout.specs.InnerTables.{CleanTable, tableOf, tableAxes};
+ghost use Rattle.layout.specs.InnerTables.{bareAxis};
 use integers::CheckedI64;
 
-// How many axes a table holds.
+// How many axes a layout may have, and a table holds.
 pub const PLACES: usize = 8;
 
 pub struct ReduceOuterAxis {
     pub extent: u64,
     pub source_step: i64,
     pub source_reset: i64,
-}
-
-// The first `count` places hold axes, the others zeros.
-pub struct AxisTable {
-    pub count: usize,
-    pub places: [ReduceOuterAxis; PLACES],
 }
 
 pub fn no_axis() -> ReduceOuterAxis
@@ -33,26 +27,16 @@ pub fn no_axis() -> ReduceOuterAxis
     }
 }
 
-pub fn no_axes() -> AxisTable
-    ensures { λ r. ⌜ r ≡ tableOf [] ⌝ }
+// The axis of a place in the tables of sizes and strides, without its reset.
+pub fn axis_at(extents: &[u64; PLACES], steps: &[i64; PLACES], i: usize) -> ReduceOuterAxis
+    requires { ⌜ i < PLACES ⌝ }
+    ensures { λ r. ⌜ r ≡ bareAxis (getD (now (extents .entry)) i 0) (getD (now (steps .entry)) i (pos 0)) ⌝ }
 {
-    let z = no_axis();
-    AxisTable {
-        count: 0,
-        places: [z; PLACES],
+    ReduceOuterAxis {
+        extent: extents[i],
+        source_step: steps[i],
+        source_reset: 0,
     }
-}
-
-// The table with one axis more.
-pub fn push(table: AxisTable, axis: ReduceOuterAxis) -> AxisTable
-    requires { ⌜ CleanTable table × (table .count < PLACES) ⌝ }
-    ensures { λ r. ⌜ r ≡ tableOf (tableAxes table ++ axis ∷ []) ⌝ }
-{
-    let mut t = table;
-    let n = t.count;
-    t.places[n] = axis;
-    t.count = n + 1;
-    t
 }
 
 // The number of an axis's last element.

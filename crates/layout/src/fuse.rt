@@ -1,15 +1,13 @@
 // Rule L4: axes that meet become one.
 ghost use mathlib.Core.Path.{_≡_};
-ghost use mathlib.Core.List.{[], _∷_, _++_};
-ghost use Prim.Native.Nat.{_<_};
+ghost use Prim.Native.Nat.{_≤_, _<_};
 ghost use Rattle.layout.specs.Axes.{PLACES};
-ghost use Rattle.layout.specs.InnerTables.{CleanTable, tableOf, tableAxes};
 ghost use Rattle.layout.specs.Fuse.{joinOf, fuse};
-ghost use Rattle.layout.specs.InnerAnswers.{nextOf, orderedOr};
-use crate::axis::AxisTable;
+ghost use Rattle.layout.specs.InnerTables.{Whole, held, heldIf};
+ghost use Rattle.layout.specs.InnerAnswers.{nextOf};
 use crate::axis::PLACES;
 use crate::axis::ReduceOuterAxis;
-use crate::order::Ordered;
+use crate::order::Counted;
 
 pub enum Joined {
     One(ReduceOuterAxis),
@@ -43,17 +41,17 @@ fn join_axes(a: ReduceOuterAxis, b: ReduceOuterAxis) -> Joined
     })
 }
 
-// The axes that are done, and the axis so far.
+// How many axes are done, and the axis so far.
 pub struct Fusing {
     pub ok: bool,
-    pub done: AxisTable,
+    pub done: usize,
     pub last: ReduceOuterAxis,
 }
 
 // The next axis joins the axis so far, or follows it.
 fn fuse_next(f: Fusing, b: ReduceOuterAxis) -> Fusing
-    requires { ⌜ CleanTable (f .done) × (f .done .count < PLACES) ⌝ }
-    ensures { λ r. ⌜ r ≡ nextOf (tableAxes (f .done)) (f .last) b ⌝ }
+    requires { ⌜ f .done < PLACES ⌝ }
+    ensures { λ r. ⌜ r ≡ nextOf (f .done) (f .last) b ⌝ }
 {
     let done = f.done;
     let a = f.last;
@@ -66,49 +64,57 @@ fn fuse_next(f: Fusing, b: ReduceOuterAxis) -> Fusing
         },
         Joined::Two => Fusing {
             ok: true,
-            done: crate::axis::push(done, a),
+            done: done + 1,
             last: b,
         },
         Joined::Overflow => Fusing {
             ok: false,
-            done: crate::axis::no_axes(),
+            done: 0,
             last: crate::axis::no_axis(),
         },
     }
 }
 
-pub fn compress_reduce_outer_axes(axes: AxisTable) -> Ordered
-    requires { ⌜ CleanTable axes ⌝ }
-    ensures { λ r. ⌜ r ≡ orderedOr (fuse (tableAxes axes)) ⌝ }
+// The fused axes take the first places: each time the axis so far is put behind those that are done.
+pub fn compress_reduce_outer_axes(
+    extents: &mut [u64; PLACES],
+    steps: &mut [i64; PLACES],
+    count: usize,
+) -> Counted
+    requires { ⌜ (count ≤ PLACES) × Whole (now extents) (now steps) ⌝ }
+    ensures { λ _. ⌜ Whole (now (extents .exit)) (now (steps .exit)) ⌝ }
+    ensures { λ r. ⌜ fuse (held count (now (extents .entry)) (now (steps .entry)))
+        ≡ heldIf (r .ok) (r .count) (now (extents .exit)) (now (steps .exit)) ⌝ }
+    ensures { λ r. ⌜ r .count ≤ PLACES ⌝ }
 {
-    let count = axes.count;
-    let none = crate::axis::no_axes();
     if count == 0 {
-        return Ordered {
-            ok: true,
-            table: none,
-        };
+        return Counted { ok: true, count };
     }
-    let first = axes.places[0];
+    let first = crate::axis::axis_at(&*extents, &*steps, 0);
     let mut f = Fusing {
         ok: true,
-        done: none,
+        done: 0,
         last: first,
     };
     let mut i: usize = 1;
     while i < count {
-        let b = axes.places[i];
+        let b = crate::axis::axis_at(&*extents, &*steps, i);
         f = fuse_next(f, b);
         if !f.ok {
-            return Ordered {
+            return Counted {
                 ok: false,
-                table: none,
+                count: 0,
             };
         }
+        let done = f.done;
+        let last = f.last;
+        let step = last.source_step;
+        extents[done] = last.extent;
+        steps[done] = step;
         i += 1;
     }
-    Ordered {
+    Counted {
         ok: true,
-        table: crate::axis::push(f.done, f.last),
+        count: f.done + 1,
     }
 }

@@ -1,12 +1,14 @@
 // FullTraversal: rules L1 and L5, and the whole compile.
 ghost use mathlib.Core.Path.{_≡_};
+ghost use mathlib.Core.Bool.{true};
 ghost use mathlib.Core.List.{[], _∷_};
+ghost use Prim.Native.Nat.{_≤_};
 ghost use lib.ListN.{drop};
-ghost use Rattle.layout.specs.InnerTables.{CleanTable, tableOf, tableAxes};
-ghost use Rattle.layout.specs.Axes.{axisOf};
+ghost use Rattle.layout.specs.InnerTables.{Whole, held};
+ghost use Rattle.layout.specs.Axes.{PLACES, axisOf, placesOf};
+ghost use Rattle.layout.specs.Order.{resetsFit};
 ghost use Rattle.layout.specs.Compile.{totalOf, emptyLayout, layoutOf, compileOf};
 ghost use Rattle.layout.specs.InnerAnswers.{checkedOr};
-use crate::axis::AxisTable;
 use crate::axis::PLACES;
 use crate::axis::ReduceOuterAxis;
 use integers::CheckedU64;
@@ -62,30 +64,44 @@ pub fn empty() -> FullTraversal
     }
 }
 
-// The axes after the first.
-fn after_first(table: AxisTable) -> AxisTable
-    requires { ⌜ CleanTable table ⌝ }
-    ensures { λ r. ⌜ r ≡ tableOf (drop 1 (tableAxes table)) ⌝ }
+// The places of the outer axes: all but the first, each with its reset.
+fn outer_places(
+    extents: &[u64; PLACES],
+    steps: &[i64; PLACES],
+    count: usize,
+) -> [ReduceOuterAxis; PLACES]
+    requires { ⌜ (count ≤ PLACES) × Whole (now extents) (now steps) × (resetsFit (held count (now extents) (now steps)) ≡ true) ⌝ }
+    ensures { λ r. ⌜ r ≡ placesOf (drop 1 (held count (now (extents .entry)) (now (steps .entry)))) ⌝ }
 {
-    let mut out = crate::axis::no_axes();
-    let count = table.count;
+    let z = crate::axis::no_axis();
+    let mut places = [z; PLACES];
     let mut i: usize = 1;
     while i < count {
-        let a = table.places[i];
-        out = crate::axis::push(out, a);
+        let extent = extents[i];
+        let step = steps[i];
+        let reset = crate::axis::checked_reduce_reset(extent, step);
+        places[i - 1] = ReduceOuterAxis {
+            extent,
+            source_step: step,
+            source_reset: reset.value,
+        };
         i += 1;
     }
-    out
+    places
 }
 
 // Rule L5: the first axis is the run, the others are outer.
-fn with_run(total: u64, fused: AxisTable) -> FullTraversal
-    requires { ⌜ CleanTable fused ⌝ }
-    ensures { λ r. ⌜ r ≡ layoutOf total (tableAxes fused) ⌝ }
+fn with_run(
+    total: u64,
+    extents: &[u64; PLACES],
+    steps: &[i64; PLACES],
+    count: usize,
+) -> FullTraversal
+    requires { ⌜ (count ≤ PLACES) × Whole (now extents) (now steps) × (resetsFit (held count (now extents) (now steps)) ≡ true) ⌝ }
+    ensures { λ r. ⌜ r ≡ layoutOf total (held count (now (extents .entry)) (now (steps .entry))) ⌝ }
 {
-    let outer = after_first(fused);
-    let places = outer.places;
-    if fused.count == 0 {
+    let places = outer_places(extents, steps, count);
+    if count == 0 {
         return FullTraversal {
             total,
             run_len: 1,
@@ -94,12 +110,12 @@ fn with_run(total: u64, fused: AxisTable) -> FullTraversal
             run_axes: places,
         };
     }
-    let run = fused.places[0];
+    let run = crate::axis::axis_at(extents, steps, 0);
     FullTraversal {
         total,
         run_len: run.extent,
         run_stride: run.source_step,
-        axis_count: outer.count,
+        axis_count: count - 1,
         run_axes: places,
     }
 }
@@ -183,11 +199,17 @@ impl FullTraversal {
         if t == 0 {
             return no_elements();
         }
-        let ordered = crate::order::ordered_axes(sizes, strides);
+        let mut extents = [0u64; PLACES];
+        let mut steps = [0i64; PLACES];
+        let ordered = crate::order::ordered_axes(sizes, strides, &mut extents, &mut steps);
         if !ordered.ok {
             return refused(refusals::OFFSET_OVERFLOW);
         }
-        let fused = crate::fuse::compress_reduce_outer_axes(ordered.table);
+        let fused = crate::fuse::compress_reduce_outer_axes(
+            &mut extents,
+            &mut steps,
+            ordered.count,
+        );
         if !fused.ok {
             return refused(refusals::OFFSET_OVERFLOW);
         }
@@ -196,7 +218,7 @@ impl FullTraversal {
         }
         Compiled {
             code: 0,
-            traversal: with_run(t, fused.table),
+            traversal: with_run(t, &extents, &steps, fused.count),
         }
     }
 }

@@ -180,7 +180,7 @@ firstAxis l = getD (l .«run_axes») 0 noAxis
 module _ (l : FullTraversal) (t : Traversal l) (base : ℤ) (b : Bounded (runOf l ∷ outerOf l) base) (some-axis : 0 < l .«axis_count») where
   outer-is : outerOf l ≡ firstAxis l ∷ drop 1 (outerOf l)
   unfolding outerOf
-  outer-is = take-from (l .«run_axes») (l .«axis_count») 0 some-axis (omega (arith, t .few, t .places))
+  outer-is = take-from (l .«run_axes») (l .«axis_count») noAxis 0 some-axis (omega (arith, t .few, t .places))
 
   pub first-axis : Axis (firstAxis l)
   first-axis = axes-at (firstAxis l) (drop 1 (outerOf l)) (outerOf l) outer-is (outer-axes l t base b 0) .0

@@ -82,7 +82,7 @@ here : (c : tie.In-loop Inv-loop μ-loop) → let s = c .before .before .before 
 unfolding outerOf
 here c =
     let s = c .before .before .before .before .before .before .before .before in
-    take-from (s .args .t1 .«run_axes») (s .args .t1 .«axis_count») (c .before .loop .i) (c .loop-test .taken)
+    take-from (s .args .t1 .«run_axes») (s .args .t1 .«axis_count») noAxis (c .before .loop .i) (c .loop-test .taken)
     (omega (arith, s .pre .0 .few, s .pre .0 .places))
 
 -- its reset

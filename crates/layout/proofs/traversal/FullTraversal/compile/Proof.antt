@@ -2,7 +2,8 @@
 -- Assumes nothing.
 use Prim.Native.Nat.{ℕ}
 use mathlib.Core.List.{List, [], _∷_}
-use mathlib.Core.Path.{_≡_, sym, _∙_, ap}
+use mathlib.Core.Path.{_≡_, refl, sym, _∙_, ap}
+use mathlib.Core.Bool.{true}
 use mathlib.Core.Option.{some}
 use native.Mathlib.Omega.{arith}
 use lib.ListN.{getD}
@@ -12,9 +13,10 @@ use mir.Syntax.{w64}
 use mir.Facts.{toZ-ofZ}
 use borrow.Author.Tests.{not-true, not-false}
 use Rattle.layout.specs.declared.traversal.FullTraversal.{FullTraversal}
-use Rattle.layout.specs.InnerTables.{tableAxes}
+use Rattle.layout.specs.InnerTables.{held}
+use Rattle.layout.specs.Order.{resetsFit}
 use Rattle.layout.specs.Compile.{totalOf, layoutOf, emptyLayout, traversalOf, compileOf}
-use Rattle.layout.proofs.Compiling.{total-yes, total-no, no-elements, no-resets, ordered-in-table, no-fusing, fused-in-table, is-layout, code-1, code-2}
+use Rattle.layout.proofs.Compiling.{total-yes, total-no, no-elements, no-resets, no-fusing, is-layout, fused-fit, code-1, code-2}
 use Rattle.layout.proofs.Compiling.{code-3, code-4, code-0}
 use Rattle.layout.proofs.Line.{single}
 use borrow.Author.Needs.{needs}
@@ -35,20 +37,34 @@ counted c =
     let s = c .before .before .before .before .before .before .before in
     total-yes (s .args .sizes .now) (s .args .strides .now) _ (c .before .before .checked-total .ensures) (not-false _ (c .if4 .left))
 
--- the layout, where every check holds
-compiled : (c : tie.Else7)
-    → let t = c .before .before .before .before .before .before .before .before .before in let s = t .before .before .before .before .before in
-    traversalOf (s .args .sizes .now) (s .args .strides .now)
-    ≡ some (layoutOf (t .checked-total .result .value) (tableAxes (c .before .before .compress-reduce-outer-axes .result .table)))
+-- the place where the total is known, from the ordered axes
+abbrev axes-total : tie.After-ordered-axes → tie.Else4
+axes-total o = o .before .before .before .before
+
+some-left : (o : tie.After-ordered-axes) → axes-total o .before .before .checked-total .result .value ≡ 0 → ⊥
+some-left o = o .before .before .before .if5 .left
+
+-- the layout, where every check holds; and rule L3 holds of its axes
+compiled : (c : tie.Else7) → let f = c .before .before in let t = axes-total (f .before .before .before .before .before) in let m = t .before .before in
+    let s = m .before .before .before .before .before in
+    let xs = held (f .compress-reduce-outer-axes .result .count) (f .compress-reduce-outer-axes .last .0) (f .compress-reduce-outer-axes .last .1 .0) in
+    (traversalOf (s .args .sizes .now) (s .args .strides .now) ≡ some (layoutOf (m .checked-total .result .value) xs)) × (resetsFit xs ≡ true)
 compiled c =
     let f = c .before .before in
-    let o = f .before .before .before in
-    let t = o .before .before in
+    let k = f .before .before .before in
+    let o = k .before .before in
+    let t = axes-total o in
     let m = t .before .before in
     let s = m .before .before .before .before .before in
-    is-layout (s .args .sizes .now) (s .args .strides .now) (m .checked-total .result .value) (counted t) (o .before .if5 .left) (o .ordered-axes .result)
-    (o .ordered-axes .ensures) (not-false _ (f .before .if6 .left))
-    (f .compress-reduce-outer-axes .result) (f .compress-reduce-outer-axes .ensures) (not-false _ (c .if7 .left))
+    let q = not-false _ (k .if6 .left) in
+    let z = not-false _ (c .if7 .left) in (
+      is-layout (s .args .sizes .now) (s .args .strides .now) (m .checked-total .result .value) (counted t) (some-left o) (o .ordered-axes .result)
+          (o .ordered-axes .ensures .1 .0) q _ _ (o .ordered-axes .ensures .1 .1 q .0) (f .compress-reduce-outer-axes .result) _ _
+          (f .compress-reduce-outer-axes .ensures .1 .0) z,
+      fused-fit (s .args .sizes .now) (s .args .strides .now) (m .checked-total .result .value) (counted t) (some-left o) (o .ordered-axes .result)
+          (o .ordered-axes .ensures .1 .0) q _ _ (o .ordered-axes .ensures .1 .1 q .0) (f .compress-reduce-outer-axes .result) _ _
+          (f .compress-reduce-outer-axes .ensures .1 .0) z,
+    )
 
 refused-requires : tie.Need-refused-requires
 refused-requires c κs = search needs
@@ -115,7 +131,10 @@ returns-5 c =
     (omega (arith, c .before .if5 .taken)))
 
 ordered-axes-requires : tie.Need-ordered-axes-requires
-ordered-axes-requires c κs = search needs
+ordered-axes-requires c κs =
+    let m = c .before .before .before .before .before in
+    let e = m .before .before .before in
+    (e .if1 .left, m .before .if3 .left, (refl, refl))
 
 refused-requires-4 : tie.Need-refused-requires-4
 refused-requires-4 c κs = search needs
@@ -123,23 +142,20 @@ refused-requires-4 c κs = search needs
 returns-6 : tie.Need-returns-6
 returns-6 c =
     let o = c .before .before .before in
-    let t = o .before .before in
+    let t = axes-total o in
     let m = t .before .before in
     let e = m .before .before .before in
     let s = e .before .before in
     c .refused4 .ensures
     ∙ sym (code-3 (s .args .sizes .now) (s .args .strides .now) (e .if1 .left) (m .before .if3 .left)
-    (no-resets (s .args .sizes .now) (s .args .strides .now) (m .checked-total .result .value) (counted t) (o .before .if5 .left) (o .ordered-axes .result)
-    (o .ordered-axes .ensures) (not-true _ (c .before .if6 .taken))))
+    (no-resets (s .args .sizes .now) (s .args .strides .now) (m .checked-total .result .value) (counted t) (some-left o) (o .ordered-axes .result)
+    (o .ordered-axes .ensures .1 .0) (not-true _ (c .before .if6 .taken))))
 
 compress-reduce-outer-axes-requires : tie.Need-compress-reduce-outer-axes-requires
 compress-reduce-outer-axes-requires c κs =
-    let o = c .before .before in
-    let t = o .before .before in
-    let m = t .before .before in
-    let s = m .before .before .before .before .before in
-    ordered-in-table (s .args .sizes .now) (s .args .strides .now) (m .checked-total .result .value) (counted t) (o .before .if5 .left)
-    (o .ordered-axes .result) (o .ordered-axes .ensures) (not-false _ (c .if6 .left)) (m .before .if3 .left)
+    let k = c .before .before in
+    let o = k .before .before in
+    (o .ordered-axes .ensures .1 .1 (not-false _ (k .if6 .left)) .1, o .ordered-axes .ensures .0)
 
 refused-requires-5 : tie.Need-refused-requires-5
 refused-requires-5 c κs = search needs
@@ -147,16 +163,18 @@ refused-requires-5 c κs = search needs
 returns-7 : tie.Need-returns-7
 returns-7 c =
     let f = c .before .before .before in
-    let o = f .before .before .before in
-    let t = o .before .before in
+    let k = f .before .before .before in
+    let o = k .before .before in
+    let t = axes-total o in
     let m = t .before .before in
     let e = m .before .before .before in
     let s = e .before .before in
+    let q = not-false _ (k .if6 .left) in
     c .refused5 .ensures
     ∙ sym (code-3 (s .args .sizes .now) (s .args .strides .now) (e .if1 .left) (m .before .if3 .left)
-    (no-fusing (s .args .sizes .now) (s .args .strides .now) (m .checked-total .result .value) (counted t) (o .before .if5 .left) (o .ordered-axes .result)
-    (o .ordered-axes .ensures) (not-false _ (f .before .if6 .left))
-    (f .compress-reduce-outer-axes .result) (f .compress-reduce-outer-axes .ensures) (not-true _ (c .before .if7 .taken))))
+    (no-fusing (s .args .sizes .now) (s .args .strides .now) (m .checked-total .result .value) (counted t) (some-left o) (o .ordered-axes .result)
+    (o .ordered-axes .ensures .1 .0) q _ _ (o .ordered-axes .ensures .1 .1 q .0) (f .compress-reduce-outer-axes .result) _ _
+    (f .compress-reduce-outer-axes .ensures .1 .0) (not-true _ (c .before .if7 .taken))))
 
 refused-requires-6 : tie.Need-refused-requires-6
 refused-requires-6 c κs = search needs
@@ -164,42 +182,32 @@ refused-requires-6 c κs = search needs
 returns-8 : tie.Need-returns-8
 returns-8 c =
     let k = c .before .before in
-    let f = k .before .before in
-    let o = f .before .before .before in
-    let t = o .before .before in
+    let t = axes-total (k .before .before .before .before .before .before .before) in
     let m = t .before .before in
     let e = m .before .before .before in
     let s = e .before .before in
     c .refused6 .ensures
     ∙ sym
-    (code-4 (s .args .sizes .now) (s .args .strides .now) (e .if1 .left) (m .before .if3 .left) _ (m .checked-total .result .value) (compiled k) (counted t)
+    (code-4 (s .args .sizes .now) (s .args .strides .now) (e .if1 .left) (m .before .if3 .left) _ (m .checked-total .result .value) (compiled k .0) (counted t)
     (c .before .if8 .taken))
 
 with-run-requires : tie.Need-with-run-requires
 with-run-requires c κs =
-    let k = c .before in
+    let k = c .before .before .before in
     let f = k .before .before in
-    let o = f .before .before .before in
-    let t = o .before .before in
-    let m = t .before .before in
-    let s = m .before .before .before .before .before in
-    fused-in-table (s .args .sizes .now) (s .args .strides .now) (m .checked-total .result .value) (counted t) (o .before .if5 .left) (o .ordered-axes .result)
-    (o .ordered-axes .ensures) (not-false _ (f .before .if6 .left))
-    (f .compress-reduce-outer-axes .result) (f .compress-reduce-outer-axes .ensures) (m .before .if3 .left) (not-false _ (k .if7 .left))
+    (f .compress-reduce-outer-axes .ensures .1 .1, f .compress-reduce-outer-axes .ensures .0, compiled k .1)
 
 returns-9 : tie.Need-returns-9
 returns-9 c =
-    let k = c .before .before in
-    let f = k .before .before in
-    let o = f .before .before .before in
-    let t = o .before .before in
+    let k = c .before .before .before .before in
+    let t = axes-total (k .before .before .before .before .before .before .before) in
     let m = t .before .before in
     let e = m .before .before .before in
     let s = e .before .before in
     ap (λ (l : FullTraversal). record { code = 0; traversal = l }) (c .with-run .ensures)
     ∙ sym
-    (code-0 (s .args .sizes .now) (s .args .strides .now) (e .if1 .left) (m .before .if3 .left) _ (m .checked-total .result .value) (compiled k) (counted t)
-    (c .before .if8 .left))
+    (code-0 (s .args .sizes .now) (s .args .strides .now) (e .if1 .left) (m .before .if3 .left) _ (m .checked-total .result .value) (compiled k .0) (counted t)
+    (c .before .before .before .if8 .left))
 
 pub compile-spec : {M : Type 1} → statement M
 compile-spec =

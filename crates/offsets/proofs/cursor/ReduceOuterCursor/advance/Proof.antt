@@ -36,7 +36,7 @@ here : (c : tie.In-loop Inv-loop μ-loop) → let s = c .before .before in
     ≡ getD (s .args .t3) (c .before .loop .i) noAxis ∷ drop (c .before .loop .i + 1) (take (s .args .count) (s .args .t3))
 here c =
     let s = c .before .before in
-    take-from (s .args .t3) (s .args .count) (c .before .loop .i) (c .loop-test .taken) (omega (arith, s .pre .0, s .pre .1))
+    take-from (s .args .t3) (s .args .count) noAxis (c .before .loop .i) (c .loop-test .taken) (omega (arith, s .pre .0, s .pre .1))
 
 counted : (c : tie.In-loop Inv-loop μ-loop) → length (take (c .before .before .args .count) (c .before .before .args .t3)) ≡ c .before .before .args .count
 counted c = let s = c .before .before in length-take-le (s .args .count) (s .args .t3) (omega (arith, s .pre .0, s .pre .1))

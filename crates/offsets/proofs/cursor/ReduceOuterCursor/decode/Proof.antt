@@ -39,7 +39,7 @@ here : (c : tie.In-loop Inv-loop μ-loop) → let s = c .before .before in
     ≡ getD (s .args .t4) (c .before .loop .i) noAxis ∷ drop (c .before .loop .i + 1) (take (s .args .count) (s .args .t4))
 here c =
     let s = c .before .before in
-    take-from (s .args .t4) (s .args .count) (c .before .loop .i) (c .loop-test .taken) (omega (arith, s .pre .0, s .pre .1))
+    take-from (s .args .t4) (s .args .count) noAxis (c .before .loop .i) (c .loop-test .taken) (omega (arith, s .pre .0, s .pre .1))
 
 room : (c : tie.In-loop Inv-loop μ-loop) → c .before .loop .i < PLACES
 room c = omega (arith, c .before .before .pre .1)
