@@ -6,6 +6,7 @@ pub mod Fused
 pub mod Accepted
 pub mod Ranges
 pub mod Walking
+pub mod Skipping
 pub mod Writing
 pub mod Cases
 pub mod Theorems

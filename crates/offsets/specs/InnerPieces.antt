@@ -1,11 +1,13 @@
 -- Inner: the cursor of a range, and the piece at it.
-use Prim.Native.Nat.{ℕ, _+_, _-_, _/_, _%_, min}
+use Prim.Native.Nat.{ℕ, _+_, _-_, _*_, _/_, _%_, min}
 use mathlib.Core.Path.{_≡_}
 use mathlib.Core.Bool.{cond}
 use mathlib.Core.List.{_∷_}
 use lib.Dec.{ltb}
+use lib.ListN.{getD, set}
 use lib.IntN.{ℤ, pos, _+ℤ_, _*ℤ_}
 use Rattle.layout.specs.declared.traversal.FullTraversal.{FullTraversal}
+use Rattle.layout.specs.Axes.{noAxis}
 use Rattle.offsets.specs.declared.pieces.RangeCursor.{RangeCursor}
 use Rattle.offsets.specs.declared.pieces.RangePiece.{RangePiece}
 use Rattle.offsets.specs.InnerCursors.{Bounded, cursorAt, advanced}
@@ -23,6 +25,18 @@ pieceOf l end c =
       first = c .runs .«source_offset» +ℤ l .«run_stride» *ℤ pos (c .col);
       len = len;
       next = record { at = c .at + len; col = 0; runs = cond (ltb (c .at + len) end) (advanced (outerOf l) (c .runs)) (c .runs) };
+    }
+
+-- a cursor n runs further along the first outer axis
+unfoldable pub skipped : FullTraversal → ℕ → RangeCursor → RangeCursor
+skipped l n c =
+    record {
+      at = c .at + n * l .«run_len»;
+      col = c .col;
+      runs = record {
+        «source_offset» = c .runs .«source_offset» +ℤ (getD (l .«run_axes») 0 noAxis) .«source_step» *ℤ pos n;
+        digits = set (c .runs .digits) 0 (getD (c .runs .digits) 0 0 + n);
+      };
     }
 
 -- a cursor at some element of a layout that lies in 0 to 2^63 - 1

@@ -1,10 +1,12 @@
 // A range, cut into pieces before each element number that is a multiple of the run length.
 ghost use mathlib.Core.Path.{_≡_};
 ghost use mathlib.Core.List.{_∷_};
-ghost use Prim.Native.Nat.{_<_};
+ghost use Prim.Native.Nat.{_+_, _*_, _^_, _<_};
+ghost use lib.ListN.{getD};
+ghost use Rattle.layout.specs.Axes.{noAxis};
 ghost use Rattle.offsets.specs.InnerCursors.{Bounded, Traversal};
 ghost use Rattle.offsets.specs.Pieces.{runOf, outerOf};
-ghost use Rattle.offsets.specs.InnerPieces.{rangeAt, pieceOf, OnRange};
+ghost use Rattle.offsets.specs.InnerPieces.{rangeAt, pieceOf, skipped, OnRange};
 use crate::cursor::ReduceOuterCursor;
 use layout::traversal::FullTraversal;
 
@@ -33,6 +35,25 @@ pub fn begin(l: FullTraversal, base: i64, start: u64) -> RangeCursor
         at: start,
         col: start % n,
         runs: ReduceOuterCursor::decode(start / n, base, count, axes),
+    }
+}
+
+// The cursor n runs further along the first outer axis, within it: no digit is decoded anew.
+pub fn skip_runs(l: FullTraversal, c: RangeCursor, n: u64) -> RangeCursor
+    requires { ⌜ Traversal l × OnRange l c × (0 < l .«axis_count») × (getD (c .runs .digits) 0 0 + n < (getD (l .«run_axes») 0 noAxis) .extent)
+        × (c .at + n * l .«run_len» < 2 ^ 64) ⌝ }
+    ensures { λ r. ⌜ r ≡ skipped l n c ⌝ }
+{
+    let axes = l.run_axes;
+    let a = axes[0];
+    let at = c.at + n * l.run_len;
+    let mut runs = c.runs;
+    runs.digits[0] = runs.digits[0] + n;
+    runs.source_offset = runs.source_offset + a.source_step * (n as i64);
+    RangeCursor {
+        at,
+        col: c.col,
+        runs,
     }
 }
 

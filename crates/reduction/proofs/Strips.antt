@@ -17,19 +17,19 @@ use mir.Syntax.{w64}
 use Rattle.integers.proofs.Places.{place-first, place-next, place-later}
 use Rattle.integers.specs.Integers.{eqZ}
 use Rattle.integers.proofs.Difference.{ints, atoms}
-use Rattle.layout.specs.declared.axis.ReduceOuterAxis.{ReduceOuterAxis}
 use Rattle.layout.specs.declared.traversal.FullTraversal.{FullTraversal}
-use Rattle.layout.specs.Axes.{noAxis, axisOf}
-use Rattle.layout.proofs.Tables.{take-from}
+use Rattle.layout.specs.Axes.{axisOf}
 use Rattle.accumulator.specs.declared.StableProductFloatAcc.{StableProductFloatAcc}
 use Rattle.accumulator.specs.Joining.{combined}
 use Rattle.offsets.specs.declared.pieces.RangeCursor.{RangeCursor}
+use Rattle.offsets.specs.declared.pieces.RangePiece.{RangePiece}
 use Rattle.offsets.specs.Elements.{offset, allInside}
-use Rattle.offsets.specs.InnerCursors.{Axis, Bounded, cursorAt, Traversal}
+use Rattle.offsets.specs.InnerCursors.{Bounded, cursorAt, Traversal}
 use Rattle.offsets.specs.Pieces.{runOf, outerOf}
-use Rattle.offsets.specs.InnerPieces.{rangeAt, pieceOf}
+use Rattle.offsets.specs.InnerPieces.{rangeAt, pieceOf, skipped, OnRange}
 use Rattle.offsets.proofs.Stepping.{axes-at}
-use Rattle.offsets.proofs.Walking.{along, outer-axes, piece-len}
+use Rattle.offsets.proofs.Walking.{piece-len, piece-here}
+use Rattle.offsets.proofs.Skipping.{firstAxis, first-axis, runs-lie, first-digit, skipped-is}
 use Rattle.kernels.specs.Pieces.{Piece, worked, workedPiece}
 use Rattle.kernels.specs.InnerStrided.{strided, PlacesInside}
 use Rattle.kernels.specs.InnerStepped.{Sound}
@@ -173,32 +173,19 @@ module _ (l : FullTraversal) (t : Traversal l) (base : ℤ) (b : Bounded (runOf 
         one : (j : ℕ) → q + suc j ≡ q + 1 + j
         one j = omega arith
 
--- ---- the first outer axis
-abbrev pub firstAxis : FullTraversal → ReduceOuterAxis
-firstAxis l = getD (l .«run_axes») 0 noAxis
-
-module _ (l : FullTraversal) (t : Traversal l) (base : ℤ) (b : Bounded (runOf l ∷ outerOf l) base) (some-axis : 0 < l .«axis_count») where
-  outer-is : outerOf l ≡ firstAxis l ∷ drop 1 (outerOf l)
-  unfolding outerOf
-  outer-is = take-from (l .«run_axes») (l .«axis_count») noAxis 0 some-axis (omega (arith, t .few, t .places))
-
-  pub first-axis : Axis (firstAxis l)
-  first-axis = axes-at (firstAxis l) (drop 1 (outerOf l)) (outerOf l) outer-is (outer-axes l t base b 0) .0
-
-  -- the runs' places along it
-  pub runs-lie : (q n : ℕ) → q % firstAxis l .extent + n ≤ firstAxis l .extent → (j : ℕ) → j < n
-      → offset (outerOf l) base q +ℤ firstAxis l .«source_step» *ℤ pos j ≡ offset (outerOf l) base (q + j)
-  runs-lie q n h j k =
-      subst (λ (ys : List ReduceOuterAxis). offset ys base q +ℤ firstAxis l .«source_step» *ℤ pos j ≡ offset ys base (q + j)) (sym outer-is)
-      (sym (along (firstAxis l) (drop 1 (outerOf l)) base q (first-axis .1) j (omega arith)))
-
--- ---- how many whole runs lie ahead of an element: to the end of the axis, and of the range
-pub runs-ahead : (l : FullTraversal) → Traversal l → (at end r : ℕ) → at < end → 0 < l .«axis_count» → 0 < firstAxis l .extent → at % l .«run_len» ≡ 0
-    → r ≤ firstAxis l .extent - at / l .«run_len» % firstAxis l .extent → r ≤ (end - at) / l .«run_len»
-    → (0 < l .«axis_count») × (at % l .«run_len» ≡ 0) × (at / l .«run_len» % firstAxis l .extent + r ≤ firstAxis l .extent) × (at + r * l .«run_len» ≤ end)
-runs-ahead l t at end r h some-axis some-extent z a k =
-    let m = le-div-iff-mul-le (run-some l t) .0 k in
-    (some-axis, z, omega (arith, mod-lt (at / l .«run_len») some-extent), omega arith)
+-- ---- how many whole runs lie ahead of a cursor: to the end of the axis, and of the range
+pub runs-ahead : (l : FullTraversal) (t : Traversal l) (c : RangeCursor) (o : OnRange l c) (end r : ℕ) → c .at < end → 0 < l .«axis_count» → c .col ≡ 0
+    → r ≤ firstAxis l .extent - getD (c .runs .digits) 0 0 → r * l .«run_len» ≤ end - c .at
+    → (0 < l .«axis_count») × (c .at % l .«run_len» ≡ 0) × (c .at / l .«run_len» % firstAxis l .extent + r ≤ firstAxis l .extent)
+    × (c .at + r * l .«run_len» ≤ end)
+unfolding rangeAt
+runs-ahead l t c o end r h some-axis z a k =
+    let d = first-digit l t some-axis (o .base) (o .bounded) c (o .cursor-is) in (
+      some-axis,
+      sym (ap (λ (x : RangeCursor). x .col) (o .cursor-is)) ∙ z,
+      omega (arith, d, mod-lt (c .at / l .«run_len») (first-axis l t some-axis .1)),
+      omega arith,
+    )
 
 -- ---- n whole runs from a cursor on
 module _ (l : FullTraversal) (t : Traversal l) (base : ℤ) (b : Bounded (runOf l ∷ outerOf l) base) (values : List Float)
@@ -217,37 +204,70 @@ module _ (l : FullTraversal) (t : Traversal l) (base : ℤ) (b : Bounded (runOf 
   from-is = ap (λ (x : RangeCursor). x .runs .«source_offset») cursor-is
 
   lie : (j : ℕ) → j < n → c .runs .«source_offset» +ℤ firstAxis l .«source_step» *ℤ pos j ≡ offset (outerOf l) base (c .at / l .«run_len» + j)
-  lie j k = ap (λ (z : ℤ). z +ℤ firstAxis l .«source_step» *ℤ pos j) from-is ∙ runs-lie l t base b some-axis (c .at / l .«run_len») n left j k
+  lie j k = ap (λ (z : ℤ). z +ℤ firstAxis l .«source_step» *ℤ pos j) from-is ∙ runs-lie l t some-axis base b (c .at / l .«run_len») n left j k
 
   pub runs-inside : (j : ℕ) → j < n
       → PlacesInside (length values) (c .runs .«source_offset» +ℤ firstAxis l .«source_step» *ℤ pos j) (l .«run_stride») (l .«run_len»)
   runs-inside =
       strip-inside l t base b values w end few (firstAxis l .«source_step») n (c .at / l .«run_len») (c .runs .«source_offset») (omega (arith, ends)) lie
 
-  next-at : (d : RangeCursor) → d ≡ rangeAt l base (c .at + n * l .«run_len») → d .at ≡ c .at + n * l .«run_len»
-  unfolding rangeAt
-  next-at d e = ap (λ (x : RangeCursor). x .at) e
-
   pub reducing-strip : ((i : ℕ) → T (fits binary64 (getD values i nan))) → (start : ℕ) (acc : StableProductFloatAcc)
       → Reducing l base values start end acc c → (r : StableProductFloatAcc)
       → r ≡ strip values (firstAxis l .«source_step») (l .«run_stride») (l .«run_len») n (c .runs .«source_offset») acc
-      → (d : RangeCursor) → d ≡ rangeAt l base (c .at + n * l .«run_len») → Reducing l base values start end r d
-  reducing-strip v start acc s r g d e =
+      → (d : RangeCursor) → d .at ≡ c .at + n * l .«run_len» → (d .at < end → d ≡ rangeAt l base (d .at)) → Reducing l base values start end r d
+  reducing-strip v start acc s r g d next-at e =
       record {
-        upto = omega (arith, next-at d e);
-        cursor-is = λ k. e ∙ ap (rangeAt l base) (sym (next-at d e));
+        upto = omega arith;
+        cursor-is = e;
         small =
             subst (λ (a : StableProductFloatAcc). natAbs (a .e) ≤ 1034 * d .at) (sym g)
-            (le-trans (strip-small values v _ _ _ (run-some l t) n _ acc) (omega (arith, next-at d e, s .small)));
+            (le-trans (strip-small values v _ _ _ (run-some l t) n _ acc) (omega (arith, next-at, s .small)));
         sound =
             subst Sound (sym g)
             (strip-sound values v (firstAxis l .«source_step») (l .«run_stride») (l .«run_len») n (c .runs .«source_offset») acc (s .sound));
         rest =
             ap (λ (a : StableProductFloatAcc). foldl combined a (map workedPiece (piecesOf l base values (d .at) end))) g
             ∙ ap (λ (k : ℕ). foldl combined (strip values (firstAxis l .«source_step») (l .«run_stride») (l .«run_len») n (c .runs .«source_offset») acc)
-            (map workedPiece (piecesOf l base values k end))) (next-at d e ∙ sym ends)
+            (map workedPiece (piecesOf l base values k end))) (next-at ∙ sym ends)
             ∙ strip-joins l t base b values w end few (firstAxis l .«source_step») n (c .at / l .«run_len») (c .runs .«source_offset») acc (omega (arith, ends))
             lie
             ∙ ap (λ (k : ℕ). foldl combined acc (map workedPiece (piecesOf l base values k end))) (sym whole)
             ∙ s .rest;
       }
+
+  -- the last of the runs, and the cursor at it
+  pub last-digit : 1 ≤ n → getD (c .runs .digits) 0 0 + (n - 1) < firstAxis l .extent
+  last-digit one = omega (arith, first-digit l t some-axis base b c cursor-is)
+
+  module _ (one : 1 ≤ n) (d : RangeCursor) (e : d ≡ skipped l (n - 1) c) where
+    last-is : d ≡ rangeAt l base (c .at + (n - 1) * l .«run_len»)
+    last-is = e ∙ skipped-is l t some-axis base b c cursor-is (n - 1) (last-digit one)
+
+    last-at : d .at ≡ c .at + (n - 1) * l .«run_len»
+    unfolding rangeAt
+    last-at = ap (λ (x : RangeCursor). x .at) last-is
+
+    last-cursor-is : d ≡ rangeAt l base (d .at)
+    last-cursor-is = last-is ∙ ap (rangeAt l base) (sym last-at)
+
+    last-run : d .at + l .«run_len» ≡ c .at + n * l .«run_len»
+    last-run =
+        let m : n ≡ n - 1 + 1 = omega arith in
+        let k : n * l .«run_len» ≡ (n - 1 + 1) * l .«run_len» = ap (λ (x : ℕ). x * l .«run_len») m in
+        omega (arith, last-at)
+
+    last-column : d .at % l .«run_len» ≡ 0
+    last-column =
+        ap (λ (k : ℕ). k % l .«run_len»)
+        (let k : d .at ≡ (c .at / l .«run_len» + (n - 1)) * l .«run_len» + 0 = omega (arith, last-at, whole) in k)
+        ∙ digits-mod (c .at / l .«run_len» + (n - 1)) (run-some l t)
+
+    pub on-last : (d .at < end) × OnRange l d
+    on-last = (omega (arith, last-run, run-some l t), record { base = base; bounded = b; cursor-is = last-cursor-is })
+
+    -- behind its piece the range goes on
+    pub behind-strip : (q : RangePiece) → q ≡ pieceOf l end d
+        → (q .next .at ≡ c .at + n * l .«run_len») × (q .next .at < end → q .next ≡ rangeAt l base (q .next .at))
+    behind-strip q f =
+        let p = piece-here l t base b end d last-cursor-is (on-last .0) q f in
+        (omega (arith, p .next-at, p .len-is, last-column, last-run), p .next-cursor-is)

@@ -10,6 +10,7 @@ ghost use Rattle.layout.specs.Axes.{noAxis};
 ghost use Rattle.offsets.specs.Elements.{allInside};
 ghost use Rattle.offsets.specs.InnerCursors.{Bounded, Traversal};
 ghost use Rattle.offsets.specs.Pieces.{runOf, outerOf};
+ghost use Rattle.offsets.specs.InnerPieces.{OnRange};
 ghost use Rattle.kernels.specs.InnerStrided.{strided, PlacesInside};
 ghost use Rattle.kernels.specs.InnerStepped.{Sound};
 ghost use Rattle.kernels.specs.Pieces.{worked, joinedPieces};
@@ -20,6 +21,7 @@ ghost use Rattle.reduction.specs.Ranges.{piecesOf, reduceOf};
 use accumulator::Reduced;
 use accumulator::StableProductFloatAcc;
 use layout::traversal::FullTraversal;
+use offsets::pieces::RangeCursor;
 
 const BLOCK: usize = StableProductFloatAcc::BLOCK;
 
@@ -49,31 +51,26 @@ fn reduce_piece(values: &[f64], first: i64, stride: i64, len: usize) -> StablePr
     }
 }
 
-// A strip of fewer runs is not worth the decoding of a new cursor behind it.
-const SHORT: u64 = 4;
-
-// How many whole runs lie ahead of an element number within the range, a step of the first outer axis apart: 0 within a run, and 0 where
-// that axis is short or missing.
-fn whole_runs(l: FullTraversal, at: u64, end: u64) -> u64
-    requires { ⌜ Traversal l × (at < end) ⌝ }
-    ensures { λ r. ⌜ (0 < r → (0 < l .«axis_count») × (at % l .«run_len» ≡ 0)
-        × (at / l .«run_len» % (getD (l .«run_axes») 0 noAxis) .extent + r ≤ (getD (l .«run_axes») 0 noAxis) .extent) × (at + r * l .«run_len» ≤ end)) ⌝ }
+// How many whole runs lie ahead of a cursor within the range, a step of the first outer axis apart: 0 within a run, and 0 without outer axes.
+fn whole_runs(l: FullTraversal, c: RangeCursor, end: u64) -> u64
+    requires { ⌜ Traversal l × (c .at < end) × OnRange l c × (l .total ≤ 2 ^ 40) ⌝ }
+    ensures { λ r. ⌜ (0 < r → (0 < l .«axis_count») × (c .at % l .«run_len» ≡ 0)
+        × (c .at / l .«run_len» % (getD (l .«run_axes») 0 noAxis) .extent + r ≤ (getD (l .«run_axes») 0 noAxis) .extent)
+        × (c .at + r * l .«run_len» ≤ end)) ⌝ }
 {
     if l.axis_count == 0 {
         return 0;
     }
+    if c.col != 0 {
+        return 0;
+    }
     let axes = l.run_axes;
     let a = axes[0];
-    if a.extent < SHORT {
-        return 0;
-    }
+    let runs = c.runs;
+    let left = a.extent - runs.digits[0];
     let len = l.run_len;
-    if at % len != 0 {
-        return 0;
-    }
-    let left = a.extent - at / len % a.extent;
-    let room = (end - at) / len;
-    if left < room { left } else { room }
+    let room = end - c.at;
+    if left * len <= room { left } else { room / len }
 }
 
 // One run's product, and how many of the next runs are not tried as short pieces.
@@ -172,7 +169,7 @@ pub fn reduce_full_range(
     let mut acc = reduce_piece(values, p.first, stride, p.len as usize);
     let mut c = p.next;
     while c.at < end {
-        let n = whole_runs(l, c.at, end);
+        let n = whole_runs(l, c, end);
         if n < 2 {
             let q = offsets::pieces::next_piece(l, end, c);
             let b = reduce_piece(values, q.first, stride, q.len as usize);
@@ -184,7 +181,9 @@ pub fn reduce_full_range(
             let len = l.run_len;
             let at = c.runs.source_offset;
             acc = reduce_strip(values, at, outer.source_step, stride, len as usize, n, acc);
-            c = offsets::pieces::begin(l, base, c.at + n * len);
+            let last = offsets::pieces::skip_runs(l, c, n - 1);
+            let q = offsets::pieces::next_piece(l, end, last);
+            c = q.next;
         }
     }
     acc

@@ -20,7 +20,8 @@ use Rattle.kernels.specs.InnerStrided.{strided}
 use Rattle.kernels.specs.Pieces.{worked}
 use Rattle.reduction.specs.InnerStrips.{strip}
 use Rattle.reduction.proofs.Ranges.{PieceTaken, taken, Reducing, near, reducing-first, reducing-more, reducing-all}
-use Rattle.reduction.proofs.Strips.{run-some, firstAxis, runs-inside, reducing-strip}
+use Rattle.offsets.proofs.Skipping.{firstAxis}
+use Rattle.reduction.proofs.Strips.{run-some, runs-inside, reducing-strip, last-digit, on-last, behind-strip}
 use Rattle.reduction.proofs.full.reduce_full_range.Statement.{statement}
 use Rattle.reduction.proofs.full.reduce_full_range.Tie as tie
 
@@ -112,7 +113,7 @@ on-range c =
     record { base = s .args .base; bounded = s .pre .1; cursor-is = reducing k .cursor-is (c .if1 .taken) }
 
 whole-runs-requires : tie.Need-whole-runs-requires Inv-loop μ-loop
-whole-runs-requires c κs = (from-loop (c .before .before) .pre .0, c .if1 .taken)
+whole-runs-requires c κs = let s = from-loop (c .before .before) in (s .pre .0, c .if1 .taken, on-range c, s .pre .4)
 
 -- ---- one piece
 next-piece-requires-2 : tie.Need-next-piece-requires-2 Inv-loop μ-loop
@@ -224,23 +225,6 @@ reduce-strip-requires c κs =
       r .sound,
     )
 
-mul-begin : tie.Need-mul-begin Inv-loop μ-loop
-mul-begin c =
-    let e = c .before .before .before .before .before in
-    let s = from-loop (strip-loop e) in
-    omega (arith, ahead e .3, s .pre .3, s .pre .4)
-
-add-begin : tie.Need-add-begin Inv-loop μ-loop
-add-begin c =
-    let e = c .before .before .before .before .before .before in
-    let s = from-loop (strip-loop e) in
-    omega (arith, ahead e .3, s .pre .3, s .pre .4)
-
-begin-requires-2 : tie.Need-begin-requires-2 Inv-loop μ-loop
-begin-requires-2 c κs =
-    let t = c .before .before .before .before .before .before in
-    let s = from-loop (strip-loop t) in simp (toZ-ofZ (s .fits .base)) (s .pre .0, s .pre .1)
-
 -- the strip's product, and the cursor behind it
 strip-is : (c : tie.After-reduce-strip Inv-loop μ-loop) → let e = c .before .before .before .before .before in let k = strip-loop e in let s = from-loop k in
     c .reduce-strip .result
@@ -250,41 +234,73 @@ strip-is c =
     let t = c .before .before .before .before .before in
     simp (toZ-ofZ (at-fits t), toZ-ofZ (step-fits (c .before)), toZ-ofZ (stride-kept (strip-loop t))) at (c .reduce-strip .ensures)
 
-behind : (c : tie.After-begin2 Inv-loop μ-loop)
-    → let e = c .before .before .before .before .before .before .before in let k = strip-loop e in let s = from-loop k in
-    c .begin2 .result ≡ rangeAt (s .args .l) (s .args .base) (k .loop .c .at + e .before .whole-runs .result * s .args .l .«run_len»)
-behind c =
-    let t = c .before .before .before .before .before .before .before in
-    let s = from-loop (strip-loop t) in simp (toZ-ofZ (s .fits .base)) at (c .begin2 .ensures)
+sub-skip-runs : tie.Need-sub-skip-runs Inv-loop μ-loop
+sub-skip-runs c = let e = c .before .before .before .before .before in omega (arith, e .if2 .left)
 
-behind-at : (c : tie.After-begin2 Inv-loop μ-loop)
-    → let e = c .before .before .before .before .before .before .before in let k = strip-loop e in let s = from-loop k in
-    c .begin2 .result .at ≡ k .loop .c .at + e .before .whole-runs .result * s .args .l .«run_len»
-unfolding rangeAt
-behind-at c = ap (λ (x : RangeCursor). x .at) (behind c)
+skip-runs-requires : tie.Need-skip-runs-requires Inv-loop μ-loop
+skip-runs-requires c κs =
+    let e = c .before .before .before .before .before in
+    let k = strip-loop e in
+    let s = from-loop k in
+    let n = e .before .whole-runs .result in
+    let a = ahead e in
+    let m : (n - 1) * s .args .l .«run_len» ≤ n * s .args .l .«run_len» = mul-le-mul-right (s .args .l .«run_len») (omega arith) in (
+      s .pre .0,
+      on-range (e .before .before),
+      a .0,
+      last-digit (s .args .l) (s .pre .0) (s .args .base) (s .pre .1) (s .args .values .now) (s .pre .5) (s .args .end) (s .pre .3) (k .loop .c) (strip-cursor-is e) n
+          (a .0) (a .1) (a .2) (a .3) (omega (arith, e .if2 .left)),
+      omega (arith, m, a .3, s .pre .3, s .pre .4),
+    )
+
+next-piece-requires-3 : tie.Need-next-piece-requires-3 Inv-loop μ-loop
+next-piece-requires-3 c κs =
+    let e = c .before .before .before .before .before .before in
+    let k = strip-loop e in
+    let s = from-loop k in
+    let a = ahead e in
+    let o = on-last (s .args .l) (s .pre .0) (s .args .base) (s .pre .1) (s .args .values .now) (s .pre .5) (s .args .end) (s .pre .3) (k .loop .c)
+    (strip-cursor-is e) (e .before .whole-runs .result) (a .0) (a .1) (a .2) (a .3) (omega (arith, e .if2 .left)) (c .skip-runs .result) (c .skip-runs .ensures) in
+    (s .pre .0, o .0, o .1)
+
+-- the strip, from the piece of its last run; and the cursor behind that
+abbrev strip-from : tie.After-next-piece3 Inv-loop μ-loop → tie.Else2 Inv-loop μ-loop
+strip-from c = c .before .before .before .before .before .before .before
+
+behind : (c : tie.After-next-piece3 Inv-loop μ-loop) → let e = strip-from c in let k = strip-loop e in let s = from-loop k in let d = c .next-piece3 .result .next in
+    (d .at ≡ k .loop .c .at + e .before .whole-runs .result * s .args .l .«run_len») × (d .at < s .args .end → d ≡ rangeAt (s .args .l) (s .args .base) (d .at))
+behind c =
+    let e = strip-from c in
+    let k = strip-loop e in
+    let s = from-loop k in
+    let a = ahead e in
+    behind-strip (s .args .l) (s .pre .0) (s .args .base) (s .pre .1) (s .args .values .now) (s .pre .5) (s .args .end) (s .pre .3) (k .loop .c) (strip-cursor-is e)
+    (e .before .whole-runs .result) (a .0) (a .1) (a .2) (a .3) (omega (arith, e .if2 .left)) (c .before .skip-runs .result) (c .before .skip-runs .ensures)
+    (c .next-piece3 .result) (c .next-piece3 .ensures)
 
 loop-less-2 : tie.Need-loop-less-2 Inv-loop μ-loop
 loop-less-2 c =
-    let e = c .before .before .before .before .before .before .before in
+    let e = strip-from (c .before) in
     let k = strip-loop e in
     let s = from-loop k in
     let n = e .before .whole-runs .result in
     let len = s .args .l .«run_len» in
     let one : 1 ≤ n = omega (arith, e .if2 .left) in
     let m : 1 * len ≤ n * len = mul-le-mul-right len one in
-    omega (arith, e .before .before .if1 .taken, behind-at c, m, run-some (s .args .l) (s .pre .0))
+    omega (arith, e .before .before .if1 .taken, behind (c .before) .0, m, run-some (s .args .l) (s .pre .0))
 
 loop-again-2 : tie.Need-loop-again-2 Inv-loop μ-loop
 loop-again-2 c =
-    let r = c .before .before in
-    let e = r .before .before .before .before .before in
+    let p = c .before in
+    let r = p .before .before in
+    let e = strip-from p in
     let k = strip-loop e in
     let s = from-loop k in
     let a = ahead e in
     simp (toZ-ofZ (s .fits .base))
     (reducing-strip (s .args .l) (s .pre .0) (s .args .base) (s .pre .1) (s .args .values .now) (s .pre .5) (s .args .end) (s .pre .3) (k .loop .c)
     (strip-cursor-is e) (e .before .whole-runs .result) (a .0) (a .1) (a .2) (a .3) (values-fit k) (s .args .start) (k .loop .acc) (reducing k)
-    (r .reduce-strip .result) (strip-is r) (c .begin2 .result) (behind c))
+    (r .reduce-strip .result) (strip-is r) (p .next-piece3 .result .next) (behind p .0) (behind p .1))
 
 returns : tie.Need-returns Inv-loop μ-loop
 returns c =
@@ -309,9 +325,9 @@ reduce-full-range-spec =
     loop-again
     array-copy-out-outer
     reduce-strip-requires
-    mul-begin
-    add-begin
-    begin-requires-2
+    sub-skip-runs
+    skip-runs-requires
+    next-piece-requires-3
     loop-less-2
     loop-again-2
     returns)

@@ -1,88 +1,92 @@
 -- `reduction::full::whole_runs` meets its contract.
 -- Assumes nothing.
-use Prim.Native.Nat.{_/_, _<_}
+use Prim.Native.Nat.{_*_, _/_, _≤_, _<_, _-_}
 use native.Mathlib.Omega.{arith}
-use native.Mathlib.Nat.{mod-lt}
+use native.Mathlib.Nat.{mod-lt, mul-le-mul-right, le-of-mul-le-mul-right, div-mul-le-self}
+use lib.ListN.{getD}
+use Rattle.offsets.proofs.Skipping.{firstAxis, first-axis, first-digit, runs-fit}
+use Rattle.reduction.proofs.Strips.{run-some, runs-ahead}
 use borrow.Author.Needs.{needs}
-use Rattle.reduction.proofs.Strips.{run-some, firstAxis, runs-ahead}
 use Rattle.reduction.proofs.full.whole_runs.Statement.{statement}
 use Rattle.reduction.proofs.full.whole_runs.Tie as tie
+use Rattle.reduction.proofs.full.whole_runs.Reads as reads
+use Rattle.reduction.proofs.full.whole_runs.Lts as lts
 
--- the entry, from the axis that is long enough
-abbrev entry : tie.Else2 → tie.Start
-entry c = c .before .before .before .before .before .before
-
--- no outer axis
 returns : tie.Need-returns
 returns c = search needs
+
+returns-2 : tie.Need-returns-2
+returns-2 c = search needs
 
 array-copy-out-a : tie.Need-array-copy-out-a
 array-copy-out-a c = search needs
 
--- a short one
-returns-2 : tie.Need-returns-2
-returns-2 c = search needs
+element-copy-out-left : tie.Need-element-copy-out-left
+element-copy-out-left c = search needs
 
-rem-if3 : tie.Need-rem-if3
-rem-if3 c = let s = entry c in run-some (s .args .l) (s .pre .0)
+-- the entry, from an element that begins a run
+abbrev entry : tie.Else2 → tie.Start
+entry c = c .before .before .before .before
 
--- an element within a run
-returns-3 : tie.Need-returns-3
-returns-3 c = search needs
+abbrev else2 : tie.Else3 → tie.Else2
+else2 c = c .before .before .before .before .before .before .before
 
-div-left : tie.Need-div-left
-div-left c = rem-if3 (c .before)
+some-axis : (c : tie.Else2) → 0 < entry c .args .l .«axis_count»
+some-axis c = let n = c .before .before .if1 .left in omega arith
 
-some-extent : (c : tie.Else2) → 0 < firstAxis (entry c .args .l) .extent
-some-extent c = omega (arith, c .if2 .left)
-
-rem-left : tie.Need-rem-left
-rem-left c = some-extent (c .before .before)
+within : (c : tie.Else2) → getD (entry c .args .c .runs .digits) 0 0 < firstAxis (entry c .args .l) .extent
+within c =
+    let s = entry c in
+    omega (
+      arith,
+      first-digit (s .args .l) (s .pre .0) (some-axis c) (s .pre .2 .base) (s .pre .2 .bounded) (s .args .c) (s .pre .2 .cursor-is),
+      mod-lt (s .args .c .at / s .args .l .«run_len») (first-axis (s .args .l) (s .pre .0) (some-axis c) .1),
+    )
 
 sub-left : tie.Need-sub-left
-sub-left c =
-    let e = c .before .before .before in
-    let s = entry e in
-    omega (arith, mod-lt (s .args .at / s .args .l .«run_len») (some-extent e))
+sub-left c = omega (arith, within (c .before .before .before .before .before))
 
 sub-room : tie.Need-sub-room
 sub-room c = search needs
 
-div-room : tie.Need-div-room
-div-room c = rem-if3 (c .before .before .before)
+mul-if3 : tie.Need-mul-if3
+mul-if3 c =
+    let e = c .before .before .before .before .before .before in
+    let s = entry e in
+    let a = firstAxis (s .args .l) in
+    let m : (a .extent - getD (s .args .c .runs .digits) 0 0) * s .args .l .«run_len» ≤ a .extent * s .args .l .«run_len» = mul-le-mul-right (s .args .l .«run_len») (omega arith) in
+    omega (arith, m, runs-fit (s .args .l) (s .pre .0) (some-axis e), s .pre .3)
 
-some-axis : (c : tie.Else2) → 0 < entry c .args .l .«axis_count»
-some-axis c = omega (arith, c .before .before .before .before .if1 .left)
+div-result : tie.Need-div-result
+div-result c = let s = entry (else2 c) in run-some (s .args .l) (s .pre .0)
 
--- the axis ends first, or the range
+returns-3 : tie.Need-returns-3
+returns-3 c = λ _.
+    let e = c .before .before .before .before .before .before .before in
+    let s = entry e in
+    runs-ahead (s .args .l) (s .pre .0) (s .args .c) (s .pre .2) (s .args .end) _ (s .pre .1) (some-axis e) (e .if2 .left) (omega arith) (c .if3 .taken)
+
 returns-4 : tie.Need-returns-4
 returns-4 c = λ _.
-    let r = c .before .before .before in
-    let e = r .before in
+    let e = else2 c in
     let s = entry e in
-    runs-ahead (s .args .l) (s .pre .0) (s .args .at) (s .args .end) _ (s .pre .1) (some-axis e) (some-extent e) (r .if3 .left) (omega arith)
-    (omega (arith, c .if4 .taken))
-
-returns-5 : tie.Need-returns-5
-returns-5 c = λ _.
-    let r = c .before .before .before in
-    let e = r .before in
-    let s = entry e in
-    runs-ahead (s .args .l) (s .pre .0) (s .args .at) (s .args .end) _ (s .pre .1) (some-axis e) (some-extent e) (r .if3 .left) (c .if4 .left) (omega arith)
+    let room = s .args .end - s .args .c .at in
+    let len = s .args .l .«run_len» in
+    let d : room / len * len ≤ room = div-mul-le-self room len in
+    runs-ahead (s .args .l) (s .pre .0) (s .args .c) (s .pre .2) (s .args .end) (room / len) (s .pre .1) (some-axis e) (e .if2 .left)
+    (le-of-mul-le-mul-right (omega (arith, d, c .if3 .left)) (run-some (s .args .l) (s .pre .0))) d
 
 pub whole-runs-spec : {M : Type 1} → statement M
 whole-runs-spec =
     tie.close
     (tie.spec
     returns
-    array-copy-out-a
     returns-2
-    rem-if3
-    returns-3
-    div-left
-    rem-left
+    array-copy-out-a
+    element-copy-out-left
     sub-left
     sub-room
-    div-room
-    returns-4
-    returns-5)
+    mul-if3
+    div-result
+    returns-3
+    returns-4)
