@@ -1,20 +1,20 @@
 -- The pieces of a range: along a run the offsets are a stride apart, and the next piece begins where this one ends.
 -- Assumes nothing.
-use Prim.Native.Nat.{ℕ, _+_, _*_, _/_, _%_, _^_, _≤_, _<_}
+use Prim.Native.Nat.{ℕ, _+_, _-_, _*_, _/_, _%_, _^_, _≤_, _<_}
 use mathlib.Core.Path.{_≡_, refl, sym, _∙_, ap, subst}
-use mathlib.Core.List.{List, _∷_}
+use mathlib.Core.List.{List, [], _∷_, _++_}
 use native.Mathlib.Omega.{arith}
-use native.Mathlib.Nat.{div-add-mod', mod-lt}
+use native.Mathlib.Nat.{div-add-mod', mod-lt, zero-mod, zero-div}
 use mathlib.Core.Bool.{Bool, cond}
 use borrow.Author.Tests.{lt-ltb}
-use lib.ListN.{length-take}
+use lib.ListN.{length, replicate, length-take, replicate-append-replicate}
 use lib.Arith.{digits-div, digits-mod}
 use lib.IntN.{ℤ, pos, _+ℤ_, _*ℤ_}
 use Rattle.integers.proofs.Difference.{ints, atoms}
 use Rattle.layout.specs.declared.axis.ReduceOuterAxis.{ReduceOuterAxis}
-use Rattle.layout.specs.Axes.{axisOf}
+use Rattle.layout.specs.Axes.{PLACES, axisOf}
 use Rattle.offsets.specs.declared.cursor.ReduceOuterCursor.{ReduceOuterCursor}
-use Rattle.offsets.specs.Elements.{offset}
+use Rattle.offsets.specs.Elements.{digits, shift, offset}
 use Rattle.layout.specs.declared.traversal.FullTraversal.{FullTraversal}
 use Rattle.offsets.specs.InnerCursors.{Axis, Axes, Bounded, AtElement, cursorAt, advanced, Traversal}
 use Rattle.offsets.specs.Pieces.{runOf, outerOf, pieceLength}
@@ -46,6 +46,52 @@ module _ (a : ReduceOuterAxis) (xs : List ReduceOuterAxis) (base : ℤ) (k : ℕ
   -- the run's column, from the cursor's offset
   pub at-column : offset xs base (k / a .extent) +ℤ a .«source_step» *ℤ pos (k % a .extent) ≡ offset (a ∷ xs) base k
   at-column = sym (offset-cons a xs base k ∙ offset-moved xs base (a .«source_step» *ℤ pos (k % a .extent)) (k / a .extent))
+
+-- ---- the first element: no digit is above 0, and the offset is the base
+first-digits : (xs : List ReduceOuterAxis) → digits xs 0 ≡ replicate (length xs) 0
+unfolding digits
+first-digits [] = refl
+first-digits (a ∷ xs) =
+    ap (λ (d : ℕ). d ∷ digits xs (0 / a .extent)) (zero-mod (a .extent))
+    ∙ ap (λ (k : ℕ). 0 ∷ digits xs k) (zero-div (a .extent))
+    ∙ ap (λ (ds : List ℕ). 0 ∷ ds) (first-digits xs)
+
+first-shift : (xs : List ReduceOuterAxis) → shift xs (replicate (length xs) 0) ≡ pos 0
+unfolding shift
+first-shift [] = refl
+first-shift (a ∷ xs) = ap (λ (z : ℤ). a .«source_step» *ℤ pos 0 +ℤ z) (first-shift xs) ∙ ring (a .«source_step»)
+  where
+    ring : (s : ℤ) → s *ℤ pos 0 +ℤ pos 0 ≡ pos 0
+    ring s = simp ints (simp atoms (omega arith))
+
+pub first-element : (l : FullTraversal) → Traversal l → (base : ℤ)
+    → record { at = 0; col = 0; runs = record { «source_offset» = base; digits = replicate PLACES 0 } } ≡ rangeAt l base 0
+unfolding rangeAt cursorAt offset outerOf
+first-element l t base =
+    ap (λ (d : ℕ). record { at = 0; col = d; runs = record { «source_offset» = base; digits = replicate PLACES 0 } }) (sym (zero-mod (l .«run_len»)))
+    ∙ ap (λ (c : ReduceOuterCursor). record { at = 0; col = 0 % l .«run_len»; runs = c }) start
+    ∙ ap (λ (k : ℕ). record { at = 0; col = 0 % l .«run_len»; runs = cursorAt (outerOf l) base k }) (sym (zero-div (l .«run_len»)))
+  where
+    few : length (outerOf l) ≤ PLACES
+    few = simp length-take (omega (arith, t .few))
+
+    whole : replicate PLACES 0 ≡ digits (outerOf l) 0 ++ replicate (PLACES - length (outerOf l)) 0
+    whole =
+        let e : PLACES ≡ length (outerOf l) + (PLACES - length (outerOf l)) = omega (arith, few) in
+        ap (λ (k : ℕ). replicate k 0) e
+        ∙ sym (replicate-append-replicate (length (outerOf l)) (PLACES - length (outerOf l)) 0)
+        ∙ ap (λ (ds : List ℕ). ds ++ replicate (PLACES - length (outerOf l)) 0) (sym (first-digits (outerOf l)))
+
+    still : base ≡ base +ℤ shift (outerOf l) (digits (outerOf l) 0)
+    still = sym (ap (λ (ds : List ℕ). base +ℤ shift (outerOf l) ds) (first-digits (outerOf l)) ∙ ap (λ (z : ℤ). base +ℤ z) (first-shift (outerOf l)) ∙ ring base)
+      where
+        ring : (b : ℤ) → b +ℤ pos 0 ≡ b
+        ring b = simp ints (simp atoms (omega arith))
+
+    start : record { «source_offset» = base; digits = replicate PLACES 0 } ≡ cursorAt (outerOf l) base 0
+    start =
+        ap (λ (z : ℤ). record { «source_offset» = z; digits = replicate PLACES 0 }) still
+        ∙ ap (λ (ds : List ℕ). record { «source_offset» = base +ℤ shift (outerOf l) (digits (outerOf l) 0); digits = ds }) whole
 
 -- ---- the piece at element k
 module _ (l : FullTraversal) (t : Traversal l) (base : ℤ) (b : Bounded (runOf l ∷ outerOf l) base) (k : ℕ) where

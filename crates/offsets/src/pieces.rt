@@ -8,6 +8,7 @@ ghost use Rattle.offsets.specs.InnerCursors.{Bounded, Traversal};
 ghost use Rattle.offsets.specs.Pieces.{runOf, outerOf};
 ghost use Rattle.offsets.specs.InnerPieces.{rangeAt, pieceOf, skipped, OnRange};
 use crate::cursor::ReduceOuterCursor;
+use layout::axis::PLACES;
 use layout::traversal::FullTraversal;
 
 // An element number of a range, with its column in the run and the cursor of the run.
@@ -28,6 +29,17 @@ pub fn begin(l: FullTraversal, base: i64, start: u64) -> RangeCursor
     requires { ⌜ Traversal l × Bounded (runOf l ∷ outerOf l) base ⌝ }
     ensures { λ r. ⌜ r ≡ rangeAt l base start ⌝ }
 {
+    // At the layout's first element nothing is to be divided.
+    if start == 0 {
+        return RangeCursor {
+            at: 0,
+            col: 0,
+            runs: ReduceOuterCursor {
+                source_offset: base,
+                digits: [0u64; PLACES],
+            },
+        };
+    }
     let n = l.run_len;
     let count = l.axis_count;
     let axes = l.run_axes;
