@@ -109,7 +109,7 @@ fn middle_piece(values: &[f64], start: i64, stride: i64, len: usize) -> Short
     let v = w.m;
     let p = crate::vector::chain(Vector { v });
     let q = floats::split_f64(p);
-    let ok = crate::vector::none_below(w, least) & crate::vector::not_past(p);
+    let ok = crate::vector::not_past(p) & crate::vector::none_below(w, least);
     Short { ok, m: q.m, e: q.e }
 }
 

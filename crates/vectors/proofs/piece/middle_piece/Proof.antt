@@ -70,28 +70,28 @@ chain-requires c κs = ap (λ (w : Waiting). length (w .m)) (waited (c .before .
 split-f64-requires : tie.Need-split-f64-requires
 split-f64-requires c κs = search needs
 
-none-below-requires : tie.Need-none-below-requires
-none-below-requires c κs =
-    ap (λ (w : Waiting). length (w .least)) (waited (c .before .before .before .before)) ∙ wait-least-long _ 0 (startWaiting (replicate 8 one)) _
-
 not-past-requires : tie.Need-not-past-requires
 not-past-requires c κs = search needs
 
+none-below-requires : tie.Need-none-below-requires
+none-below-requires c κs =
+    ap (λ (w : Waiting). length (w .least)) (waited (c .before .before .before .before .before)) ∙ wait-least-long _ 0 (startWaiting (replicate 8 one)) _
+
 returns-2 : tie.Need-returns-2
 returns-2 c ok =
-    let p = c .before in
-    let b = p .before in
-    let f = b .before in
+    let b = c .before in
+    let p = b .before in
+    let f = p .before in
     let h = f .before in
     let w = h .before .before .before in
     let s = entry w in
-    let t = and-both (b .none-below .result) (p .not-past .result) ok in
+    let t = and-both (p .not-past .result) (b .none-below .result) ok in
     let fits : SFits w64 (f .split-f64 .result .e) = record { sfits = c .struct-told .given .1 .0 .1 } in
     ap (λ (z : ℤ). record { m = f .split-f64 .result .m; e = z; bad = false }) (toZ-ofZ w64 (f .split-f64 .result .e) fits)
     ∙ ap (λ (z : Split). record { m = z .m; e = z .e; bad = false }) (f .split-f64 .ensures ∙ ap split (h .chain .ensures))
     ∙ short-product true (piece s) (strided-values (s .args .values .now) (w .before .before .before .before .shared-slice-known .given) (s .args .start) (s .args .stride) (s .args .len)) (h .before .before .short-least .result)
     (subst (λ (n : ℕ). ShortLeast true n (h .before .before .short-least .result)) (sym (length-strided (s .args .values .now) (s .args .start) (s .args .stride) (s .args .len))) (h .before .before .short-least .ensures (w .before .before .before .if1 .left)))
-    (w .wait-values .result) (waited w) (sym (b .none-below .ensures) ∙ t .0) (ap notPast (sym (h .chain .ensures)) ∙ sym (p .not-past .ensures) ∙ t .1)
+    (w .wait-values .result) (waited w) (sym (b .none-below .ensures) ∙ t .1) (ap notPast (sym (h .chain .ensures)) ∙ sym (p .not-past .ensures) ∙ t .0)
 
 pub middle-piece-spec : {M : Type 1} → statement M
 middle-piece-spec =
@@ -104,6 +104,6 @@ middle-piece-spec =
     short-least-requires
     chain-requires
     split-f64-requires
-    none-below-requires
     not-past-requires
+    none-below-requires
     returns-2)
