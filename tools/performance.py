@@ -17,7 +17,7 @@ import growth
 ROOT = Path(__file__).resolve().parent.parent
 PAGE = ROOT / "docs/PERFORMANCE.md"
 
-# The ratios of the plain form, which worked value by value: 2026-11-15, in the order of the table's rows.
+# The ratios of the plain form, which worked value by value: 2026-11-15, in the order of the table's first rows.
 BEFORE = [
     *(2.11, 0.93),
     *(2.87, 1.78, 2.92, 1.56, 3.70),
@@ -40,7 +40,7 @@ def cells(table):
 
 def before(table):
     rows = cells(table)
-    if len(rows) != len(BEFORE):
+    if len(rows) < len(BEFORE):
         raise ValueError(f"the table has {len(rows)} rows with a ratio, and {len(BEFORE)} are known from before")
     out = ["| case | rates | before | now |", "|---|---|---:|---:|"]
     out += [f"| {row[0]} | {row[1]} | {ratio:.2f} | {float(row[-1]):.2f} |" for row, ratio in zip(rows, BEFORE)]

@@ -1,10 +1,12 @@
 //! Random calls to the engine and to the Rust, whose answers must be the same to the bit: the number of the
-//! refusal, the accumulator, and every place of a buffer. The offsets of each range are listed and compared too.
+//! refusal, the accumulator, and every place of a buffer. The offsets of each range are listed and compared too. Now
+//! and then comes a long piece.
 
 use crate::erased::calls::{self, Layout};
 use crate::generate::reduce::Call;
 use crate::generate::Dice;
 use crate::job;
+use crate::long;
 use crate::probe::{self, Bits, Place};
 use crate::rules;
 use std::collections::BTreeMap;
@@ -14,6 +16,9 @@ const BEFORE: Place = Place { m: -0.1, e: i64::MIN, bad: 1 };
 
 /// A piece of so many values at stride 1 has a block.
 const BLOCK: u64 = 64;
+
+/// After one call in so many comes a long piece.
+const LONG: u64 = 100;
 
 /// What is told apart in the counts.
 #[derive(Clone, Copy, Eq, Ord, PartialEq, PartialOrd)]
@@ -61,8 +66,17 @@ pub fn run(count: u64, seed: u64) -> bool {
             return false;
         }
         *counts.entry(kind).or_default() += 1;
+        if number % LONG == 0 {
+            if let Some((base, expected, found)) = long::drawn(&mut dice).difference() {
+                println!("the long piece after call {number} of seed {seed} differs, from {base}");
+                println!("the Rust gives {expected:x?}, the engine {found:x?}");
+                return false;
+            }
+        }
     }
-    println!("{count} reductions of seed {seed}, and the lists of their offsets: all answers are the same");
+    let longer = count.div_ceil(LONG);
+    println!("{count} reductions of seed {seed}, the lists of their offsets, and {longer} long pieces:");
+    println!("all answers are the same");
     for (kind, count) in counts {
         println!("{count:>9} {}", kind.text());
     }

@@ -17,12 +17,13 @@ const TURNS: u64 = 1 << 14;
 /// Draws the call of so many values.
 type Maker = fn(u64) -> Job;
 
+pub const KINDS: [(&str, Maker); 3] =
+    [("contiguous", contiguous), ("stride 2", stride_two), ("rows of 16 with a gap", rows)];
+
 /// Whether all answers were the same.
 pub fn print() -> bool {
-    let kinds: [(&str, Maker); 3] =
-        [("contiguous", contiguous), ("stride 2", stride_two), ("rows of 16 with a gap", rows)];
     println!("# nanoseconds a call, rates in {}", Rates::Keep.name());
-    kinds.iter().all(|&(name, make)| {
+    KINDS.iter().all(|&(name, make)| {
         println!("\n# {name}\n# n rust_ns engine_ns ratio");
         counts().into_iter().all(|count| print_line(count, &make(count)))
     })
@@ -39,7 +40,7 @@ fn print_line(count: u64, job: &Job) -> bool {
 }
 
 /// 1, 2, 5, 10 and so on.
-fn counts() -> Vec<u64> {
+pub fn counts() -> Vec<u64> {
     let mut out = Vec::new();
     let mut power = 1;
     while power <= MOST {

@@ -1,8 +1,8 @@
 //! The benchmark: the engine, linked from the static library `probe`, and the Rust source, in one process.
 //!
 //! `bench table` prints a row for each kind of call, `bench rare` a row for those seldom met, `bench growth` the time
-//! against the number of values, `bench compare COUNT SEED` the answers to random calls, by kind. Each ends with 1 if
-//! two answers differ.
+//! against the number of values, `bench check` the cases that take longer than the Rust, `bench compare COUNT SEED` the
+//! answers to random calls, by kind. Each ends with 1 if two answers differ, and `bench check` if a case takes longer.
 //!
 //! The Rust is the oracle's, included by its path, so that nothing is copied and both see the same source.
 
@@ -20,9 +20,11 @@ mod oracle {
     pub mod simd;
 }
 
+mod check;
 mod compare;
 mod growth;
 mod job;
+mod long;
 mod probe;
 mod rare;
 mod rates;
@@ -35,7 +37,7 @@ pub use oracle::error::{Result, StridedError};
 use oracle::{erased, generate, inline, rules, simd};
 
 fn usage() -> ! {
-    eprintln!("usage: bench table, bench rare, bench growth, or bench compare COUNT SEED");
+    eprintln!("usage: bench table, bench rare, bench growth, bench check, or bench compare COUNT SEED");
     std::process::exit(2);
 }
 
@@ -46,6 +48,7 @@ fn main() {
         ["table"] => table::print(),
         ["rare"] => rare::print(),
         ["growth"] => growth::print(),
+        ["check"] => check::print(),
         ["compare", count, seed] => match (count.parse(), seed.parse()) {
             (Ok(count), Ok(seed)) => compare::run(count, seed),
             _ => usage(),

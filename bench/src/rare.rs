@@ -7,9 +7,12 @@ use crate::table::{self, row, Row, GAP};
 const COUNT: usize = 100_000;
 const KEEP: Rates = Rates::Keep;
 
+/// The rows of the table, in lists that are drawn one after another.
+pub const LISTS: [fn() -> Vec<Row>; 5] = [contiguous, stepped, short_rows, many_axes, two_axes];
+
 /// Whether all answers were the same.
 pub fn print() -> bool {
-    table::print_rows(&[contiguous, stepped, short_rows, many_axes])
+    table::print_rows(&LISTS)
 }
 
 fn run(name: &str, stride: i64, values: Vec<f64>) -> Row {
@@ -30,13 +33,17 @@ fn contiguous() -> Vec<Row> {
 /// Every second value is read, so that about half of the blocks have their other rate.
 fn stepped() -> Vec<Row> {
     let one = |other| KEEP.with_one_a_block(2 * COUNT, other);
-    let mut last_zero = KEEP.draw(2 * COUNT);
-    last_zero[2 * COUNT - 2] = 0.0;
+    let zero_at = |number: usize| {
+        let mut values = KEEP.draw(2 * COUNT);
+        values[2 * number] = 0.0;
+        values
+    };
     vec![
         run("stride 2, 1e5, a rate a millionth in some blocks", 2, one(|rate| rate * 1e-6)),
         run("stride 2, 1e5, a rate below 2^-120 in some blocks", 2, one(|rate| rate * 2f64.powi(-130))),
         run("stride 2, 1e5, a zero in some blocks", 2, one(|_| 0.0)),
-        run("stride 2, 1e5, the last value a zero", 2, last_zero),
+        run("stride 2, 1e5, one zero in the middle", 2, zero_at(COUNT / 2 + 3)),
+        run("stride 2, 1e5, the last value a zero", 2, zero_at(COUNT - 1)),
     ]
 }
 
@@ -62,4 +69,16 @@ fn many_axes() -> Vec<Row> {
         row(&name, KEEP, &axes, &[0], KEEP.draw(3usize.pow(count)))
     };
     vec![call(2), call(4), call(8)]
+}
+
+/// Rows of eight with a gap, of which a call takes the first values: one row, and one of several.
+fn two_axes() -> Vec<Row> {
+    [1, 8, 64]
+        .into_iter()
+        .map(|count| {
+            let name = format!("a call of {count} values, 2 axes of size 8");
+            let bases: Vec<i64> = (0..64).map(|turn| turn * 128).collect();
+            table::part(&name, KEEP, &[(8, 16), (8, 1)], count, &bases, KEEP.draw(65 * 128))
+        })
+        .collect()
 }

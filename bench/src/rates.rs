@@ -11,6 +11,8 @@ pub enum Rates {
     Keep,
     /// At least 0.5, below 2: whether a lane is halved cannot be foreseen.
     Spread,
+    /// Keep rates of both signs.
+    Signed,
 }
 
 impl Rates {
@@ -18,6 +20,7 @@ impl Rates {
         match self {
             Rates::Keep => "[0.9, 1)",
             Rates::Spread => "[0.5, 2)",
+            Rates::Signed => "±[0.9, 1)",
         }
     }
 
@@ -26,6 +29,7 @@ impl Rates {
         match self {
             Rates::Keep => (0.9 + 0.1 * part).min(1.0 - f64::EPSILON),
             Rates::Spread => (1.0 + part) * dice.of(&[0.5, 1.0]),
+            Rates::Signed => (0.9 + 0.1 * part).min(1.0 - f64::EPSILON) * dice.of(&[-1.0, 1.0]),
         }
     }
 

@@ -17,14 +17,17 @@ const FROM_MEMORY: u64 = 10_000_000;
 const TURNS: i64 = 64;
 
 pub struct Row {
-    name: String,
-    rates: &'static str,
-    job: Job,
+    pub name: String,
+    pub rates: &'static str,
+    pub job: Job,
 }
+
+/// The rows of the table, in lists that are drawn one after another.
+pub const LISTS: [fn() -> Vec<Row>; 6] = [contiguous, stepped, rows_with_gaps, spoiled, calls, signed];
 
 /// Whether all answers were the same.
 pub fn print() -> bool {
-    print_rows(&[contiguous, stepped, rows_with_gaps, spoiled, calls])
+    print_rows(&LISTS)
 }
 
 /// Each list of rows is drawn only when the one before it is measured.
@@ -59,7 +62,11 @@ fn print_row(row: &Row) -> bool {
 
 /// The whole of a layout, from each of the bases by turns.
 pub fn row(name: &str, rates: Rates, axes: &[(u64, i64)], bases: &[i64], values: Vec<f64>) -> Row {
-    let count = axes.iter().map(|axis| axis.0).product();
+    part(name, rates, axes, axes.iter().map(|axis| axis.0).product(), bases, values)
+}
+
+/// The first elements of a layout, from each of the bases by turns.
+pub fn part(name: &str, rates: Rates, axes: &[(u64, i64)], count: u64, bases: &[i64], values: Vec<f64>) -> Row {
     Row { name: String::from(name), rates: rates.name(), job: Job::new(axes, count, bases.to_vec(), values) }
 }
 
@@ -105,6 +112,16 @@ fn spoiled() -> Vec<Row> {
     vec![
         row("contiguous, 1e5, one rate a block below 2^-120", keep, &[(100_000, 1)], &[0], tiny),
         row("contiguous, 1e5, one zero a block", keep, &[(100_000, 1)], &[0], zero),
+    ]
+}
+
+fn signed() -> Vec<Row> {
+    let (both, rows, pitch) = (Rates::Signed, 1_000_000 / 16, 16 + GAP);
+    let table = both.draw((rows * pitch) as usize);
+    vec![
+        row("contiguous, 1e5 (in cache)", both, &[(100_000, 1)], &[0], both.draw(100_000)),
+        row("stride 2, 1e5", both, &[(100_000, 2)], &[0, 1], both.draw(200_000)),
+        row("rows of 16 with a gap, 1e6", both, &[(rows, pitch as i64), (16, 1)], &[0], table),
     ]
 }
 
