@@ -8,7 +8,7 @@ use mathlib.Core.Option.{Option, none, some}
 use native.Mathlib.Omega.{arith}
 use native.Mathlib.Nat.{add-zero}
 use lib.Dec.{T}
-use lib.ListN.{length, take, drop, getD, set, length-append, length-set}
+use lib.ListN.{length, take, drop, getD, set, length-append}
 use lib.Seq.{take-set-le, drop-set-lt, drop-drop, getD-drop, getD-set-same}
 use lib.IntN.{ℤ, pos}
 use Rattle.integers.specs.Integers.{fitsI64, eqZ}
@@ -16,7 +16,7 @@ use Rattle.layout.specs.declared.axis.ReduceOuterAxis.{ReduceOuterAxis}
 use Rattle.layout.specs.declared.fuse.Joined.{Joined}
 use Rattle.layout.specs.declared.fuse.Joined.the-variants.{One, Two, Overflow}
 use Rattle.layout.specs.declared.fuse.Fusing.{Fusing}
-use Rattle.layout.specs.Axes.{PLACES, resetFits, axisOf}
+use Rattle.layout.specs.Axes.{resetFits, axisOf}
 use Rattle.layout.specs.InnerTables.{axesIn, held, bareAxis}
 use Rattle.layout.specs.Order.{resetsFit}
 use Rattle.layout.specs.Fuse.{reach, joinOf, fuseFrom, fuse}

@@ -1,10 +1,10 @@
 -- Runs along the first outer axis: the cursor's digit in it, and the cursor some runs further on.
 -- Assumes nothing.
-use Prim.Native.Nat.{ℕ, zero, suc, _+_, _-_, _*_, _/_, _%_, _^_, _≤_, _<_}
+use Prim.Native.Nat.{ℕ, _+_, _-_, _*_, _/_, _%_, _≤_, _<_}
 use mathlib.Core.Path.{_≡_, refl, sym, _∙_, ap, subst}
 use mathlib.Core.List.{List, [], _∷_, _++_}
 use native.Mathlib.Omega.{arith}
-use native.Mathlib.Nat.{div-add-mod', mod-lt, mul-le-mul-left, mul-le-mul, mul-assoc}
+use native.Mathlib.Nat.{div-add-mod', mod-lt, mul-le-mul-left, mul-le-mul}
 use lib.ListN.{length, drop, getD, set, replicate}
 use lib.Arith.{digits-div, digits-mod}
 use lib.IntN.{ℤ, pos, _+ℤ_, _*ℤ_}
@@ -12,14 +12,13 @@ use Rattle.layout.specs.declared.axis.ReduceOuterAxis.{ReduceOuterAxis}
 use Rattle.layout.specs.declared.traversal.FullTraversal.{FullTraversal}
 use Rattle.layout.specs.Axes.{PLACES, noAxis, axisOf}
 use Rattle.layout.proofs.Tables.{take-from}
-use Rattle.offsets.specs.declared.cursor.ReduceOuterCursor.{ReduceOuterCursor}
 use Rattle.offsets.specs.declared.pieces.RangeCursor.{RangeCursor}
 use Rattle.offsets.specs.Elements.{digits, offset}
 use Rattle.offsets.specs.InnerCursors.{Axis, Axes, Bounded, cursorAt, elements, Traversal}
 use Rattle.offsets.specs.Pieces.{runOf, outerOf}
 use Rattle.offsets.specs.InnerPieces.{rangeAt, skipped}
 use Rattle.offsets.proofs.Stepping.{axes-at, Small}
-use Rattle.offsets.proofs.Walking.{along, column-split, outer-axes, some-left, run-small}
+use Rattle.offsets.proofs.Walking.{along, column-split, some-left, run-small}
 
 -- the first outer axis
 abbrev pub firstAxis : FullTraversal → ReduceOuterAxis

@@ -5,8 +5,8 @@ use mathlib.Core.Path.{_≡_, refl, sym, _∙_, ap, subst}
 use mathlib.Core.Bool.{true}
 use mathlib.Core.List.{List, _∷_, map, foldl}
 use native.Mathlib.Omega.{arith}
-use native.Mathlib.Nat.{le-trans, mul-le-mul-right, div-add-mod', mod-lt, le-div-iff-mul-le, add-zero, sub-zero}
-use lib.ListN.{length, getD, drop}
+use native.Mathlib.Nat.{le-trans, mul-le-mul-right, div-add-mod', mod-lt, add-zero, sub-zero}
+use lib.ListN.{length, getD}
 use lib.Arith.{digits-div, digits-mod}
 use lib.IntN.{ℤ, pos, natAbs, _+ℤ_, _*ℤ_}
 use lib.Signed.{_≤ℤ_, _<ℤ_}

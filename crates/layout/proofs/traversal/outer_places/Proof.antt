@@ -1,7 +1,7 @@
 -- `layout::traversal::outer_places` meets its contract. The loop's invariant: the places hold the axes before i but for the first.
 -- Assumes nothing.
 use Prim.Native.Nat.{_≤_, _-_}
-use mathlib.Core.Path.{_≡_, sym, _∙_, ap}
+use mathlib.Core.Path.{_≡_, _∙_, ap}
 use native.Mathlib.Omega.{arith}
 use mathlib.Core.List.{List}
 use lib.ListN.{drop, getD, set}
