@@ -148,7 +148,8 @@ module _ (ns₀ : List ℕ) (ss₀ : List ℤ) (n : ℕ) (ns : List ℕ) (ss : L
   so-far : fuseFrom (held (f .done) ns ss) (axisLike (f .last)) (axisLike b ∷ rest) ≡ fuse (held n ns₀ ss₀)
   unfolding rest
   so-far =
-      ap (fuseFrom (held (f .done) ns ss) (axisLike (f .last))) (ap (λ (x : ReduceOuterAxis). x ∷ rest) next-like ∙ sym (held-from ns₀ ss₀ n i h j k)) ∙ p .fuses
+      ap (fuseFrom (held (f .done) ns ss) (axisLike (f .last))) (ap (λ (x : ReduceOuterAxis). x ∷ rest) next-like ∙ sym (held-from ns₀ ss₀ n i h j k))
+      ∙ p .fuses
 
   module _ (g : Fusing) (q : g ≡ nextOf (f .done) (f .last) b) where
     at-join : (x : Joined) → joinOf (f .last) b ≡ x → g ≡ nextFrom (f .done) b x

@@ -82,7 +82,8 @@ module _ (es : List ℕ) (ts : List ℤ) (w : Whole es ts) where
   run-first t n places z h e =
       ap (λ (l : List ReduceOuterAxis). record { total = t; «run_len» = getD es 0 0; «run_stride» = getD ts 0 (pos 0); «axis_count» = n - 1; «run_axes» = l })
       (e ∙ ap (λ (l : List ReduceOuterAxis). placesOf (drop 1 l)) first)
-      ∙ ap (λ (k : ℕ). record { total = t; «run_len» = getD es 0 0; «run_stride» = getD ts 0 (pos 0); «axis_count» = k; «run_axes» = placesOf others }) (sym counted)
+      ∙ ap (λ (k : ℕ). record { total = t; «run_len» = getD es 0 0; «run_stride» = getD ts 0 (pos 0); «axis_count» = k; «run_axes» = placesOf others })
+      (sym counted)
       ∙ ap (layoutOf t) (sym first)
     where
       others : List ReduceOuterAxis

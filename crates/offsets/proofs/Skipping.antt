@@ -59,7 +59,8 @@ module _ (l : FullTraversal) (t : Traversal l) (some-axis : 0 < l .«axis_count�
       let o : elements (outerOf l) ≡ firstAxis l .extent * elements (drop 1 (outerOf l)) = ap elements outer-is in
       let s = some-elements (drop 1 (outerOf l)) (axes-at (firstAxis l) (drop 1 (outerOf l)) (outerOf l) outer-is outer-all .1) in
       let m : firstAxis l .extent * 1 ≤ firstAxis l .extent * elements (drop 1 (outerOf l)) = mul-le-mul-left (firstAxis l .extent) s in
-      let r : l .«run_len» * (firstAxis l .extent * 1) ≤ l .«run_len» * (firstAxis l .extent * elements (drop 1 (outerOf l))) = mul-le-mul-left (l .«run_len») m in
+      let r : l .«run_len» * (firstAxis l .extent * 1) ≤ l .«run_len» * (firstAxis l .extent * elements (drop 1 (outerOf l))) = mul-le-mul-left
+      (l .«run_len») m in
       let f : l .«run_len» * elements (outerOf l) ≡ l .«run_len» * (firstAxis l .extent * elements (drop 1 (outerOf l))) = ap (λ (n : ℕ). l .«run_len» * n) o in
       omega arith
 
@@ -81,7 +82,8 @@ module _ (l : FullTraversal) (t : Traversal l) (some-axis : 0 < l .«axis_count�
         subst (λ (ys : List ReduceOuterAxis). set (digits ys q ++ zeros) 0 (getD (digits ys q ++ zeros) 0 0 + n) ≡ digits ys (q + n) ++ zeros) (sym outer-is)
         (ap (λ (ds : List ℕ). ds ++ zeros) (sym (digits-skip (firstAxis l) (drop 1 (outerOf l)) q n (first-axis .1) h)))
 
-    skip-at : (k n : ℕ) → k / l .«run_len» % firstAxis l .extent + n < firstAxis l .extent → skipped l n (rangeAt l base k) ≡ rangeAt l base (k + n * l .«run_len»)
+    skip-at : (k n : ℕ) → k / l .«run_len» % firstAxis l .extent + n < firstAxis l .extent → skipped l n (rangeAt l base k) ≡ rangeAt l base
+        (k + n * l .«run_len»)
     unfolding skipped rangeAt cursorAt zeros
     skip-at k n h =
         ap (λ (d : ℕ). record {
@@ -99,7 +101,12 @@ module _ (l : FullTraversal) (t : Traversal l) (some-axis : 0 < l .«axis_count�
           runs = record { «source_offset» = z; digits = set (digits (outerOf l) q ++ zeros) 0 (getD (digits (outerOf l) q ++ zeros) 0 0 + n) };
         })
         (runs-lie q (n + 1) (omega arith) n (omega arith))
-        ∙ ap (λ (ds : List ℕ). record { at = k + n * len; col = (k + n * len) % len; runs = record { «source_offset» = offset (outerOf l) base (q + n); digits = ds } })
+        ∙ ap (λ (ds : List ℕ). record {
+          at = k + n * len;
+          col =
+              (k + n * len) % len;
+          runs = record { «source_offset» = offset (outerOf l) base (q + n); digits = ds };
+        })
         (skip-digits q n h)
         ∙ ap (λ (r : ℕ). record { at = k + n * len; col = (k + n * len) % len; runs = cursorAt (outerOf l) base r })
         (sym (ap (λ (m : ℕ). m / len) split ∙ digits-div (q + n) (mod-lt k some)))

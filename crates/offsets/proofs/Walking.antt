@@ -83,7 +83,10 @@ first-element l t base =
         ∙ ap (λ (ds : List ℕ). ds ++ replicate (PLACES - length (outerOf l)) 0) (sym (first-digits (outerOf l)))
 
     still : base ≡ base +ℤ shift (outerOf l) (digits (outerOf l) 0)
-    still = sym (ap (λ (ds : List ℕ). base +ℤ shift (outerOf l) ds) (first-digits (outerOf l)) ∙ ap (λ (z : ℤ). base +ℤ z) (first-shift (outerOf l)) ∙ ring base)
+    still =
+        sym (ap (λ (ds : List ℕ). base +ℤ shift (outerOf l) ds) (first-digits (outerOf l))
+        ∙ ap (λ (z : ℤ). base +ℤ z) (first-shift (outerOf l))
+        ∙ ring base)
       where
         ring : (b : ℤ) → b +ℤ pos 0 ≡ b
         ring b = simp ints (simp atoms (omega arith))

@@ -36,7 +36,8 @@ from-loop c = c .before .before .before .before .before
 
 -- the tables after the step
 next : (c : tie.Else2 Inv-loop μ-loop) → let g = c .before .before in let k = g .before .before .before .before .before in let s = from-loop k in
-    Fused (s .args .extents .now) (s .args .steps .now) (s .args .count) (set (k .loop .extents) (g .fuse-next .result .done) (g .fuse-next .result .last .extent))
+    Fused (s .args .extents .now) (s .args .steps .now) (s .args .count)
+    (set (k .loop .extents) (g .fuse-next .result .done) (g .fuse-next .result .last .extent))
     (set (k .loop .steps) (g .fuse-next .result .done) (g .fuse-next .result .last .«source_step»)) (g .fuse-next .result) (k .loop .i + 1)
 next c =
     let g = c .before .before in
@@ -69,8 +70,11 @@ axis-at-requires c κs = search needs
 
 loop-holds : tie.Need-loop-holds Inv-loop μ-loop
 loop-holds c =
-    let s = c .before .before .before .before in
-    (s .pre .1, fused-first (s .args .extents .now) (s .args .steps .now) (s .args .count) _ (omega arith) (omega (arith, s .pre .0, s .pre .1 .0)) (omega (arith, s .pre .0, s .pre .1 .1)) refl (c .axis-at .ensures))
+    let s = c .before .before .before .before in (
+      s .pre .1,
+      fused-first (s .args .extents .now) (s .args .steps .now) (s .args .count) _ (omega arith) (omega (arith, s .pre .0, s .pre .1 .0))
+          (omega (arith, s .pre .0, s .pre .1 .1)) refl (c .axis-at .ensures),
+    )
 
 axis-at-requires-2 : tie.Need-axis-at-requires-2 Inv-loop μ-loop
 axis-at-requires-2 c κs = let k = c .before .before .before in omega (arith, c .before .before .loop-test .taken, from-loop k .pre .0)
@@ -89,7 +93,8 @@ returns-2 c =
       k .loop .inv .0,
       (
         fused-stop (s .args .extents .now) (s .args .steps .now) (s .args .count) (k .loop .extents) (k .loop .steps) (k .loop .f) (k .loop .i)
-            (g .before .before .before .before .loop-test .taken) (omega (arith, s .pre .0, s .pre .1 .0)) (omega (arith, s .pre .0, s .pre .1 .1)) (k .loop .inv .1) (g .before .axis-at2 .result) (g .before .axis-at2 .ensures)
+            (g .before .before .before .before .loop-test .taken) (omega (arith, s .pre .0, s .pre .1 .0)) (omega (arith, s .pre .0, s .pre .1 .1))
+            (k .loop .inv .1) (g .before .axis-at2 .result) (g .before .axis-at2 .ensures)
             (g .fuse-next .result) (g .fuse-next .ensures) (not-true _ (c .if2 .taken)),
         omega arith,
       ),
@@ -135,7 +140,8 @@ returns-3 c =
     let p = k .loop .inv .1 in (
       k .loop .inv .0,
       (
-        fused-all (s .args .extents .now) (s .args .steps .now) (s .args .count) (k .loop .extents) (k .loop .steps) (k .loop .f) (k .loop .i) (c .before .loop-test .left) p
+        fused-all (s .args .extents .now) (s .args .steps .now) (s .args .count) (k .loop .extents) (k .loop .steps) (k .loop .f) (k .loop .i)
+            (c .before .loop-test .left) p
             (omega (arith, s .pre .0, k .loop .inv .0 .0)) (omega (arith, s .pre .0, k .loop .inv .0 .1)),
         omega (arith, p .few, p .within, s .pre .0),
       ),

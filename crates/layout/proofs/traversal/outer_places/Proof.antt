@@ -75,7 +75,8 @@ loop-again c =
     let d = getD (s .args .steps .now) (k .loop .i) (pos 0) in
     let f : SFits w64 d = record { sfits = c .before .before .step .given } in
     let g : SFits w64 (c .before .checked-reduce-reset .result .value) = record { sfits = c .struct-told .given .1 .0 .1 } in
-    let h = resets-at (s .args .extents .now) (s .args .steps .now) (s .pre .1) (s .args .count) (k .loop .i) (c .before .before .before .before .loop-test .taken)
+    let h = resets-at (s .args .extents .now) (s .args .steps .now) (s .pre .1) (s .args .count) (k .loop .i)
+    (c .before .before .before .before .loop-test .taken)
     (s .pre .0) (s .pre .2) in
     let r = reset-value (c .before .checked-reduce-reset .result) n d (simp (toZ-ofZ f) at (c .before .checked-reduce-reset .ensures)) h in (
       omega arith,
@@ -91,7 +92,8 @@ returns c =
     let k = c .before in
     let s = k .before .before in
     k .loop .inv .2
-    ∙ ap placesOf (outer-all (s .args .extents .now) (s .args .steps .now) (s .pre .1) (s .args .count) (k .loop .i) (k .loop .inv .0) (k .loop .inv .1) (c .loop-test .left))
+    ∙ ap placesOf (outer-all (s .args .extents .now) (s .args .steps .now) (s .pre .1) (s .args .count) (k .loop .i) (k .loop .inv .0) (k .loop .inv .1)
+    (c .loop-test .left))
 
 pub outer-places-spec : {M : Type 1} → statement M
 outer-places-spec =

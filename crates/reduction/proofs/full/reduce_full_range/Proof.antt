@@ -248,7 +248,8 @@ skip-runs-requires c κs =
       s .pre .0,
       on-range (e .before .before),
       a .0,
-      last-digit (s .args .l) (s .pre .0) (s .args .base) (s .pre .1) (s .args .values .now) (s .pre .5) (s .args .end) (s .pre .3) (k .loop .c) (strip-cursor-is e) n
+      last-digit (s .args .l) (s .pre .0) (s .args .base) (s .pre .1) (s .args .values .now) (s .pre .5) (s .args .end) (s .pre .3) (k .loop .c)
+          (strip-cursor-is e) n
           (a .0) (a .1) (a .2) (a .3) (omega (arith, e .if2 .left)),
       omega (arith, m, a .3, s .pre .3, s .pre .4),
     )
@@ -260,21 +261,24 @@ next-piece-requires-3 c κs =
     let s = from-loop k in
     let a = ahead e in
     let o = on-last (s .args .l) (s .pre .0) (s .args .base) (s .pre .1) (s .args .values .now) (s .pre .5) (s .args .end) (s .pre .3) (k .loop .c)
-    (strip-cursor-is e) (e .before .whole-runs .result) (a .0) (a .1) (a .2) (a .3) (omega (arith, e .if2 .left)) (c .skip-runs .result) (c .skip-runs .ensures) in
+    (strip-cursor-is e) (e .before .whole-runs .result) (a .0) (a .1) (a .2) (a .3) (omega (arith, e .if2 .left)) (c .skip-runs .result)
+    (c .skip-runs .ensures) in
     (s .pre .0, o .0, o .1)
 
 -- the strip, from the piece of its last run; and the cursor behind that
 abbrev strip-from : tie.After-next-piece3 Inv-loop μ-loop → tie.Else2 Inv-loop μ-loop
 strip-from c = c .before .before .before .before .before .before .before
 
-behind : (c : tie.After-next-piece3 Inv-loop μ-loop) → let e = strip-from c in let k = strip-loop e in let s = from-loop k in let d = c .next-piece3 .result .next in
+behind : (c : tie.After-next-piece3 Inv-loop μ-loop) → let e = strip-from c in let k = strip-loop e in let s = from-loop k in
+    let d = c .next-piece3 .result .next in
     (d .at ≡ k .loop .c .at + e .before .whole-runs .result * s .args .l .«run_len») × (d .at < s .args .end → d ≡ rangeAt (s .args .l) (s .args .base) (d .at))
 behind c =
     let e = strip-from c in
     let k = strip-loop e in
     let s = from-loop k in
     let a = ahead e in
-    behind-strip (s .args .l) (s .pre .0) (s .args .base) (s .pre .1) (s .args .values .now) (s .pre .5) (s .args .end) (s .pre .3) (k .loop .c) (strip-cursor-is e)
+    behind-strip (s .args .l) (s .pre .0) (s .args .base) (s .pre .1) (s .args .values .now) (s .pre .5) (s .args .end) (s .pre .3) (k .loop .c)
+    (strip-cursor-is e)
     (e .before .whole-runs .result) (a .0) (a .1) (a .2) (a .3) (omega (arith, e .if2 .left)) (c .before .skip-runs .result) (c .before .skip-runs .ensures)
     (c .next-piece3 .result) (c .next-piece3 .ensures)
 

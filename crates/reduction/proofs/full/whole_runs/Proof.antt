@@ -54,7 +54,8 @@ mul-if3 c =
     let e = c .before .before .before .before .before .before in
     let s = entry e in
     let a = firstAxis (s .args .l) in
-    let m : (a .extent - getD (s .args .c .runs .digits) 0 0) * s .args .l .«run_len» ≤ a .extent * s .args .l .«run_len» = mul-le-mul-right (s .args .l .«run_len») (omega arith) in
+    let m : (a .extent - getD (s .args .c .runs .digits) 0 0) * s .args .l .«run_len» ≤ a .extent * s .args .l .«run_len» = mul-le-mul-right
+    (s .args .l .«run_len») (omega arith) in
     omega (arith, m, runs-fit (s .args .l) (s .pre .0) (some-axis e), s .pre .3)
 
 div-result : tie.Need-div-result
