@@ -89,7 +89,8 @@ piece-offsets a xs base (suc (suc n)) k h l =
     let m : k % a .extent + 1 < a .extent = omega arith in
     let e : offset (a ∷ xs) base k +ℤ a .«source_step» ≡ offset (a ∷ xs) base (suc k) =
     sym (ap (λ (j : ℕ). offset (a ∷ xs) base j) (sym (add-one k)) ∙ along a xs base k h 1 m ∙ one (offset (a ∷ xs) base k) (a .«source_step»)) in
-    let d : suc k % a .extent ≡ k % a .extent + 1 = ap (λ (j : ℕ). j % a .extent) (sym (add-one k) ∙ column-split a xs base k h 1) ∙ digits-mod (k / a .extent) m in
+    let d : suc k % a .extent ≡ k % a .extent + 1 =
+    ap (λ (j : ℕ). j % a .extent) (sym (add-one k) ∙ column-split a xs base k h 1) ∙ digits-mod (k / a .extent) m in
     ap (λ (z : ℤ). offset (a ∷ xs) base k ∷ steps z (a .«source_step») (suc n)) e
     ∙ ap (λ (l : List ℤ). offset (a ∷ xs) base k ∷ l) (piece-offsets a xs base (suc n) (suc k) h (omega arith))
   where

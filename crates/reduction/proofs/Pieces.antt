@@ -27,7 +27,8 @@ use Rattle.kernels.proofs.Striding.{strided-values}
 use Rattle.reduction.specs.Ranges.{valueAt, pieceAt, piecesFrom, piecesOf}
 
 -- an accumulator whose fields are handed on one by one
-pub handed : (a : StableProductFloatAcc) → SFits w64 (a .e) → _≡_ {A = StableProductFloatAcc} (record { m = a .m; e = toZ w64 (ofZ w64 (a .e)); bad = a .bad }) a
+pub handed : (a : StableProductFloatAcc) → SFits w64 (a .e)
+    → _≡_ {A = StableProductFloatAcc} (record { m = a .m; e = toZ w64 (ofZ w64 (a .e)); bad = a .bad }) a
 handed a h = ap (λ (z : ℤ). record { m = a .m; e = z; bad = a .bad }) (toZ-ofZ w64 (a .e) h)
 
 -- ---- the list of pieces

@@ -48,7 +48,8 @@ module _ (s : Lanes) (fs : List Factor) (H : LanesRepresent zeros s fs) where
   chain-represents = upto 8 (le-refl 8)
 
 -- ---- lanes that wait, each at most B deep and with the exponent 0
-module _ (B : ℕ) (room : 8 * B ≤ 1022) (ms : List Float) (fs : List Factor) (es : List ℤ) (none : (k : ℕ) → getD es k (pos 0) ≡ pos 0) (W : WaitLanes (λ (k : ℕ). B) ms es fs) where
+module _ (B : ℕ) (room : 8 * B ≤ 1022) (ms : List Float) (fs : List Factor) (es : List ℤ) (none : (k : ℕ) → getD es k (pos 0) ≡ pos 0)
+    (W : WaitLanes (λ (k : ℕ). B) ms es fs) where
   deep-room : (n : ℕ) → n < 8 → B * n + B ≤ 1022
   deep-room n h = le-trans (le-of-eq (let e : B * n + B ≡ B * suc n = omega arith in e)) (le-trans (mul-le-mul-left B h) (omega arith))
 

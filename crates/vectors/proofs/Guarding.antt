@@ -32,13 +32,16 @@ module _ (signs : Bool) (k n : ℕ) (few : k ≤ 510) (room : suc k * n ≤ 1022
   pub outcome : (fs : List Factor) → LanesRepresent zeros s fs → Out (suc k) (0 + length xs) (feed (waitStep signs) 0 w xs .m) (s .e) (plainAfter fs xs)
   unfolding waitStep
   outcome fs H =
-      fed-out (waitStep signs) (λ (w : Waiting). w .m) (λ (w : Waiting). s .e) (λ i w x. refl) (λ i w x. refl) signs k n few room 0 w fs guarded-all (omega (arith, short))
+      fed-out (waitStep signs) (λ (w : Waiting). w .m) (λ (w : Waiting). s .e) (λ i w x. refl) (λ i w x. refl) signs k n few room 0 w fs guarded-all
+      (omega (arith, short))
       (inl (subst (λ (ms : List Float). WaitLanes (depth (suc k) 0) ms (s .e) fs) (sym same) (lanes-wait (depth (suc k) 0) s fs H)))
 
   -- no value is bad, or one is lost
   pub outcome-good : length (s .m) ≡ 8 → Each GoodRate xs ⊎ LostLane (feed (waitStep signs) 0 w xs .m)
   unfolding waitStep
-  outcome-good l = fed-good (waitStep signs) (λ (w : Waiting). w .m) (λ (w : Waiting). s .e) (λ i w x. refl) (λ i w x. refl) signs k n few room 0 w (ap length same ∙ l) guarded-all
+  outcome-good l =
+      fed-good (waitStep signs) (λ (w : Waiting). w .m) (λ (w : Waiting). s .e) (λ i w x. refl) (λ i w x. refl) signs k n few room 0 w (ap length same ∙ l)
+      guarded-all
 
   -- brought back, they are what the values make of the lanes
   abbrev kept : Lanes

@@ -85,7 +85,8 @@ module _ (signs : Bool) (k n : ℕ) (few : k ≤ 510) (room : 8 * (suc k * n) �
       → notPast p ≡ true → ShortLanes
   unfolding fs pieceProduct
   short-contiguous b m =
-      go (outcome signs k n few lane-room startLanes (startWaiting (replicate 8 one)) (padded xs) values padded-long refl refl b (replicate 8 (unit 52)) represent-start)
+      go (outcome signs k n few lane-room startLanes (startWaiting (replicate 8 one)) (padded xs) values padded-long refl refl b (replicate 8 (unit 52))
+      represent-start)
       (outcome-good signs k n few lane-room startLanes (startWaiting (replicate 8 one)) (padded xs) values padded-long refl refl b refl)
     where
       deep : ℕ
@@ -122,13 +123,15 @@ module _ (signs : Bool) (k n : ℕ) (few : k ≤ 510) (room : 8 * (suc k * n) �
 -- ---- by the number of values
 module _ (signs : Bool) (xs : List Float) (v : Each Value xs) (least : Float) (L : ShortLeast signs (length xs) least) (w : Waiting)
     (waited : w ≡ feed (waitStep signs) 0 (startWaiting (replicate 8 one)) (padded xs)) where
-  by-depth : (d : ℕ) → 1 ≤ d → d ≤ 120 → d * ((length xs + 7) / 8) ≤ 120 → every (notBelow (leastOf signs d)) (w .least) ≡ true → notPast (chained (w .m)) ≡ true
-      → let q = split (chained (w .m)) in _≡_ {A = StableProductFloatAcc} (record { m = q .m; e = q .e; bad = false }) (contiguous xs)
+  by-depth : (d : ℕ) → 1 ≤ d → d ≤ 120 → d * ((length xs + 7) / 8) ≤ 120 → every (notBelow (leastOf signs d)) (w .least) ≡ true
+      → notPast (chained (w .m)) ≡ true → let q = split (chained (w .m)) in
+      _≡_ {A = StableProductFloatAcc} (record { m = q .m; e = q .e; bad = false }) (contiguous xs)
   by-depth zero some few room b p = absurd (omega arith)
   by-depth (suc k) some few room b p =
       ap (λ (u : Waiting). let q = split (chained (u .m)) in record { m = q .m; e = q .e; bad = false }) waited
       ∙ short-contiguous signs k ((length xs + 7) / 8) (omega arith) (eight (suc k * ((length xs + 7) / 8)) room) xs v (omega arith)
-      (ap (λ (u : Waiting). every (notBelow (leastOf signs (suc k))) (u .least)) (sym waited) ∙ b) (ap (λ (u : Waiting). notPast (chained (u .m))) (sym waited) ∙ p)
+      (ap (λ (u : Waiting). every (notBelow (leastOf signs (suc k))) (u .least)) (sym waited) ∙ b)
+      (ap (λ (u : Waiting). notPast (chained (u .m))) (sym waited) ∙ p)
     where
       eight : (m : ℕ) → m ≤ 120 → 8 * m ≤ 1022
       eight m h = omega arith

@@ -93,7 +93,9 @@ module _ {S : Type 0} (step : ℕ → S → Float → S) (again : (i : ℕ) (s :
 pub wait-again : (signs : Bool) (i : ℕ) (w : Waiting) (x : Float) → waitStep signs (i + 8) w x ≡ waitStep signs i w x
 unfolding waitStep
 wait-again signs i w x =
-    ap (λ (k : ℕ). record { m = set (w .m) k (productOf 11 52 (getD (w .m) k nan) x); least = set (w .least) k (lesser (measure signs x) (getD (w .least) k nan)) })
+    ap
+    (λ (k : ℕ).
+    record { m = set (w .m) k (productOf 11 52 (getD (w .m) k nan) x); least = set (w .least) k (lesser (measure signs x) (getD (w .least) k nan)) })
     (lane-again i)
 
 pub wait-m-long : (signs : Bool) (i : ℕ) (w : Waiting) (xs : List Float) → length (feed (waitStep signs) i w xs .m) ≡ length (w .m)
@@ -190,8 +192,8 @@ module _ (s : Lanes) (h : SmallLanes (2 ^ 56) s) (z : ℤ) (p : Split) (q : Floa
   pub product-fits : SFits w64 (toZ w64 (ofZ w64 z) +ℤ toZ w64 (ofZ w64 (p .e)))
   product-fits = sum-fits z (p .e) sum-small split-within
 
-  pub lanes-product-is : _≡_ {A = StableProductFloatAcc} (record { m = p .m; e = toZ w64 (ofZ w64 (toZ w64 (ofZ w64 z) +ℤ toZ w64 (ofZ w64 (p .e)))); bad = s .bad })
-      (lanesProduct s)
+  pub lanes-product-is : _≡_ {A = StableProductFloatAcc}
+      (record { m = p .m; e = toZ w64 (ofZ w64 (toZ w64 (ofZ w64 z) +ℤ toZ w64 (ofZ w64 (p .e)))); bad = s .bad }) (lanesProduct s)
   unfolding lanesProduct
   lanes-product-is =
       ap (λ (v : ℤ). record { m = p .m; e = v; bad = s .bad }) (sum-exact z (p .e) sum-small split-within)

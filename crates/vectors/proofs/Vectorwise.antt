@@ -22,7 +22,8 @@ use Rattle.kernels.specs.InnerStrided.{strided, PlacesInside}
 use Rattle.kernels.proofs.Feeding.{feed-append}
 use Rattle.kernels.proofs.Striding.{length-strided, first-natural, first-below, strided-append, inside-part}
 use Rattle.vectors.specs.declared.vector.Waiting.{Waiting}
-use Rattle.vectors.specs.InnerWaiting.{vectorOf, put, lesser, measure, waitStep, leastOf, MOST, notBelow, notPast, guarded, square, squareAt, leastSquare, notLow}
+use Rattle.vectors.specs.InnerWaiting.{vectorOf, put, lesser, measure, waitStep, leastOf, notBelow, MOST, notPast, guarded}
+use Rattle.vectors.specs.InnerWaiting.{square, squareAt, leastSquare, notLow}
 
 module _ (len : ℕ) (s t : ℤ) (n : ℕ) (h : PlacesInside len s t n) (a : ℕ) (l : a < n) (m : len < 2 ^ 63) where
   -- a place, in i64
@@ -95,7 +96,9 @@ wait-lane signs w k x y h e =
     ap (λ (z : Float). record { m = set (w .m) k (mul binary64 (getD (w .m) k nan) x); least = set (w .least) k z }) e
     ∙ ap (λ (z : Float). record { m = set (w .m) k z; least = set (w .least) k (lesser (measure signs x) (getD (w .least) k nan)) })
     (mul-binary64 (getD (w .m) k nan) x)
-    ∙ ap (λ (j : ℕ). record { m = set (w .m) j (productOf 11 52 (getD (w .m) j nan) x); least = set (w .least) j (lesser (measure signs x) (getD (w .least) j nan)) })
+    ∙ ap
+    (λ (j : ℕ).
+    record { m = set (w .m) j (productOf 11 52 (getD (w .m) j nan) x); least = set (w .least) j (lesser (measure signs x) (getD (w .least) j nan)) })
     (sym (mod-eq-of-lt h))
 
 -- ---- a vector of one value more

@@ -96,7 +96,8 @@ module _ (c n : ℕ) (room : c * n ≤ 1022) where
   -- a value y with an exponent d that wait for a factor g: lane i mod 8 then waits for its product with g, or is lost
   pub value-out : (i : ℕ) (ms : List Float) (es : List ℤ) (fs : List Factor) (y : Float) (d : ℤ) (g : Factor) → i < 8 * n → Waits c y d g
       → WaitLanes (depth c i) ms es fs
-      → Out c (suc i) (set ms (laneOf i) (productOf 11 52 (getD ms (laneOf i) nan) y)) (set es (laneOf i) (getD es (laneOf i) (pos 0) +ℤ d)) (laneTimes 52 i fs g)
+      → Out c (suc i) (set ms (laneOf i) (productOf 11 52 (getD ms (laneOf i) nan) y)) (set es (laneOf i) (getD es (laneOf i) (pos 0) +ℤ d))
+      (laneTimes 52 i fs g)
   value-out i ms es fs y d g l G h =
       go
       (waits-times (depth c i j) c (getD ms j nan) y (getD es j (pos 0)) d (getD fs j (unit 52)) g (h .at j (lane-lt i)) G (turn-small c n i room l))
@@ -110,7 +111,8 @@ module _ (c n : ℕ) (room : c * n ≤ 1022) where
       f : Factor
       f = times 52 (getD fs j (unit 52)) g
 
-      go : Waits (depth c i j + c) p (getD es j (pos 0) +ℤ d) f ⊎ (isLost p ≡ true) → Out c (suc i) (set ms j p) (set es j (getD es j (pos 0) +ℤ d)) (set fs j f)
+      go : Waits (depth c i j + c) p (getD es j (pos 0) +ℤ d) f ⊎ (isLost p ≡ true)
+          → Out c (suc i) (set ms j p) (set es j (getD es j (pos 0) +ℤ d)) (set fs j f)
       go (inl W) = inl (lanes-turn Waits waits-more ms es fs c i p (getD es j (pos 0) +ℤ d) f h W)
       go (inr e) = inr (lost-here ms j (lane-lt i) p (h .m-long) e)
 
@@ -161,7 +163,8 @@ module _ {S : Type 0} (step : ℕ → S → Float → S) (m : S → List Float) 
         go (inl p) =
             subst (λ (es : List ℤ). Out (suc k) (suc i) (m (step i s x)) es (laneTimes 52 i fs (rateFactor x))) (sym (e-is i s x))
             (subst (λ (ms : List Float). Out (suc k) (suc i) ms (e s) (laneTimes 52 i fs (rateFactor x))) (sym (m-is i s x))
-            (subst (λ (es : List ℤ). Out (suc k) (suc i) (set (m s) (laneOf i) (productOf 11 52 (getD (m s) (laneOf i) nan) x)) es (laneTimes 52 i fs (rateFactor x)))
+            (subst
+            (λ (es : List ℤ). Out (suc k) (suc i) (set (m s) (laneOf i) (productOf 11 52 (getD (m s) (laneOf i) nan) x)) es (laneTimes 52 i fs (rateFactor x)))
             (exponents-same (e s) (laneOf i)) (value-out (suc k) n room i (m s) (e s) fs x (pos 0) (rateFactor x) l (p .1) h)))
 
     pub fed-out : (i : ℕ) (s : S) (fs : List Factor) {xs : List Float} → Each (Guarded signs k) xs → i + length xs ≤ 8 * n → Out (suc k) i (m s) (e s) fs

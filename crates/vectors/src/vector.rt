@@ -9,7 +9,8 @@ ghost use Rattle.kernels.specs.Lanes.{feed, every};
 ghost use Rattle.kernels.specs.InnerLanes.{window, SmallLanes};
 ghost use Rattle.kernels.specs.InnerStrided.{strided, PlacesInside};
 ghost use Rattle.kernels.specs.Blocks.{unsplitStep, splitStep};
-ghost use Rattle.vectors.specs.InnerWaiting.{vectorOf, lesser, square, measure, waitStep, leastOf, notBelow, notPast, chained, leastSquare, notLow, guarded};
+ghost use Rattle.vectors.specs.InnerWaiting.{vectorOf, lesser, square, measure, waitStep, leastOf, notBelow, notPast, chained};
+ghost use Rattle.vectors.specs.InnerWaiting.{leastSquare, notLow, guarded};
 use accumulator::StableProductFloatAcc;
 use kernels::lanes::Lanes;
 

@@ -92,13 +92,15 @@ add-at c =
 -- the vector is in
 more : (c : tie.After-wait-vector Inv-loop μ-loop)
     → let t = c .before .before .before in
-    c .wait-vector .result ≡ feed (waitStep (entry t .args .signs)) 0 (entry t .args .w) (strided (entry t .args .values .now) (first t) (apart t) (8 * (t .loop .i + 1)))
+    c .wait-vector .result
+    ≡ feed (waitStep (entry t .args .signs)) 0 (entry t .args .w) (strided (entry t .args .values .now) (first t) (apart t) (8 * (t .loop .i + 1)))
 more c =
     let q = c .before .before in
     let t = q .before in
     let s = entry t in
     let xs = s .args .values .now in
-    vectors-more (waitStep (s .args .signs)) (wait-again (s .args .signs)) (s .args .w) (t .loop .t) (c .wait-vector .result) xs (first t) (apart t) (t .loop .i) (t .loop .inv .1)
+    vectors-more (waitStep (s .args .signs)) (wait-again (s .args .signs)) (s .args .w) (t .loop .t) (c .wait-vector .result) xs (first t) (apart t)
+    (t .loop .i) (t .loop .inv .1)
     (c .wait-vector .ensures
     ∙ ap (feed (waitStep (s .args .signs)) 0 (t .loop .t)) (c .before .vector-of .ensures ∙ vector-whole xs (toZ w64 (t .loop .at)) (apart t))
     ∙ ap (λ (z : ℤ). feed (waitStep (s .args .signs)) 0 (t .loop .t) (strided xs z (apart t) 8)) (t .loop .inv .2 (q .loop-test .taken)))

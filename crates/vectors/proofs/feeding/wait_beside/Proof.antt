@@ -56,7 +56,8 @@ loop-again c =
     let h = s .pre .2 in
     let l = c .before .before .loop-test .taken in (
       omega arith,
-      vectors-beside (waitStep (s .args .signs)) (wait-again (s .args .signs)) (s .args .w) (t .loop .t) (c .wait-vector .result) (s .args .values .now) (s .args .at) (t .loop .i) (omega arith)
+      vectors-beside (waitStep (s .args .signs)) (wait-again (s .args .signs)) (s .args .w) (t .loop .t) (c .wait-vector .result) (s .args .values .now)
+          (s .args .at) (t .loop .i) (omega arith)
           (t .loop .inv .1)
           (c .wait-vector .ensures ∙ ap (feed (waitStep (s .args .signs)) 0 (t .loop .t)) (c .before .vector-at .ensures)),
     )

@@ -17,7 +17,9 @@ returns : tie.Need-returns
 unfolding feed strided
 returns c =
     let s = c .before .before in
-    sym (ap (λ (n : ℕ). feed (waitStep (s .args .signs)) 0 (s .args .w) (strided (s .args .values .now) (s .args .start) (s .args .stride) (8 * n))) (c .if1 .taken))
+    sym
+    (ap (λ (n : ℕ). feed (waitStep (s .args .signs)) 0 (s .args .w) (strided (s .args .values .now) (s .args .start) (s .args .stride) (8 * n)))
+    (c .if1 .taken))
 
 -- at stride 1 the vectors lie side by side
 abbrev entry : tie.Then2 → tie.Start

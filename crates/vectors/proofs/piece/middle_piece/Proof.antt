@@ -83,14 +83,18 @@ returns-2 c ok =
     let p = b .before in
     let f = p .before in
     let h = f .before in
-    let w = h .before .before .before in
+    let l = h .before .before in
+    let w = l .before in
+    let e = w .before .before .before in
     let s = entry w in
     let t = and-both (p .not-past .result) (b .none-below .result) ok in
     let fits : SFits w64 (f .split-f64 .result .e) = record { sfits = c .struct-told .given .1 .0 .1 } in
     ap (λ (z : ℤ). record { m = f .split-f64 .result .m; e = z; bad = false }) (toZ-ofZ w64 (f .split-f64 .result .e) fits)
     ∙ ap (λ (z : Split). record { m = z .m; e = z .e; bad = false }) (f .split-f64 .ensures ∙ ap split (h .chain .ensures))
-    ∙ short-product true (piece s) (strided-values (s .args .values .now) (w .before .before .before .before .shared-slice-known .given) (s .args .start) (s .args .stride) (s .args .len)) (h .before .before .short-least .result)
-    (subst (λ (n : ℕ). ShortLeast true n (h .before .before .short-least .result)) (sym (length-strided (s .args .values .now) (s .args .start) (s .args .stride) (s .args .len))) (h .before .before .short-least .ensures (w .before .before .before .if1 .left)))
+    ∙ short-product true (piece s)
+    (strided-values (s .args .values .now) (e .before .shared-slice-known .given) (s .args .start) (s .args .stride) (s .args .len)) (l .short-least .result)
+    (subst (λ (n : ℕ). ShortLeast true n (l .short-least .result))
+    (sym (length-strided (s .args .values .now) (s .args .start) (s .args .stride) (s .args .len))) (l .short-least .ensures (e .if1 .left)))
     (w .wait-values .result) (waited w) (sym (b .none-below .ensures) ∙ t .1) (ap notPast (sym (h .chain .ensures)) ∙ sym (p .not-past .ensures) ∙ t .0)
 
 pub middle-piece-spec : {M : Type 1} → statement M

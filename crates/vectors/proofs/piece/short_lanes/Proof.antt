@@ -131,7 +131,8 @@ vectors c =
     let l = c .loop-test .left in
     t .loop .inv .1
     ∙ ap (λ (z : ℤ). feed (waitStep false) 0 begun (strided (s .args .values .now) z (pos 1) (8 * t .loop .i))) (exact s)
-    ∙ ap (λ (n : ℕ). feed (waitStep false) 0 begun (strided (s .args .values .now) (s .args .start) (pos 1) (8 * n))) (let e : t .loop .i ≡ s .args .len / 8 = omega arith in e)
+    ∙ ap (λ (n : ℕ). feed (waitStep false) 0 begun (strided (s .args .values .now) (s .args .start) (pos 1) (8 * n)))
+    (let e : t .loop .i ≡ s .args .len / 8 = omega arith in e)
 
 returns : tie.Need-returns Inv-loop μ-loop
 returns c =

@@ -63,7 +63,8 @@ returns c ok =
     let fits : SFits w64 (f .split-f64 .result .e) = record { sfits = c .struct-told .given .1 .0 .1 } in
     ap (λ (z : ℤ). record { m = f .split-f64 .result .m; e = z; bad = false }) (toZ-ofZ w64 (f .split-f64 .result .e) fits)
     ∙ ap (λ (z : Split). record { m = z .m; e = z .e; bad = false }) (f .split-f64 .ensures ∙ ap split (h .chain .ensures))
-    ∙ short-product false (piece s) (strided-values (s .args .values .now) (w .before .shared-slice-known .given) (s .args .start) (pos 1) (s .args .len)) (s .args .least)
+    ∙ short-product false (piece s) (strided-values (s .args .values .now) (w .before .shared-slice-known .given) (s .args .start) (pos 1) (s .args .len))
+    (s .args .least)
     (subst (λ (n : ℕ). ShortLeast false n (s .args .least)) (sym (length-strided (s .args .values .now) (s .args .start) (pos 1) (s .args .len))) (s .pre .3))
     (w .short-lanes .result) (waited w) (sym (b .none-below .ensures) ∙ t .0) (ap notPast (sym (h .chain .ensures)) ∙ sym (p .not-past .ensures) ∙ t .1)
 

@@ -43,7 +43,8 @@ returns c =
     let k = r .before in
     let s = k .before in
     let fits : SFits w64 (r .middle-piece .result .e) = record { sfits = c .struct-told .given .1 .1 .0 .1 } in
-    let e = simp (toZ-ofZ w64 (s .args .start) (s .fits .start), toZ-ofZ w64 (s .args .stride) (s .fits .stride)) at (r .middle-piece .ensures (t .if1 .taken)) in
+    let e =
+    simp (toZ-ofZ w64 (s .args .start) (s .fits .start), toZ-ofZ w64 (s .args .stride) (s .fits .stride)) at (r .middle-piece .ensures (t .if1 .taken)) in
     ap (λ (z : ℤ). record { m = r .middle-piece .result .m; e = z; bad = false }) (toZ-ofZ w64 (r .middle-piece .result .e) fits)
     ∙ e
     ∙ unmarked-worked (s .args .in-blocks) (piece s) (values k) (ap (λ (a : StableProductFloatAcc). a .bad) (sym e))

@@ -42,7 +42,8 @@ field-of : (c : tie.Joined1) → let s = c .before in Field (s .args .signs) (s 
 field-of c = ⊎-elim (λ p. inl (p .0 .taken, p .1)) (λ p. inr (p .0 .left, p .1)) (c .if1 .came)
 
 is : (c : tie.Joined1) → let s = c .before in
-    (ofBits binary64 (c .if1 .field * 2 ^ 52 % 2 ^ 64) ≡ leastOf (s .args .signs) (s .args .depth)) × T (not (nanBits binary64 (c .if1 .field * 2 ^ 52 % 2 ^ 64)))
+    (ofBits binary64 (c .if1 .field * 2 ^ 52 % 2 ^ 64) ≡ leastOf (s .args .signs) (s .args .depth))
+    × T (not (nanBits binary64 (c .if1 .field * 2 ^ 52 % 2 ^ 64)))
 is c = let s = c .before in pattern (s .args .signs) (s .args .depth) (c .if1 .field) (s .pre .0) (s .pre .1) (field-of c)
 
 float-from-bits-result : tie.Need-float-from-bits-result

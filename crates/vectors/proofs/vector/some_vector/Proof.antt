@@ -72,7 +72,8 @@ returns-3 c =
     let s = l .before .before .before in
     let h = l .if3 .left in
     simp (toZ-ofZ w64 (s .args .at) (s .fits .at), toZ-ofZ w64 (s .args .stride) (s .fits .stride)) at (c .vector-of2 .ensures)
-    ∙ ap (λ (n : ℕ). vectorOf (strided (s .args .values .now) (s .args .at) (s .args .stride) n)) (let e : s .args .left ≡ min 8 (s .args .left) = omega arith in e)
+    ∙ ap (λ (n : ℕ). vectorOf (strided (s .args .values .now) (s .args .at) (s .args .stride) n))
+    (let e : s .args .left ≡ min 8 (s .args .left) = omega arith in e)
 
 pub some-vector-spec : {M : Type 1} → statement M
 some-vector-spec =

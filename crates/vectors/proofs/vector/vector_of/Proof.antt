@@ -1,4 +1,5 @@
--- `vectors::vector::vector_of` meets its contract. The loop's invariant: the values of k lanes are in, and the next, if there is one, is at `place`. Assumes nothing.
+-- `vectors::vector::vector_of` meets its contract. The loop's invariant: k lanes have their values, and the next value, if there is one, is at `place`.
+-- Assumes nothing.
 use Prim.Native.Nat.{ℕ, _+_, _-_, _≤_, _<_, min}
 use mathlib.Core.Path.{_≡_, refl, sym, ap, _∙_, subst}
 use mathlib.Core.List.{List}
@@ -33,7 +34,8 @@ loop-holds : tie.Need-loop-holds Inv-loop μ-loop
 unfolding ofBits vectorOf strided feed
 loop-holds c = (
   omega arith,
-  ap (λ (k : ℕ). vectorOf (strided (c .args .values .now) (toZ w64 (ofZ w64 (c .args .at))) (toZ w64 (ofZ w64 (c .args .stride))) k)) (let e : 0 ≡ min 0 (c .args .n) = omega arith in e),
+  ap (λ (k : ℕ). vectorOf (strided (c .args .values .now) (toZ w64 (ofZ w64 (c .args .at))) (toZ w64 (ofZ w64 (c .args .stride))) k))
+      (let e : 0 ≡ min 0 (c .args .n) = omega arith in e),
   λ h. place-first (toZ w64 (ofZ w64 (c .args .at))) (toZ w64 (ofZ w64 (c .args .stride))),
 )
 
@@ -96,14 +98,16 @@ more c = ⊎-elim (λ p. ap (λ (u : Vector). u .v) (p .2) ∙ taken (p .0 .take
         ≡ vectorOf (strided (values t) (first t) (apart t) (min (t .loop .k + 1) (count t)))
     taken l =
         vector-more (values t) (first t) (apart t) (t .loop .k) (t .loop .r .v) (toZ w64 (t .loop .place))
-        (t .loop .inv .1 ∙ ap (λ (k : ℕ). vectorOf (strided (values t) (first t) (apart t) k)) (let e : min (t .loop .k) (count t) ≡ t .loop .k = omega arith in e))
+        (t .loop .inv .1
+        ∙ ap (λ (k : ℕ). vectorOf (strided (values t) (first t) (apart t) k)) (let e : min (t .loop .k) (count t) ≡ t .loop .k = omega arith in e))
         (t .loop .inv .2 l)
         ∙ ap (λ (k : ℕ). vectorOf (strided (values t) (first t) (apart t) k)) (let e : t .loop .k + 1 ≡ min (t .loop .k + 1) (count t) = omega arith in e)
 
     passed : (l : count t ≤ t .loop .k) → t .loop .r .v ≡ vectorOf (strided (values t) (first t) (apart t) (min (t .loop .k + 1) (count t)))
     passed l =
         t .loop .inv .1
-        ∙ ap (λ (k : ℕ). vectorOf (strided (values t) (first t) (apart t) k)) (let e : min (t .loop .k) (count t) ≡ min (t .loop .k + 1) (count t) = omega arith in e)
+        ∙ ap (λ (k : ℕ). vectorOf (strided (values t) (first t) (apart t) k))
+        (let e : min (t .loop .k) (count t) ≡ min (t .loop .k + 1) (count t) = omega arith in e)
 
 -- the place a stride further
 next : (c : tie.Then2 Inv-loop μ-loop) → let t = c .before .before .before in toZ w64 (t .loop .place) +ℤ apart t ≡ first t +ℤ apart t *ℤ pos (t .loop .k + 1)

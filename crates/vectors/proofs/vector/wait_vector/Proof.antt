@@ -68,7 +68,8 @@ loop-again c =
     let t = q .before in
     let l = q .loop-test .taken in
     worked-more (t .loop .inv) l
-    (wait-lane (t .before .args .signs) (t .loop .t) (t .loop .k) (getD (t .before .args .t2 .v) (t .loop .k) nan) (c .lesser .result) l (c .lesser .ensures ∙ ap (λ (z : Float). lesser z (getD (t .loop .t .least) (t .loop .k) nan)) (c .before .before .measure .ensures)))
+    (wait-lane (t .before .args .signs) (t .loop .t) (t .loop .k) (getD (t .before .args .t2 .v) (t .loop .k) nan) (c .lesser .result) l
+    (c .lesser .ensures ∙ ap (λ (z : Float). lesser z (getD (t .loop .t .least) (t .loop .k) nan)) (c .before .before .measure .ensures)))
 
 returns : tie.Need-returns Inv-loop μ-loop
 returns c =
