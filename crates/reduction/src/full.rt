@@ -73,19 +73,32 @@ fn whole_runs(l: FullTraversal, c: RangeCursor, end: u64) -> u64
     if left * len <= room { left } else { room / len }
 }
 
-// One run's product, and how many of the next runs are not tried as short pieces.
+// One run's product, how many of the next runs are not tried as short pieces, and how many if the next try fails.
 pub struct RunProduct {
     pub m: f64,
     pub e: i64,
     pub bad: bool,
     pub hold: u64,
+    pub back: u64,
 }
 
-// So many runs after one that could not be had as a short piece.
+// Runs that are not tried after one that could not be had as a short piece: twice as many each time, until there are so many.
 const HOLD: u64 = 16;
 
+fn held_longer(back: u64) -> u64 {
+    if HOLD <= back { back } else { back * 2 + 1 }
+}
+
 // A short run side by side is tried first; any other, and one that fails, is worked as a piece of its own.
-fn next_run(values: &[f64], at: i64, stride: i64, len: usize, least: f64, hold: u64) -> RunProduct
+fn next_run(
+    values: &[f64],
+    at: i64,
+    stride: i64,
+    len: usize,
+    least: f64,
+    hold: u64,
+    back: u64,
+) -> RunProduct
     requires { ⌜ (1 ≤ len) × PlacesInside (length (now values)) at stride len × (len ≤ 2 ^ 40) × (len ≤ 480 → ShortLeast false len least) ⌝ }
     ensures { λ r. ⌜ runAcc r ≡ worked (eqZ stride (pos 1)) (strided (now (values .entry)) at stride len) ⌝ }
 {
@@ -99,6 +112,7 @@ fn next_run(values: &[f64], at: i64, stride: i64, len: usize, least: f64, hold: 
                         e: q.e,
                         bad: false,
                         hold: 0,
+                        back: 0,
                     };
                 }
             }
@@ -106,12 +120,23 @@ fn next_run(values: &[f64], at: i64, stride: i64, len: usize, least: f64, hold: 
     }
     let b = reduce_piece(values, at, stride, len);
     let e = b.e;
-    let left = if hold == 0 { HOLD } else { hold - 1 };
+    if hold == 0 {
+        return RunProduct {
+            m: b.m,
+            e,
+            bad: b.bad,
+            hold: back,
+            back: held_longer(back),
+        };
+    }
+    let bad = b.bad;
+    let left = hold - 1;
     RunProduct {
         m: b.m,
         e,
-        bad: b.bad,
+        bad,
         hold: left,
+        back,
     }
 }
 
@@ -132,10 +157,11 @@ fn reduce_strip(
     let least = vectors::piece::short_least(len, false);
     let mut a = acc;
     let mut hold: u64 = 0;
+    let mut back: u64 = 0;
     let mut at = first;
     let mut j: u64 = 0;
     while j < count {
-        let r = next_run(values, at, stride, len, least, hold);
+        let r = next_run(values, at, stride, len, least, hold, back);
         let e = r.e;
         let b = StableProductFloatAcc {
             m: r.m,
@@ -144,6 +170,7 @@ fn reduce_strip(
         };
         a = accumulator::combine_units(a, b);
         hold = r.hold;
+        back = r.back;
         j += 1;
         if j < count {
             at += step;

@@ -29,5 +29,5 @@ pub record SoundTry (y : Try) : Type 0 where
 
 -- by the hold and the way: how many tries may fail before a step is guarded, and one more; none while steps are guarded
 unfoldable pub patience : ℕ → ℕ → ℕ
-patience zero way = suc (4 - way)
+patience zero way = suc (5 - way)
 patience (suc hold) way = 0

@@ -22,7 +22,7 @@ const GUARDED: usize = 256;
 
 const HOLD: usize = 16;
 
-const LAST_WAY: usize = 4;
+const LAST_WAY: usize = 5;
 
 // Lanes that wait to be brought back, and how many values went to them.
 pub struct Step {
@@ -130,42 +130,45 @@ pub struct Try {
     pub most: usize,
 }
 
-// Which way is tried next, and whether a way before it is tried again if it succeeds; before that, how many steps are guarded.
+// Which way is tried next, and how many steps are guarded before; whether the way before it is tried if it works, and whether it failed once here.
 pub struct Pace {
     pub way: usize,
     pub hold: usize,
     pub rising: bool,
+    pub again: bool,
 }
 
-// Keep rates, positive rates, rates of both signs, and two ways for rates near 0 or large ones.
+// By the values themselves: keep rates, any but low ones, low or large ones. Then by squares, where signs may be mixed: the same two, and as low as the
+// source has it.
 fn try_at(way: usize) -> Try
     ensures { λ r. ⌜ SoundTry r ⌝ }
 {
+    let signs = 2 < way;
     if way == 0 {
         return Try {
-            signs: false,
+            signs,
             depth: 3,
             most: 256,
         };
     }
-    if way < 3 {
+    if way == LAST_WAY {
         return Try {
-            signs: way == 2,
-            depth: 15,
-            most: 64,
+            signs,
+            depth: 120,
+            most: 8,
         };
     }
-    if way == 3 {
+    if way % 2 == 0 {
         return Try {
-            signs: true,
-            depth: 30,
-            most: 32,
+            signs,
+            depth: 24,
+            most: 40,
         };
     }
     Try {
-        signs: true,
-        depth: 120,
-        most: 8,
+        signs,
+        depth: 15,
+        most: 64,
     }
 }
 
@@ -251,40 +254,51 @@ fn next_step(s: Lanes, values: &[f64], at: i64, stride: i64, left: usize, pace: 
     Step { lanes, done }
 }
 
-// A way that failed is left for the next, and one that worked is kept. After the last the steps are guarded for a while, and then the ways
-// are tried again from the last on, as long as they work.
-fn next_pace(pace: Pace, done: usize) -> Pace
-    ensures { λ r. ⌜ (done ≡ 0 → pace .hold ≡ 0 → patience (r .hold) (r .way) < patience (pace .hold) (pace .way)) × (patience (r .hold) (r .way) ≤ 5) ⌝ }
+// After a way that failed: one bad rate among others costs the way no more than the values of its try, which are guarded; else the next way. After the
+// last, many steps are guarded.
+fn failed_pace(pace: Pace) -> Pace
+    ensures { λ r. ⌜ patience (r .hold) (r .way) < patience 0 (pace .way) ⌝ }
 {
+    let mut next = pace;
+    next.rising = false;
+    next.again = false;
+    next.hold = 0;
+    if (pace.way == 1) & !pace.again {
+        next.hold = 2;
+        next.again = true;
+        return next;
+    }
+    if pace.way < LAST_WAY {
+        next.way = pace.way + 1;
+        return next;
+    }
+    next.hold = HOLD;
+    next.rising = true;
+    next
+}
+
+// A way that worked is kept; after many guarded steps the ways are tried from the last on, as long as they work.
+fn next_pace(pace: Pace, done: usize) -> Pace
+    ensures { λ r. ⌜ (done ≡ 0 → pace .hold ≡ 0 → patience (r .hold) (r .way) < patience (pace .hold) (pace .way)) × (patience (r .hold) (r .way) ≤ 6) ⌝ }
+{
+    let mut next = pace;
     if pace.hold != 0 {
-        return Pace {
-            way: pace.way,
-            hold: pace.hold - 1,
-            rising: pace.rising,
-        };
+        next.hold = pace.hold - 1;
+        return next;
     }
     if done == 0 {
-        if pace.way < LAST_WAY {
-            return Pace {
-                way: pace.way + 1,
-                hold: 0,
-                rising: false,
-            };
-        }
-        return Pace {
-            way: LAST_WAY,
-            hold: HOLD,
-            rising: true,
-        };
+        return failed_pace(pace);
     }
+    next.again = false;
     if pace.rising & (pace.way != 0) {
-        return Pace {
-            way: pace.way - 1,
-            hold: 0,
-            rising: true,
-        };
+        next.way = pace.way - 1;
     }
-    pace
+    next
+}
+
+// A piece of at most 480 values was tried by squares before it came here: only the last way goes further.
+fn first_way(len: usize) -> usize {
+    if len <= 480 { LAST_WAY } else { 0 }
 }
 
 // The lanes of a whole piece.
@@ -295,9 +309,10 @@ pub fn fed_lanes(values: &[f64], start: i64, stride: i64, len: usize) -> Lanes
     let mut s = kernels::lanes::start_lanes();
     let mut i: usize = 0;
     let mut pace = Pace {
-        way: 0,
+        way: first_way(len),
         hold: 0,
         rising: false,
+        again: false,
     };
     while i < len {
         let at = crate::vector::place(start, stride, i);

@@ -10,6 +10,7 @@ use lib.IntN.{ℤ, pos}
 use mir.Val.{SFits, toZ, ofZ}
 use mir.ValLaws.{toZ-ofZ}
 use mir.Syntax.{w64}
+use borrow.Author.Needs.{needs}
 use Rattle.integers.specs.Integers.{eqZ}
 use Rattle.integers.proofs.Machine.{same-bits, pos-fits}
 use Rattle.kernels.specs.InnerStrided.{strided, PlacesInside}
@@ -55,11 +56,8 @@ reduce-piece-requires c κs =
     let s = c .before .before in
     simp (toZ-ofZ w64 (s .args .at) (s .fits .at), toZ-ofZ w64 (s .args .stride) (s .fits .stride)) (s .pre .0, s .pre .1, s .pre .2)
 
-sub-left : tie.Need-sub-left
-sub-left c = positive _ (c .if5 .left)
-  where
-    positive : (n : ℕ) → (n ≡ 0 → ⊥) → 1 ≤ n
-    positive n h = omega arith
+held-longer-requires : tie.Need-held-longer-requires
+held-longer-requires c κs = search needs
 
 product : (c : tie.After-struct-told2) → let b = c .before .reduce-piece .result in let s = c .before .before .before .before in
     record { m = b .m; e = toZ w64 (ofZ w64 (b .e)); bad = b .bad }
@@ -71,10 +69,16 @@ product c =
     ∙ simp (toZ-ofZ w64 (s .args .at) (s .fits .at), toZ-ofZ w64 (s .args .stride) (s .fits .stride)) at (r .reduce-piece .ensures)
 
 returns-2 : tie.Need-returns-2
-returns-2 c = product (c .before)
+returns-2 c = product (c .before .before)
+
+sub-left : tie.Need-sub-left
+sub-left c = positive _ (c .if5 .left)
+  where
+    positive : (n : ℕ) → (n ≡ 0 → ⊥) → 1 ≤ n
+    positive n h = omega arith
 
 returns-3 : tie.Need-returns-3
 returns-3 c = product (c .before)
 
 pub next-run-spec : {M : Type 1} → statement M
-next-run-spec = tie.close (tie.spec short-piece-requires returns reduce-piece-requires sub-left returns-2 returns-3)
+next-run-spec = tie.close (tie.spec short-piece-requires returns reduce-piece-requires held-longer-requires returns-2 sub-left returns-3)

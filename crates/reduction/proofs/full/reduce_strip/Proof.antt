@@ -27,7 +27,7 @@ use Rattle.reduction.proofs.full.reduce_strip.Statement.{statement}
 use Rattle.reduction.proofs.full.reduce_strip.Tie as tie
 
 abbrev Inv-loop : tie.InvT-loop
-Inv-loop values first step stride len count least a₀ hold₀ at₀ j₀ a hold at j =
+Inv-loop values first step stride len count least a₀ hold₀ back₀ at₀ j₀ a hold back at j =
     (j ≤ count)
     × (j < count → toZ w64 at ≡ toZ w64 first +ℤ toZ w64 step *ℤ pos j)
     × (natAbs (a .e) ≤ 2 ^ 60 + 1034 * (j * len))
@@ -36,7 +36,7 @@ Inv-loop values first step stride len count least a₀ hold₀ at₀ j₀ a hold
     ≡ strip values (toZ w64 step) (toZ w64 stride) len count (toZ w64 first) a₀)
 
 abbrev μ-loop : tie.MeasureT-loop
-μ-loop values first step stride len count least a₀ hold₀ at₀ j₀ a hold at j = count - j
+μ-loop values first step stride len count least a₀ hold₀ back₀ at₀ j₀ a hold back at j = count - j
 
 short-least-requires : tie.Need-short-least-requires Inv-loop μ-loop
 short-least-requires c κs = search needs

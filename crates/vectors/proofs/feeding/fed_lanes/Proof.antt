@@ -29,18 +29,21 @@ Inv-loop values start stride len s₀ i₀ pace₀ s i pace =
 
 -- a try that fails takes no value, but patience
 abbrev μ-loop : tie.MeasureT-loop
-μ-loop values start stride len s₀ i₀ pace₀ s i pace = 6 * (len - i) + patience (pace .hold) (pace .way)
+μ-loop values start stride len s₀ i₀ pace₀ s i pace = 7 * (len - i) + patience (pace .hold) (pace .way)
 
 start-lanes-requires : tie.Need-start-lanes-requires Inv-loop μ-loop
 start-lanes-requires c κs = search needs
 
+first-way-requires : tie.Need-first-way-requires Inv-loop μ-loop
+first-way-requires c κs = search needs
+
 loop-holds : tie.Need-loop-holds Inv-loop μ-loop
 unfolding strided
-loop-holds c = (omega arith, inl refl, subst (LanesAfter startLanes []) (sym (c .start-lanes .ensures)) (fed-none startLanes))
+loop-holds c = (omega arith, inl refl, subst (LanesAfter startLanes []) (sym (c .before .start-lanes .ensures)) (fed-none startLanes))
 
 -- a turn of the loop, as it is entered: the entry, and its numbers as the code holds them
 abbrev entry : tie.At-loop Inv-loop μ-loop → tie.Start Inv-loop μ-loop
-entry t = t .before .before .before
+entry t = t .before .before .before .before
 
 abbrev size : tie.At-loop Inv-loop μ-loop → ℕ
 size t = length (entry t .args .values .now)
@@ -105,8 +108,8 @@ add-i c =
     omega arith
 
 -- less is left, or less patience
-less : (n i done hold p q : ℕ) → i < n → done ≤ n - i → (0 < n - i → done ≡ 0 → hold ≡ 0) → (done ≡ 0 → hold ≡ 0 → q < p) → q ≤ 5
-    → 6 * (n - (i + done)) + q < 6 * (n - i) + p
+less : (n i done hold p q : ℕ) → i < n → done ≤ n - i → (0 < n - i → done ≡ 0 → hold ≡ 0) → (done ≡ 0 → hold ≡ 0 → q < p) → q ≤ 6
+    → 7 * (n - (i + done)) + q < 7 * (n - i) + p
 less n i zero hold p q l u m f h = let k = f refl (m (omega arith) refl) in omega arith
 less n i (suc done) hold p q l u m f h = omega arith
 
@@ -164,6 +167,7 @@ fed-lanes-spec =
     Inv-loop
     μ-loop
     start-lanes-requires
+    first-way-requires
     loop-holds
     place-requires
     sub-next-step
