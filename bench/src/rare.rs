@@ -27,7 +27,14 @@ fn contiguous() -> Vec<Row> {
         run("contiguous, 1e5, all rates a millionth", 1, all(1e-6)),
         run("contiguous, 1e5, all rates a million times", 1, all(1e6)),
         run("contiguous, 1e5, all rates below 2^-120", 1, all(2f64.powi(-130))),
+        run("contiguous, 1e5, a zero in 3000", 1, zero_in(3000, KEEP.draw(COUNT))),
     ]
+}
+
+/// One value in so many becomes a zero.
+fn zero_in(every: usize, mut values: Vec<f64>) -> Vec<f64> {
+    values.iter_mut().skip(3).step_by(every).for_each(|value| *value = 0.0);
+    values
 }
 
 /// Every second value is read, so that about half of the blocks have their other rate.
@@ -57,6 +64,7 @@ fn short_rows() -> Vec<Row> {
         with(2, "", |count| KEEP.draw(count)),
         with(4, "", |count| KEEP.draw(count)),
         with(16, ", one rate in 64 a millionth", |count| KEEP.with_one_a_block(count, |rate| rate * 1e-6)),
+        with(16, ", a zero in one row of four", |count| zero_in(4 * 24, KEEP.draw(count))),
         with(100, "", |count| KEEP.draw(count)),
     ]
 }
@@ -76,7 +84,7 @@ fn two_axes() -> Vec<Row> {
     [1, 8, 64]
         .into_iter()
         .map(|count| {
-            let name = format!("a call of {count} values, 2 axes of size 8");
+            let name = format!("a call of {count} value{}, 2 axes of size 8", if count == 1 { "" } else { "s" });
             let bases: Vec<i64> = (0..64).map(|turn| turn * 128).collect();
             table::part(&name, KEEP, &[(8, 16), (8, 1)], count, &bases, KEEP.draw(65 * 128))
         })

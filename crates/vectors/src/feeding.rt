@@ -138,8 +138,8 @@ pub struct Pace {
     pub again: bool,
 }
 
-// By the values themselves: keep rates, any but low ones, low or large ones. Then by squares, where signs may be mixed: the same two, and as low as the
-// source has it.
+// By the values themselves: keep rates, any but low ones, low or large ones. Then by squares, where signs may be mixed: any but low ones, low or large
+// ones, and as low as the source has it.
 fn try_at(way: usize) -> Try
     ensures { λ r. ⌜ SoundTry r ⌝ }
 {
@@ -163,6 +163,13 @@ fn try_at(way: usize) -> Try
             signs,
             depth: 24,
             most: 40,
+        };
+    }
+    if way == 3 {
+        return Try {
+            signs,
+            depth: 7,
+            most: 128,
         };
     }
     Try {

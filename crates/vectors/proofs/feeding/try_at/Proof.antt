@@ -15,5 +15,8 @@ returns-3 c = record { some = lit≤ tt; room = lit≤ tt; vectors = lit≤ tt; 
 returns-4 : tie.Need-returns-4
 returns-4 c = record { some = lit≤ tt; room = lit≤ tt; vectors = lit≤ tt; few = lit≤ tt }
 
+returns-5 : tie.Need-returns-5
+returns-5 c = record { some = lit≤ tt; room = lit≤ tt; vectors = lit≤ tt; few = lit≤ tt }
+
 pub try-at-spec : {M : Type 1} → statement M
-try-at-spec = tie.close (tie.spec returns returns-2 returns-3 returns-4)
+try-at-spec = tie.close (tie.spec returns returns-2 returns-3 returns-4 returns-5)
