@@ -33,7 +33,7 @@ abbrev noAcc : StableProductFloatAcc
 noAcc = record { m = nan; e = pos 0; bad = false }
 
 -- lane k's factor multiplied in
-abbrev times-in : List Factor → ℕ → Factor → Factor
+abbrev pub times-in : List Factor → ℕ → Factor → Factor
 times-in fs k p = times 52 p (getD fs k (unit 52))
 
 -- lane j is that of a factor

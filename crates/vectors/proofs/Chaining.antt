@@ -18,13 +18,11 @@ use Rattle.kernels.specs.declared.lanes.Lanes.{Lanes}
 use Rattle.kernels.specs.Lanes.{inOrder}
 use Rattle.kernels.specs.Blocks.{mOf, eOf}
 use Rattle.kernels.specs.InnerLanes.{Represents, LanesRepresent, zeros}
+use Rattle.kernels.proofs.Stepping.{times-in}
 use Rattle.kernels.proofs.Standing.{represents-times, represents-one, represents-more}
 use Rattle.vectors.specs.InnerWaiting.{one, chained, exponentsOf}
 use Rattle.vectors.proofs.Waits.{Waits, WaitLanes, waits-more, waits-times, represents-waits}
 use Rattle.vectors.proofs.Waiting.{LostLane}
-
-abbrev pub times-in : List Factor → ℕ → Factor → Factor
-times-in fs k p = times 52 p (getD fs k (unit 52))
 
 abbrev pub product-in : List Float → ℕ → Float → Float
 product-in ms k p = productOf 11 52 p (getD ms k nan)

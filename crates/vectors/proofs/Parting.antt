@@ -29,7 +29,8 @@ use Rattle.kernels.proofs.Standing.{represents-split, represents-acc}
 use Rattle.kernels.proofs.Blocking.{Value, represent-start}
 use Rattle.vectors.specs.InnerWaiting.{one}
 use Rattle.vectors.specs.InnerMarked.{productBefore}
-use Rattle.vectors.proofs.Chaining.{times-in, product-in, upto}
+use Rattle.kernels.proofs.Stepping.{times-in}
+use Rattle.vectors.proofs.Chaining.{product-in, upto}
 
 -- ---- a piece
 module _ (xs : List Float) (v : Each Value xs) where

@@ -29,7 +29,8 @@ use Rattle.vectors.specs.declared.vector.Waiting.{Waiting}
 use Rattle.vectors.specs.InnerShort.{ShortLeast}
 use Rattle.vectors.proofs.Waits.{Waits, waits-more, waits-split}
 use Rattle.vectors.proofs.Waiting.{LostLane, Out, past-lost}
-use Rattle.vectors.proofs.Chaining.{times-in, chain-waits, chain-lost}
+use Rattle.kernels.proofs.Stepping.{times-in}
+use Rattle.vectors.proofs.Chaining.{chain-waits, chain-lost}
 use Rattle.vectors.proofs.Guarding.{outcome, outcome-good}
 use Rattle.vectors.proofs.Feds.{ones-after, fed-normal}
 
