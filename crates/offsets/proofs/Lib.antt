@@ -8,5 +8,6 @@ pub mod Ranges
 pub mod Walking
 pub mod Skipping
 pub mod Writing
+pub mod Visiting
 pub mod Cases
 pub mod Theorems

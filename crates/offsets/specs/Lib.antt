@@ -2,6 +2,7 @@ pub mod Elements
 pub mod Lists
 pub mod Cases
 pub mod Pieces
+pub mod Values
 pub mod InnerBounds
 pub mod InnerCursors
 pub mod InnerLists

@@ -3,7 +3,7 @@
 use Prim.Native.Nat.{ℕ, zero, suc, _+_, _-_, _^_, _≤_, _<_}
 use mathlib.Core.Path.{_≡_, refl, sym, _∙_, ap}
 use mathlib.Core.Bool.{Bool, true, false, cond, _&&_, _||_}
-use mathlib.Core.List.{List, [], _∷_, _++_, map, map-append}
+use mathlib.Core.List.{List, [], _∷_, _++_, map}
 use native.Mathlib.Omega.{arith}
 use native.Mathlib.Nat.{le-trans}
 use lib.ListN.{length, getD, length-map}
@@ -18,7 +18,7 @@ use Rattle.offsets.specs.InnerCursors.{Bounded, Traversal}
 use Rattle.offsets.specs.Pieces.{runOf, outerOf, pieceLength}
 use Rattle.offsets.specs.Lists.{offsetsFrom}
 use Rattle.offsets.proofs.Walking.{len-pos, len-end}
-use Rattle.offsets.proofs.Writing.{offsets-append, length-offsets}
+use Rattle.offsets.proofs.Writing.{length-offsets}
 use Rattle.kernels.specs.Lanes.{Each, none, more, some}
 use Rattle.kernels.specs.Plain.{plainProduct}
 use Rattle.kernels.specs.Pieces.{Piece, joinedPieces, GoodPiece, patternsOf, accOf, ratesOf}
@@ -26,7 +26,9 @@ use Rattle.kernels.proofs.Feeding.{each-map, some-append, neither}
 use Rattle.kernels.proofs.Blocking.{each-rate}
 use Rattle.kernels.proofs.Bounded.{ValuePiece, FullPiece, joined-within}
 use Rattle.kernels.proofs.Agreement.{agreement, badPiece, joined-mark}
-use Rattle.reduction.specs.Ranges.{valueAt, ratesFrom, pieceAt, piecesFrom, piecesOf}
+use Rattle.offsets.specs.Values.{valueAt, ratesFrom}
+use Rattle.offsets.proofs.Visiting.{rates-joined, rates-over}
+use Rattle.reduction.specs.Ranges.{pieceAt, piecesFrom, piecesOf}
 
 -- ---- lists of rates
 good-pieces : {ps : List Piece} → Each FullPiece ps → some badPiece ps ≡ false → Each GoodPiece ps
@@ -79,28 +81,10 @@ module _ (l : FullTraversal) (t : Traversal l) (base : ℤ) (b : Bounded (runOf 
             values = rates-fit values v (offsetsFrom (runOf l ∷ outerOf l) base k (pieceLength (l .«run_len») end k));
           }) f
 
-  -- a piece's rates, and those after it
-  rates-joined : (k m : ℕ) → k + m ≤ end → ratesFrom l base values k m ++ ratesFrom l base values (k + m) (end - (k + m)) ≡ ratesFrom l base values k (end - k)
-  rates-joined k m h =
-      sym (map-append (valueAt values) (offsetsFrom (runOf l ∷ outerOf l) base k m) (offsetsFrom (runOf l ∷ outerOf l) base (k + m) (end - (k + m))))
-      ∙ ap (map (valueAt values)) (sym (offsets-append (runOf l ∷ outerOf l) base k m (end - (k + m))))
-      ∙ ap (ratesFrom l base values k) all-left
-    where
-      all-left : m + (end - (k + m)) ≡ end - k
-      all-left = omega arith
-
-  -- no rate is left at the end
-  none-over : (k : ℕ) → end ≤ k → [] ≡ ratesFrom l base values k (end - k)
-  unfolding offsetsFrom
-  none-over k h = ap (ratesFrom l base values k) none-left
-    where
-      none-left : 0 ≡ end - k
-      none-left = omega arith
-
-  -- and those, in order
+  -- the rates of the pieces, in order
   visited : (n k : ℕ) → k ≤ end → end ≤ k + n → ratesOf (piecesFrom l base values end n k) ≡ ratesFrom l base values k (end - k)
   unfolding piecesFrom ratesOf
-  visited zero k h g = none-over k (omega arith)
+  visited zero k h g = rates-over l base values end k (omega arith)
   visited (suc n) k h g = go (ltb k end) refl (visited n (k + pieceLength (l .«run_len») end k))
     where
       go : (x : Bool) → ltb k end ≡ x
@@ -109,13 +93,13 @@ module _ (l : FullTraversal) (t : Traversal l) (base : ℤ) (b : Bounded (runOf 
           ≡ ratesFrom l base values (k + pieceLength (l .«run_len») end k) (end - (k + pieceLength (l .«run_len») end k)))
           → ratesOf (cond x (pieceAt l base values end k ∷ piecesFrom l base values end n (k + pieceLength (l .«run_len») end k)) [])
           ≡ ratesFrom l base values k (end - k)
-      go false e f = none-over k (ltb-false k end e)
+      go false e f = rates-over l base values end k (ltb-false k end e)
       go true e f =
           let z = ltb-true k end e in
           let p = len-pos l t base b k end z in
           let q = len-end l t base b k end z in
           ap (λ (xs : List Float). ratesFrom l base values k (pieceLength (l .«run_len») end k) ++ xs) (f q (omega arith))
-          ∙ rates-joined k (pieceLength (l .«run_len») end k) q
+          ∙ rates-joined l base values end k (pieceLength (l .«run_len») end k) q
 
   -- ---- rule D3, of the range start to end - 1
   module _ (start : ℕ) (h : start < end) (few : end ≤ 2 ^ 40) where

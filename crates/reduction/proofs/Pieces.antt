@@ -24,7 +24,8 @@ use Rattle.kernels.proofs.Striding.{length-strided}
 use Rattle.integers.specs.Integers.{eqZ}
 use Rattle.kernels.proofs.Bounded.{worked-size}
 use Rattle.kernels.proofs.Striding.{strided-values}
-use Rattle.reduction.specs.Ranges.{valueAt, pieceAt, piecesFrom, piecesOf}
+use Rattle.offsets.specs.Values.{valueAt}
+use Rattle.reduction.specs.Ranges.{pieceAt, piecesFrom, piecesOf}
 
 -- an accumulator whose fields are handed on one by one
 pub handed : (a : StableProductFloatAcc) → SFits w64 (a .e)

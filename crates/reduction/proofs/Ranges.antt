@@ -20,7 +20,7 @@ use Rattle.offsets.specs.Elements.{insideValues, allInside}
 use Rattle.offsets.specs.InnerCursors.{Bounded, Traversal}
 use Rattle.offsets.specs.Pieces.{runOf, outerOf, pieceLength}
 use Rattle.offsets.specs.InnerPieces.{rangeAt, pieceOf}
-use Rattle.offsets.proofs.Ends.{seven-exact, inside-low, inside-high}
+use Rattle.offsets.proofs.Ends.{inside-low, inside-high}
 use Rattle.offsets.proofs.Walking.{len-pos, PieceHere, piece-here}
 use Rattle.offsets.proofs.Writing.{piece-steps}
 use Rattle.kernels.specs.Pieces.{Piece, worked, workedPiece, joinedPieces}
@@ -29,7 +29,9 @@ use Rattle.kernels.specs.InnerStepped.{Sound}
 use Rattle.kernels.proofs.Sizes.{combined-size}
 use Rattle.kernels.proofs.Bounded.{combined-sound, worked-sound}
 use Rattle.kernels.proofs.Striding.{strided-values}
-use Rattle.reduction.specs.Ranges.{valueAt, ratesFrom, pieceAt, piecesOf}
+use Rattle.offsets.specs.Values.{valueAt, ratesFrom}
+use Rattle.offsets.proofs.Visiting.{piece-inside}
+use Rattle.reduction.specs.Ranges.{pieceAt, piecesOf}
 use Rattle.reduction.proofs.Pieces.{pieces-none, pieces-more, strided-steps, strided-near}
 
 -- what the piece p at a cursor gives the loop
@@ -50,10 +52,7 @@ module _ (l : FullTraversal) (t : Traversal l) (base : ℤ) (b : Bounded (runOf 
   here = piece-here l t base b end c e h p q
 
   lies : (i : ℕ) → i < p .len → insideValues (length values) (p .first +ℤ l .«run_stride» *ℤ pos i) ≡ true
-  lies i k =
-      ap (insideValues (length values)) (here .offsets i k)
-      ∙ seven-exact (runOf l ∷ outerOf l) (t .axes) base (length values) .0
-      (ap (λ (n : ℕ). allInside (runOf l ∷ outerOf l) n base (length values)) (t .total) ∙ w) (c .at + i) (rw (t .total) (omega (arith, here .ends)))
+  lies = piece-inside l t base (length values) w end few c p here
 
   rates-are : strided values (p .first) (l .«run_stride») (p .len) ≡ ratesFrom l base values (c .at) (pieceLength (l .«run_len») end (c .at))
   rates-are =

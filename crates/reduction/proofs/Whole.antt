@@ -26,7 +26,8 @@ use Rattle.offsets.proofs.Ranges.{ranged, ranged-accepted, ranged-bounded, rang
 use Rattle.kernels.specs.Lanes.{Each, some}
 use Rattle.kernels.specs.Plain.{plainProduct}
 use Rattle.kernels.specs.Pieces.{patternsOf, accOf, ratesOf}
-use Rattle.reduction.specs.Ranges.{valueAt, piecesOf, visitedRates, rangeProduct, reduceOf}
+use Rattle.offsets.specs.Values.{valueAt, visitedRates}
+use Rattle.reduction.specs.Ranges.{piecesOf, rangeProduct, reduceOf}
 use Rattle.reduction.specs.Theorems.{RuleD3, RuleD3Law}
 use Rattle.reduction.proofs.Calls.{reduce-accepted}
 use Rattle.reduction.proofs.Demand.{range-rates, range-mark, range-in-limits, range-agrees}

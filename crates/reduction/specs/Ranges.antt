@@ -1,28 +1,20 @@
--- Rules A6 and C3: the pieces of a range with their rates, and the full reduction.
+-- Rules A6 and C3: the pieces of a range, and the full reduction.
 use Prim.Native.Nat.{ℕ, zero, suc, _+_, _-_}
 use mathlib.Core.Bool.{cond}
-use mathlib.Core.List.{List, [], _∷_, map}
-use lib.ListN.{length, getD}
+use mathlib.Core.List.{List, [], _∷_}
+use lib.ListN.{length}
 use lib.Dec.{ltb, eqb}
-use lib.IntN.{ℤ, pos, natAbs}
-use lib.Ieee.{Float, nan}
+use lib.IntN.{ℤ, pos}
+use lib.Ieee.{Float}
 use Rattle.integers.specs.Integers.{eqZ}
 use Rattle.layout.specs.declared.traversal.FullTraversal.{FullTraversal}
-use Rattle.offsets.specs.Pieces.{runOf, outerOf, pieceLength}
-use Rattle.layout.specs.Order.{axesOf}
+use Rattle.offsets.specs.Pieces.{pieceLength}
+use Rattle.offsets.specs.Values.{ratesFrom}
 use Rattle.layout.specs.Compile.{compileOf}
-use Rattle.offsets.specs.Lists.{offsetsFrom, rangeCode}
+use Rattle.offsets.specs.Lists.{rangeCode}
 use Rattle.accumulator.specs.declared.StableProductFloatAcc.{StableProductFloatAcc}
 use Rattle.accumulator.specs.Joining.{Answer, accumulator, refusal}
 use Rattle.kernels.specs.Pieces.{Piece, joinedPieces}
-
--- the value at an offset
-abbrev pub valueAt : List Float → ℤ → Float
-valueAt values z = getD values (natAbs z) nan
-
--- the rates of n elements from k on
-abbrev pub ratesFrom : FullTraversal → ℤ → List Float → ℕ → ℕ → List Float
-ratesFrom l base values k n = map (valueAt values) (offsetsFrom (runOf l ∷ outerOf l) base k n)
 
 -- the piece at element k: in blocks of 64 exactly if the run's stride is 1
 abbrev pub pieceAt : FullTraversal → ℤ → List Float → ℕ → ℕ → Piece
@@ -37,10 +29,6 @@ piecesFrom l base values end (suc n) k =
 -- the pieces of a range: it has no more of them than elements
 abbrev pub piecesOf : FullTraversal → ℤ → List Float → ℕ → ℕ → List Piece
 piecesOf l base values start end = piecesFrom l base values end (end - start) start
-
--- the rates that a range visits: element k lies where the axes of rule L2 put it (rule L6)
-abbrev pub visitedRates : List ℕ → List ℤ → ℤ → ℕ → ℕ → List Float → List Float
-visitedRates sizes strides base start end values = map (valueAt values) (offsetsFrom (axesOf sizes strides) base start (end - start))
 
 -- an accepted range's product: the pieces left to right, the first as it is
 abbrev pub rangeProduct : List ℕ → List ℤ → ℤ → ℕ → ℕ → List Float → StableProductFloatAcc

@@ -20,7 +20,8 @@ use Rattle.kernels.specs.Plain.{plainProduct}
 use Rattle.kernels.specs.Pieces.{patternsOf, accOf, ratesOf}
 use Rattle.finishing.specs.Once.{roundedOnce}
 use Rattle.finishing.specs.Finishing.{value, finishedOf}
-use Rattle.reduction.specs.Ranges.{piecesOf, visitedRates, rangeProduct, reduceOf}
+use Rattle.offsets.specs.Values.{visitedRates}
+use Rattle.reduction.specs.Ranges.{piecesOf, rangeProduct, reduceOf}
 
 -- what rule D3 says of the answer `a` to a range
 pub record RuleD3 (ns : List ℕ) (ss : List ℤ) (base : ℤ) (start end : ℕ) (values : List Float) (a : StableProductFloatAcc) : Type 0 where
