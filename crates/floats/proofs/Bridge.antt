@@ -115,7 +115,7 @@ module _ (F : Format) (w t : ℕ) (P : prec F ≡ t + 1) (E : emax F ≡ bias w)
   pub low-is : low F ≡ unitPlaces (t + 1) (bias w)
   low-is = ap (λ (x : ℕ). emax F + x - 2) P ∙ ap (λ (x : ℕ). x + (t + 1) - 2) E
 
-  round-to : (s : Bool) (num den c : ℕ) (z : ℤ) → 0 < den → num * 2 ^ low F * down z ≡ c * up z * den → round F s num den ≡ rounded (t + 1) (bias w) s c z
+  pub round-to : (s : Bool) (num den c : ℕ) (z : ℤ) → 0 < den → num * 2 ^ low F * down z ≡ c * up z * den → round F s num den ≡ rounded (t + 1) (bias w) s c z
   round-to s num den c z D e = round-rounded F s num den c z D e ∙ ap (λ (p : ℕ). rounded p (emax F) s c z) P ∙ ap (λ (m : ℕ). rounded (t + 1) m s c z) E
 
   pub mul-is : (x y : Float) → mul F x y ≡ productOf w t x y
@@ -152,7 +152,7 @@ module _ (F : Format) (w t : ℕ) (P : prec F ≡ t + 1) (E : emax F ≡ bias w)
       (round-fits F (f .sign) (f .sig * up z) (l * down z))
 
   -- the product of two values, by the fractions that they equal
-  mul-values : (x y : Float) (s u : Bool) (a c b d : ℕ) → 0 < c → 0 < d → HasValue x s a c → HasValue y u b d → mul F x y ≡ round F (unlike s u) (a * b) (c * d)
+  pub mul-values : (x y : Float) (s u : Bool) (a c b d : ℕ) → 0 < c → 0 < d → HasValue x s a c → HasValue y u b d → mul F x y ≡ round F (unlike s u) (a * b) (c * d)
   unfolding mul
   mul-values nan y s u a c b d C D h k = absurd h
   mul-values (inf v) y s u a c b d C D h k = absurd h

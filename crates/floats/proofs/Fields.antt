@@ -23,7 +23,7 @@ use Rattle.floats.proofs.Bridge.{delivered-units, room, floatOf-is, flo
 use Rattle.floats.proofs.Factor.{factor-same}
 
 -- ---- the bias: 2^w is 2 × bias + 2
-bias-next : (w : ℕ) → 0 < w → 2 ^ w ≡ 2 * bias w + 2
+pub bias-next : (w : ℕ) → 0 < w → 2 ^ w ≡ 2 * bias w + 2
 bias-next w h =
     ap (λ (x : ℕ). 2 ^ x) (let e : w ≡ suc (w - 1) = omega arith in e)
     ∙ two-pow-succ (w - 1)
@@ -146,13 +146,13 @@ pattern-value w t s r T' h k =
 
 -- ---- the value of a pattern is the kit's, at each of its formats
 module _ (F : Format) (w t : ℕ) (P : prec F ≡ t + 1) (E : emax F ≡ bias w) (W : 0 < w) where
-  hid-is : hid F ≡ 2 ^ t
+  pub hid-is : hid F ≡ 2 ^ t
   hid-is = ap (λ (p : ℕ). 2 ^ (p - 1)) P ∙ ap (λ (x : ℕ). 2 ^ x) (omega arith)
 
-  ones-is : ones F ≡ 2 ^ w - 1
+  pub ones-is : ones F ≡ 2 ^ w - 1
   ones-is = ap (λ (x : ℕ). 2 * x + 1) E ∙ (let b = bias-next w W in omega arith)
 
-  top-is : top F ≡ 2 ^ (w + t)
+  pub top-is : top F ≡ 2 ^ (w + t)
   top-is =
       ap (λ (x : ℕ). x * suc (ones F)) hid-is
       ∙ ap (λ (x : ℕ). 2 ^ t * suc x) ones-is

@@ -18,10 +18,10 @@ cross x y d g a c C p q =
     (mul-right-comm x g c ∙ ap (λ (z : ℕ). z * g) p ∙ mul-right-comm a d g ∙ ap (λ (z : ℕ). z * d) (sym q) ∙ mul-right-comm y c d)
 
 -- the bits of a sign and a number of units
-pattern-of : Format → Bool → ℕ → ℕ
+unfoldable pub pattern-of : Format → Bool → ℕ → ℕ
 pattern-of f s n = cond s (top f) 0 + (size n - prec f) * hid f + n / 2 ^ (size n - prec f)
 
-bits-are : (f : Format) (s : Bool) (m : ℕ) (e : ℤ) → toBits f (fin s m e) ≡ pattern-of f s (m * up e * 2 ^ low f / down e)
+pub bits-are : (f : Format) (s : Bool) (m : ℕ) (e : ℤ) → toBits f (fin s m e) ≡ pattern-of f s (m * up e * 2 ^ low f / down e)
 unfolding toBits pattern-of
 bits-are f s m e = refl
 

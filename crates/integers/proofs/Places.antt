@@ -1,6 +1,6 @@
 -- Places a stride apart, and the exponents of a product. Assumes nothing.
-use Prim.Native.Nat.{ℕ, suc, _+_}
-use mathlib.Core.Path.{_≡_}
+use Prim.Native.Nat.{ℕ, suc, _+_, _-_, _≤_}
+use mathlib.Core.Path.{_≡_, subst}
 use native.Mathlib.Omega.{arith}
 use lib.IntN.{ℤ, pos, _+ℤ_, _*ℤ_}
 use Rattle.integers.proofs.Difference.{ints, atoms}
@@ -10,6 +10,10 @@ place-first z s = simp ints (simp atoms (omega arith))
 
 pub place-next : (z s : ℤ) (n : ℕ) → z +ℤ s *ℤ pos n +ℤ s ≡ z +ℤ s *ℤ pos (n + 1)
 place-next z s n = simp ints (simp atoms (omega arith))
+
+-- from the place of number i - 1 to that of number i
+pub place-step : (z s : ℤ) (i : ℕ) → 1 ≤ i → (z +ℤ s *ℤ pos (i - 1)) +ℤ s ≡ z +ℤ s *ℤ pos i
+place-step z s i h = subst (λ (n : ℕ). (z +ℤ s *ℤ pos (i - 1)) +ℤ s ≡ z +ℤ s *ℤ pos n) (let e : i - 1 + 1 ≡ i = omega arith in e) (place-next z s (i - 1))
 
 pub place-later : (z s : ℤ) (n : ℕ) → z +ℤ s +ℤ s *ℤ pos n ≡ z +ℤ s *ℤ pos (suc n)
 place-later z s n = simp ints (simp atoms (omega arith))

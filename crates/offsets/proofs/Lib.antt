@@ -5,8 +5,10 @@ pub mod Inside
 pub mod Fused
 pub mod Accepted
 pub mod Ranges
+pub mod Checked
 pub mod Walking
 pub mod Skipping
+pub mod Runs
 pub mod Writing
 pub mod Visiting
 pub mod Cases

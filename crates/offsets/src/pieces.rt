@@ -1,7 +1,7 @@
 // A range, cut into pieces before each element number that is a multiple of the run length.
 ghost use mathlib.Core.Path.{_≡_};
 ghost use mathlib.Core.List.{_∷_};
-ghost use Prim.Native.Nat.{_+_, _*_, _^_, _<_};
+ghost use Prim.Native.Nat.{_+_, _*_, _/_, _%_, _^_, _≤_, _<_};
 ghost use lib.ListN.{getD};
 ghost use Rattle.layout.specs.Axes.{noAxis};
 ghost use Rattle.offsets.specs.InnerCursors.{Bounded, Traversal};
@@ -96,4 +96,26 @@ pub fn next_piece(l: FullTraversal, end: u64, c: RangeCursor) -> RangePiece
         runs,
     };
     RangePiece { first, len, next }
+}
+
+// How many whole runs lie ahead of a cursor within the range, a step of the first outer axis apart: 0 within a run, and 0 without outer axes.
+pub fn whole_runs(l: FullTraversal, c: RangeCursor, end: u64) -> u64
+    requires { ⌜ Traversal l × (c .at < end) × OnRange l c × (l .total ≤ 2 ^ 40) ⌝ }
+    ensures { λ r. ⌜ (0 < r → (0 < l .«axis_count») × (c .at % l .«run_len» ≡ 0)
+        × (c .at / l .«run_len» % (getD (l .«run_axes») 0 noAxis) .extent + r ≤ (getD (l .«run_axes») 0 noAxis) .extent)
+        × (c .at + r * l .«run_len» ≤ end)) ⌝ }
+{
+    if l.axis_count == 0 {
+        return 0;
+    }
+    if c.col != 0 {
+        return 0;
+    }
+    let axes = l.run_axes;
+    let a = axes[0];
+    let runs = c.runs;
+    let left = a.extent - runs.digits[0];
+    let len = l.run_len;
+    let room = end - c.at;
+    if left * len <= room { left } else { room / len }
 }

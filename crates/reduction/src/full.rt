@@ -2,15 +2,13 @@
 ghost use mathlib.Core.Path.{_≡_};
 ghost use mathlib.Core.Bool.{true, false};
 ghost use mathlib.Core.List.{_∷_};
-ghost use Prim.Native.Nat.{ℕ, _+_, _*_, _/_, _%_, _^_, _≤_, _<_};
-ghost use lib.ListN.{length, getD};
+ghost use Prim.Native.Nat.{ℕ, _*_, _^_, _≤_, _<_};
+ghost use lib.ListN.{length};
 ghost use lib.IntN.{pos, natAbs, _+ℤ_, _*ℤ_};
 ghost use Rattle.integers.specs.Integers.{eqZ};
-ghost use Rattle.layout.specs.Axes.{noAxis};
 ghost use Rattle.offsets.specs.Elements.{allInside};
 ghost use Rattle.offsets.specs.InnerCursors.{Bounded, Traversal};
 ghost use Rattle.offsets.specs.Pieces.{runOf, outerOf};
-ghost use Rattle.offsets.specs.InnerPieces.{OnRange};
 ghost use Rattle.kernels.specs.InnerStrided.{strided, PlacesInside};
 ghost use Rattle.kernels.specs.InnerStepped.{Sound};
 ghost use Rattle.kernels.specs.Pieces.{worked, joinedPieces};
@@ -21,7 +19,6 @@ ghost use Rattle.reduction.specs.Ranges.{piecesOf, reduceOf};
 use accumulator::Reduced;
 use accumulator::StableProductFloatAcc;
 use layout::traversal::FullTraversal;
-use offsets::pieces::RangeCursor;
 
 const BLOCK: usize = StableProductFloatAcc::BLOCK;
 
@@ -49,28 +46,6 @@ fn reduce_piece(values: &[f64], first: i64, stride: i64, len: usize) -> StablePr
         e,
         bad: a.bad,
     }
-}
-
-// How many whole runs lie ahead of a cursor within the range, a step of the first outer axis apart: 0 within a run, and 0 without outer axes.
-fn whole_runs(l: FullTraversal, c: RangeCursor, end: u64) -> u64
-    requires { ⌜ Traversal l × (c .at < end) × OnRange l c × (l .total ≤ 2 ^ 40) ⌝ }
-    ensures { λ r. ⌜ (0 < r → (0 < l .«axis_count») × (c .at % l .«run_len» ≡ 0)
-        × (c .at / l .«run_len» % (getD (l .«run_axes») 0 noAxis) .extent + r ≤ (getD (l .«run_axes») 0 noAxis) .extent)
-        × (c .at + r * l .«run_len» ≤ end)) ⌝ }
-{
-    if l.axis_count == 0 {
-        return 0;
-    }
-    if c.col != 0 {
-        return 0;
-    }
-    let axes = l.run_axes;
-    let a = axes[0];
-    let runs = c.runs;
-    let left = a.extent - runs.digits[0];
-    let len = l.run_len;
-    let room = end - c.at;
-    if left * len <= room { left } else { room / len }
 }
 
 // One run's product, how many of the next runs are not tried as short pieces, and how many if the next try fails.
@@ -196,7 +171,7 @@ pub fn reduce_full_range(
     let mut acc = reduce_piece(values, p.first, stride, p.len as usize);
     let mut c = p.next;
     while c.at < end {
-        let n = whole_runs(l, c, end);
+        let n = offsets::pieces::whole_runs(l, c, end);
         if n < 2 {
             let q = offsets::pieces::next_piece(l, end, c);
             let b = reduce_piece(values, q.first, stride, q.len as usize);

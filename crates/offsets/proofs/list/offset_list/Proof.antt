@@ -2,21 +2,16 @@
 -- Assumes nothing.
 use Prim.Native.Nat.{ℕ, _-_}
 use mathlib.Core.Path.{_≡_, sym, _∙_, ap}
-use mathlib.Core.Option.{some}
-use mathlib.Core.List.{List, _∷_, _++_}
+use mathlib.Core.List.{List, _++_}
 use native.Mathlib.Omega.{arith}
 use lib.ListN.{length, drop}
 use lib.IntN.{ℤ}
 use mir.Facts.{toZ-ofZ}
-use Rattle.layout.specs.declared.traversal.FullTraversal.{FullTraversal}
-use Rattle.layout.specs.declared.traversal.Compiled.{Compiled}
 use Rattle.layout.specs.Order.{axesOf}
-use Rattle.layout.specs.Compile.{compileOf, layoutBeside}
-use Rattle.offsets.specs.Pieces.{runOf, outerOf}
 use Rattle.offsets.specs.Lists.{rangeCode, offsetsFrom}
 use Rattle.offsets.specs.InnerLists.{rangeOf}
-use Rattle.offsets.proofs.Ranges.{Ranged, ranged, ranged-accepted, ranged-bounded, list-0, list-8, list-refused, buffer-kept, buffer-filled}
-use Rattle.offsets.proofs.Ranges.{offsets-same}
+use Rattle.offsets.proofs.Ranges.{list-0, list-8, list-refused, buffer-kept, buffer-filled}
+use Rattle.offsets.proofs.Checked.{Checked, checked, checked-code}
 use borrow.Author.Needs.{needs}
 use Rattle.offsets.proofs.list.offset_list.Statement.{statement}
 use Rattle.offsets.proofs.list.offset_list.Tie as tie
@@ -32,22 +27,12 @@ answered c = simp (toZ-ofZ (c .before .before .fits .base)) at (c .checked-range
 
 code-of : (c : tie.After-checked-range) → let s = c .before .before in
     c .checked-range .result .code ≡ rangeCode (s .args .sizes .now) (s .args .strides .now) (s .args .base) (s .args .start) (s .args .end) (s .args .length)
-unfolding rangeOf
-code-of c = ap (λ (r : Compiled). r .code) (answered c)
+code-of c = checked-code _ _ _ _ _ _ (c .checked-range .result) (answered c)
 
-accepted-range : (c : tie.Else1) → let s = c .before .before .before .before in
-    Ranged (s .args .sizes .now) (s .args .strides .now) (s .args .base) (s .args .start) (s .args .end) (s .args .length)
-accepted-range c = ranged _ _ _ _ _ _ (sym (code-of (c .before .before)) ∙ c .if1 .left)
-
--- the layout of an accepted range
-layout-of : (c : tie.Else1) → let s = c .before .before .before .before in
-    c .before .before .checked-range .result .traversal ≡ (compileOf (s .args .sizes .now) (s .args .strides .now)) .traversal
-unfolding rangeOf layoutBeside
-layout-of c =
-    let m = c .before .before in
-    let s = m .before .before in
-    ap (λ (r : Compiled). r .traversal) (answered m)
-    ∙ ap (λ (n : ℕ). layoutBeside n (some ((compileOf (s .args .sizes .now) (s .args .strides .now)) .traversal))) (sym (code-of m) ∙ c .if1 .left)
+accepted : (c : tie.Else1) → let s = c .before .before .before .before in
+    Checked (s .args .sizes .now) (s .args .strides .now) (s .args .base) (s .args .start) (s .args .end) (s .args .length)
+    (c .before .before .checked-range .result .traversal)
+accepted c = checked _ _ _ _ _ _ (c .before .before .checked-range .result) (answered (c .before .before)) (c .if1 .left)
 
 checked-range-requires : tie.Need-checked-range-requires
 checked-range-requires c κs = search needs
@@ -67,7 +52,7 @@ returns c =
     )
 
 sub-if2 : tie.Need-sub-if2
-sub-if2 c = omega (arith, accepted-range c .forward)
+sub-if2 c = omega (arith, accepted c .forward)
 
 no : _≡_ {A = ℕ} 8 0 → ⊥
 no e = omega arith
@@ -76,7 +61,7 @@ returns-2 : tie.Need-returns-2
 returns-2 c =
     let e = c .before in
     let s = e .before .before .before .before in
-    let k = list-8 (s .args .sizes .now) (s .args .strides .now) (s .args .base) (s .args .start) (s .args .end) (s .args .length) (accepted-range e)
+    let k = list-8 (s .args .sizes .now) (s .args .strides .now) (s .args .base) (s .args .start) (s .args .end) (s .args .length) (accepted e .ranged)
     (length (s .args .out .now)) (c .if2 .taken) in (
       sym k,
       buffer-kept (s .args .sizes .now) (s .args .strides .now) (s .args .base) (s .args .start) (s .args .end) (s .args .length) (s .args .out .now)
@@ -88,10 +73,8 @@ write-offsets-requires c κs =
     let t = c .before .before in
     let e = t .before in
     let s = e .before .before .before .before in
-    let r = accepted-range e in
-    simp (toZ-ofZ (s .fits .base))
-    (rw (layout-of e)
-    (ranged-accepted _ _ _ _ _ _ r .traversal, ranged-bounded _ _ _ _ _ _ r, r .forward, r .inside, t .if2 .left))
+    let a = accepted e in
+    simp (toZ-ofZ (s .fits .base)) (a .traversal, a .bounded, a .forward, a .inside, t .if2 .left)
 
 same-length : tie.Need-same-length
 same-length c = search needs
@@ -105,20 +88,16 @@ wrote c =
     let t = c .before .before .before in
     let e = t .before in
     let s = e .before .before .before .before in
-    let a = ranged-accepted _ _ _ _ _ _ (accepted-range e) in
     simp (toZ-ofZ (s .fits .base)) at (c .write-offsets .ensures)
-    ∙ ap (λ (l : FullTraversal). offsetsFrom (runOf l ∷ outerOf l) (s .args .base) (s .args .start) (s .args .end - s .args .start)
-    ++ drop (s .args .end - s .args .start) (s .args .out .now)) (layout-of e)
     ∙ ap (λ (o : List ℤ). o ++ drop (s .args .end - s .args .start) (s .args .out .now))
-    (offsets-same _ _ (s .args .base) (a .same) (s .args .end - s .args .start) (s .args .start))
+    (accepted e .offsets (s .args .end - s .args .start) (s .args .start))
 
 returns-3 : tie.Need-returns-3
 returns-3 c =
     let t = c .before .before .before .before in
     let e = t .before in
     let s = e .before .before .before .before in
-    let r = accepted-range e in
-    let k = list-0 (s .args .sizes .now) (s .args .strides .now) (s .args .base) (s .args .start) (s .args .end) (s .args .length) r
+    let k = list-0 (s .args .sizes .now) (s .args .strides .now) (s .args .base) (s .args .start) (s .args .end) (s .args .length) (accepted e .ranged)
     (length (s .args .out .now)) (t .if2 .left) in (
       sym k,
       wrote (c .before)

@@ -1,7 +1,7 @@
 -- `offsets::list::write_run` meets its contract. The loop's invariant: i numbers are written, and the offset is the last of them.
 -- Assumes nothing.
 use Prim.Native.Nat.{ℕ, _+_, _-_, _≤_}
-use mathlib.Core.Path.{_≡_, _∙_, ap, subst}
+use mathlib.Core.Path.{_≡_, _∙_, ap}
 use native.Mathlib.Omega.{arith}
 use mathlib.Core.List.{List}
 use lib.ListN.{length, set, length-set}
@@ -9,7 +9,7 @@ use lib.IntN.{ℤ, pos, _+ℤ_, _*ℤ_}
 use mir.Val.{toZ, ofZ, SFits}
 use mir.Facts.{toZ-ofZ}
 use mir.Syntax.{w64}
-use Rattle.integers.proofs.Places.{place-first, place-next}
+use Rattle.integers.proofs.Places.{place-first, place-step}
 use Rattle.offsets.proofs.Writing.{filled, filled-more, filled-first, filled-over, length-filled}
 use Rattle.offsets.proofs.list.write_run.Statement.{statement}
 use Rattle.offsets.proofs.list.write_run.Tie as tie
@@ -30,18 +30,12 @@ slice-set-from-first : tie.Need-slice-set-from-first Inv-loop μ-loop
 slice-set-from-first c = omega arith
 
 -- the next number
-step : (z s : ℤ) (i : ℕ) → 1 ≤ i → (z +ℤ s *ℤ pos (i - 1)) +ℤ s ≡ z +ℤ s *ℤ pos i
-step z s i h = subst (λ (n : ℕ). (z +ℤ s *ℤ pos (i - 1)) +ℤ s ≡ z +ℤ s *ℤ pos n) e (place-next z s (i - 1))
-  where
-    e : i - 1 + 1 ≡ i
-    e = omega arith
-
 next : (c : tie.In-loop Inv-loop μ-loop) → let s = c .before .before in
     toZ w64 (c .before .loop .offset) +ℤ s .args .stride ≡ s .args .first +ℤ s .args .stride *ℤ pos (c .before .loop .i)
 next c =
     let s = c .before .before in
     ap (λ (z : ℤ). z +ℤ s .args .stride) (simp (toZ-ofZ (s .fits .first), toZ-ofZ (s .fits .stride)) at (c .before .loop .inv .2))
-    ∙ step (s .args .first) (s .args .stride) (c .before .loop .i) (c .before .loop .inv .0)
+    ∙ place-step (s .args .first) (s .args .stride) (c .before .loop .i) (c .before .loop .inv .0)
 
 next-fits : (c : tie.In-loop Inv-loop μ-loop) → SFits w64 (toZ w64 (c .before .loop .offset) +ℤ c .before .before .args .stride)
 next-fits c = rw (next c) (c .before .before .pre .2 (c .before .loop .i) (c .loop-test .taken))

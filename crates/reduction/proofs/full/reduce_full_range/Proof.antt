@@ -21,7 +21,8 @@ use Rattle.kernels.specs.Pieces.{worked}
 use Rattle.reduction.specs.InnerStrips.{strip}
 use Rattle.reduction.proofs.Ranges.{PieceTaken, taken, Reducing, near, reducing-first, reducing-more, reducing-all}
 use Rattle.offsets.proofs.Skipping.{firstAxis}
-use Rattle.reduction.proofs.Strips.{run-some, runs-inside, reducing-strip, last-digit, on-last, behind-strip}
+use Rattle.offsets.proofs.Runs.{run-some, last-digit, on-last, behind-strip}
+use Rattle.reduction.proofs.Strips.{runs-inside, reducing-strip}
 use Rattle.reduction.proofs.full.reduce_full_range.Statement.{statement}
 use Rattle.reduction.proofs.full.reduce_full_range.Tie as tie
 
@@ -248,7 +249,7 @@ skip-runs-requires c κs =
       s .pre .0,
       on-range (e .before .before),
       a .0,
-      last-digit (s .args .l) (s .pre .0) (s .args .base) (s .pre .1) (s .args .values .now) (s .pre .5) (s .args .end) (s .pre .3) (k .loop .c)
+      last-digit (s .args .l) (s .pre .0) (s .args .base) (s .pre .1) (s .args .end) (k .loop .c)
           (strip-cursor-is e) n
           (a .0) (a .1) (a .2) (a .3) (omega (arith, e .if2 .left)),
       omega (arith, m, a .3, s .pre .3, s .pre .4),
@@ -260,7 +261,7 @@ next-piece-requires-3 c κs =
     let k = strip-loop e in
     let s = from-loop k in
     let a = ahead e in
-    let o = on-last (s .args .l) (s .pre .0) (s .args .base) (s .pre .1) (s .args .values .now) (s .pre .5) (s .args .end) (s .pre .3) (k .loop .c)
+    let o = on-last (s .args .l) (s .pre .0) (s .args .base) (s .pre .1) (s .args .end) (k .loop .c)
     (strip-cursor-is e) (e .before .whole-runs .result) (a .0) (a .1) (a .2) (a .3) (omega (arith, e .if2 .left)) (c .skip-runs .result)
     (c .skip-runs .ensures) in
     (s .pre .0, o .0, o .1)
@@ -277,7 +278,7 @@ behind c =
     let k = strip-loop e in
     let s = from-loop k in
     let a = ahead e in
-    behind-strip (s .args .l) (s .pre .0) (s .args .base) (s .pre .1) (s .args .values .now) (s .pre .5) (s .args .end) (s .pre .3) (k .loop .c)
+    behind-strip (s .args .l) (s .pre .0) (s .args .base) (s .pre .1) (s .args .end) (k .loop .c)
     (strip-cursor-is e)
     (e .before .whole-runs .result) (a .0) (a .1) (a .2) (a .3) (omega (arith, e .if2 .left)) (c .before .skip-runs .result) (c .before .skip-runs .ensures)
     (c .next-piece3 .result) (c .next-piece3 .ensures)

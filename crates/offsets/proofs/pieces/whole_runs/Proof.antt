@@ -1,16 +1,16 @@
--- `reduction::full::whole_runs` meets its contract.
+-- `offsets::pieces::whole_runs` meets its contract.
 -- Assumes nothing.
 use Prim.Native.Nat.{_*_, _/_, _≤_, _<_, _-_}
 use native.Mathlib.Omega.{arith}
 use native.Mathlib.Nat.{mod-lt, mul-le-mul-right, le-of-mul-le-mul-right, div-mul-le-self}
 use lib.ListN.{getD}
 use Rattle.offsets.proofs.Skipping.{firstAxis, first-axis, first-digit, runs-fit}
-use Rattle.reduction.proofs.Strips.{run-some, runs-ahead}
+use Rattle.offsets.proofs.Runs.{run-some, runs-ahead}
 use borrow.Author.Needs.{needs}
-use Rattle.reduction.proofs.full.whole_runs.Statement.{statement}
-use Rattle.reduction.proofs.full.whole_runs.Tie as tie
-use Rattle.reduction.proofs.full.whole_runs.Reads as reads
-use Rattle.reduction.proofs.full.whole_runs.Lts as lts
+use Rattle.offsets.proofs.pieces.whole_runs.Statement.{statement}
+use Rattle.offsets.proofs.pieces.whole_runs.Tie as tie
+use Rattle.offsets.proofs.pieces.whole_runs.Reads as reads
+use Rattle.offsets.proofs.pieces.whole_runs.Lts as lts
 
 returns : tie.Need-returns
 returns c = search needs
