@@ -152,7 +152,8 @@ module _ (F : Format) (w t : ℕ) (P : prec F ≡ t + 1) (E : emax F ≡ bias w)
       (round-fits F (f .sign) (f .sig * up z) (l * down z))
 
   -- the product of two values, by the fractions that they equal
-  pub mul-values : (x y : Float) (s u : Bool) (a c b d : ℕ) → 0 < c → 0 < d → HasValue x s a c → HasValue y u b d → mul F x y ≡ round F (unlike s u) (a * b) (c * d)
+  pub mul-values : (x y : Float) (s u : Bool) (a c b d : ℕ) → 0 < c → 0 < d → HasValue x s a c → HasValue y u b d
+      → mul F x y ≡ round F (unlike s u) (a * b) (c * d)
   unfolding mul
   mul-values nan y s u a c b d C D h k = absurd h
   mul-values (inf v) y s u a c b d C D h k = absurd h

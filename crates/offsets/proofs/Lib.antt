@@ -8,8 +8,8 @@ pub mod Ranges
 pub mod Checked
 pub mod Walking
 pub mod Skipping
-pub mod Runs
 pub mod Writing
 pub mod Visiting
+pub mod Runs
 pub mod Cases
 pub mod Theorems

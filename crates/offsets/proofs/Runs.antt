@@ -1,23 +1,31 @@
 -- Whole runs ahead of a cursor, along the first outer axis: how many, where they lie, and the cursor behind them.
 -- Assumes nothing.
-use Prim.Native.Nat.{ℕ, _+_, _-_, _*_, _/_, _%_, _≤_, _<_}
+use Prim.Native.Nat.{ℕ, zero, suc, _+_, _-_, _*_, _/_, _%_, _≤_, _<_}
 use mathlib.Core.Path.{_≡_, refl, sym, _∙_, ap}
-use mathlib.Core.List.{_∷_}
+use mathlib.Core.Bool.{true}
+use mathlib.Core.List.{List, _∷_}
 use native.Mathlib.Omega.{arith}
-use native.Mathlib.Nat.{div-add-mod', mod-lt}
+use native.Mathlib.Nat.{div-add-mod', mod-lt, add-zero, mul-le-mul-right}
 use lib.ListN.{getD}
-use lib.Arith.{digits-mod}
+use lib.Arith.{digits-div, digits-mod}
 use lib.IntN.{ℤ, pos, _+ℤ_, _*ℤ_}
+use Rattle.integers.proofs.Difference.{ints, atoms}
+use Rattle.integers.proofs.Places.{place-first, place-later}
+use Rattle.layout.specs.declared.axis.ReduceOuterAxis.{ReduceOuterAxis}
 use Rattle.layout.specs.declared.traversal.FullTraversal.{FullTraversal}
 use Rattle.layout.specs.Axes.{axisOf}
 use Rattle.offsets.specs.declared.pieces.RangeCursor.{RangeCursor}
 use Rattle.offsets.specs.declared.pieces.RangePiece.{RangePiece}
-use Rattle.offsets.specs.Elements.{offset}
+use Rattle.offsets.specs.declared.pieces.RangeStrip.{RangeStrip}
+use Rattle.offsets.specs.Elements.{offset, insideValues, allInside}
 use Rattle.offsets.specs.InnerCursors.{Bounded, cursorAt, Traversal}
+use Rattle.offsets.specs.Lists.{offsetsFrom}
+use Rattle.offsets.specs.InnerLists.{steps}
 use Rattle.offsets.specs.Pieces.{runOf, outerOf}
-use Rattle.offsets.specs.InnerPieces.{rangeAt, pieceOf, skipped, OnRange}
+use Rattle.offsets.specs.InnerPieces.{rangeAt, pieceOf, skipped, OnRange, StripHere}
 use Rattle.offsets.proofs.Stepping.{axes-at}
-use Rattle.offsets.proofs.Walking.{piece-here}
+use Rattle.offsets.proofs.Walking.{PieceHere, piece-here, first-is}
+use Rattle.offsets.proofs.Visiting.{element-inside}
 use Rattle.offsets.proofs.Skipping.{firstAxis, first-axis, runs-lie, first-digit, skipped-is}
 
 pub run-some : (l : FullTraversal) → Traversal l → 1 ≤ l .«run_len»
@@ -92,3 +100,82 @@ module _ (l : FullTraversal) (t : Traversal l) (base : ℤ) (b : Bounded (runOf 
     behind-strip q f =
         let p = piece-here l t base b end d last-cursor-is (on-last .0) q f in
         (omega (arith, p .next-at, p .len-is, last-column, last-run), p .next-cursor-is)
+
+  -- the elements of the runs
+  run-elements : (j : ℕ) → j < n → (i : ℕ) → i < l .«run_len»
+      → c .runs .«source_offset» +ℤ firstAxis l .«source_step» *ℤ pos j +ℤ l .«run_stride» *ℤ pos i
+      ≡ offset (runOf l ∷ outerOf l) base (c .at + j * l .«run_len» + i)
+  run-elements j k i h =
+      ap (λ (z : ℤ). z +ℤ l .«run_stride» *ℤ pos i) (runs-at j k)
+      ∙ ap (λ (q : ℕ). offset (outerOf l) base q +ℤ l .«run_stride» *ℤ pos i) (sym (ap (λ (m : ℕ). m / l .«run_len») split ∙ digits-div (q₀ + j) h))
+      ∙ ap (λ (d : ℕ). offset (outerOf l) base ((c .at + j * l .«run_len» + i) / l .«run_len») +ℤ l .«run_stride» *ℤ pos d)
+      (sym (ap (λ (m : ℕ). m % l .«run_len») split ∙ digits-mod (q₀ + j) h))
+      ∙ first-is l t base b (c .at + j * l .«run_len» + i)
+    where
+      q₀ : ℕ
+      q₀ = c .at / l .«run_len»
+
+      split : c .at + j * l .«run_len» + i ≡ (c .at / l .«run_len» + j) * l .«run_len» + i
+      split = omega (arith, runs-begin)
+
+  -- they are the strip at the cursor
+  pub runs-strip : 1 ≤ n → (d : RangeCursor) → d ≡ skipped l (n - 1) c → (q : RangePiece) → q ≡ pieceOf l end d
+      → StripHere l base end c
+      (record { first = c .runs .«source_offset»; step = firstAxis l .«source_step»; len = l .«run_len»; count = n; next = q .next })
+  runs-strip one d e q f =
+      let g = behind-strip one d e q f in
+      record { some-len = run-some l t; some-run = one; ends = room; offsets = run-elements; next-at = g .0; next-cursor-is = g .1 }
+
+-- places a stride apart that are the offsets of elements in turn
+steps-listed : (xs : List ReduceOuterAxis) (base s : ℤ) (n : ℕ) (z : ℤ) (k : ℕ) → ((i : ℕ) → i < n → z +ℤ s *ℤ pos i ≡ offset xs base (k + i))
+    → steps z s n ≡ offsetsFrom xs base k n
+unfolding steps offsetsFrom
+steps-listed xs base s zero z k lies = refl
+steps-listed xs base s (suc n) z k lies =
+    ap (λ (y : ℤ). y ∷ steps (z +ℤ s) s n) (place-first z s ∙ lies 0 (omega arith) ∙ ap (offset xs base) (add-zero k))
+    ∙ ap (λ (zs : List ℤ). offset xs base k ∷ zs)
+    (steps-listed xs base s n (z +ℤ s) (suc k) (λ i h. place-later z s i ∙ lies (suc i) (omega arith) ∙ ap (offset xs base) (next i)))
+  where
+    next : (i : ℕ) → k + suc i ≡ suc k + i
+    next i = omega arith
+
+-- one piece is a strip
+pub piece-strip : (l : FullTraversal) (base : ℤ) (end : ℕ) (c : RangeCursor) (p : RangePiece) → PieceHere l base end c p
+    → StripHere l base end c (record { first = p .first; step = pos 0; len = p .len; count = 1; next = p .next })
+piece-strip l base end c p here =
+    record {
+      some-len = here .some-len;
+      some-run = omega arith;
+      ends = omega (arith, here .ends);
+      offsets = lies;
+      next-at = here .next-at ∙ omega arith;
+      next-cursor-is = here .next-cursor-is;
+    }
+  where
+    still : (z s : ℤ) (i : ℕ) → z +ℤ pos 0 *ℤ pos 0 +ℤ s *ℤ pos i ≡ z +ℤ s *ℤ pos i
+    still z s i = simp ints (simp atoms (omega arith))
+
+    lies : (j : ℕ) → j < 1 → (i : ℕ) → i < p .len
+        → p .first +ℤ pos 0 *ℤ pos j +ℤ l .«run_stride» *ℤ pos i ≡ offset (runOf l ∷ outerOf l) base (c .at + j * p .len + i)
+    lies zero h i k =
+        still (p .first) (l .«run_stride») i ∙ here .offsets i k
+        ∙ ap (offset (runOf l ∷ outerOf l) base) (let e : c .at + i ≡ c .at + 0 * p .len + i = omega arith in e)
+    lies (suc j) h i k = absurd (omega arith)
+
+-- ---- the places of a strip
+module _ (l : FullTraversal) (base : ℤ) (end : ℕ) (c : RangeCursor) (s : RangeStrip) (here : StripHere l base end c s) where
+  -- those of run j are its elements' offsets
+  pub strip-run : (j : ℕ) → j < s .count
+      → steps (s .first +ℤ s .step *ℤ pos j) (l .«run_stride») (s .len) ≡ offsetsFrom (runOf l ∷ outerOf l) base (c .at + j * s .len) (s .len)
+  strip-run j h = steps-listed (runOf l ∷ outerOf l) base (l .«run_stride») (s .len) (s .first +ℤ s .step *ℤ pos j) (c .at + j * s .len) (here .offsets j h)
+
+  -- and lie inside the values
+  pub strip-places-inside : (len : ℕ) → Traversal l → allInside (runOf l ∷ outerOf l) (l .total) base len ≡ true → end ≤ l .total
+      → (j : ℕ) → j < s .count → (i : ℕ) → i < s .len
+      → insideValues len (s .first +ℤ s .step *ℤ pos j +ℤ l .«run_stride» *ℤ pos i) ≡ true
+  strip-places-inside len t w few j h i k =
+      ap (insideValues len) (here .offsets j h i k)
+      ∙ element-inside l t base len w (c .at + j * s .len + i) (below (mul-le-mul-right (s .len) h))
+    where
+      below : suc j * s .len ≤ s .count * s .len → c .at + j * s .len + i < l .total
+      below m = omega (arith, here .ends)

@@ -16,7 +16,7 @@ use Rattle.integers.proofs.Difference.{ints, atoms}
 use Rattle.layout.specs.declared.traversal.FullTraversal.{FullTraversal}
 use Rattle.offsets.specs.declared.pieces.RangeCursor.{RangeCursor}
 use Rattle.offsets.specs.declared.pieces.RangePiece.{RangePiece}
-use Rattle.offsets.specs.Elements.{insideValues, allInside}
+use Rattle.offsets.specs.Elements.{offset, insideValues, allInside}
 use Rattle.offsets.specs.InnerCursors.{Traversal}
 use Rattle.offsets.specs.Pieces.{runOf, outerOf}
 use Rattle.offsets.specs.Lists.{offsetsFrom}
@@ -41,14 +41,19 @@ inside-index len (pos k) e =
     fits : k < 2 ^ 63 → SFits w64 (pos k)
     fits = simp ints (simp atoms (omega arith))
 
+-- each element's offset lies inside the values
+pub element-inside : (l : FullTraversal) → Traversal l → (base : ℤ) (len : ℕ) → allInside (runOf l ∷ outerOf l) (l .total) base len ≡ true
+    → (k : ℕ) → k < l .total → insideValues len (offset (runOf l ∷ outerOf l) base k) ≡ true
+element-inside l t base len w k h =
+    seven-exact (runOf l ∷ outerOf l) (t .axes) base len .0
+    (ap (λ (n : ℕ). allInside (runOf l ∷ outerOf l) n base len) (t .total) ∙ w) k (rw (t .total) h)
+
 -- each place of the piece at a cursor lies inside the values
 pub piece-inside : (l : FullTraversal) → Traversal l → (base : ℤ) (len : ℕ) → allInside (runOf l ∷ outerOf l) (l .total) base len ≡ true
     → (end : ℕ) → end ≤ l .total → (c : RangeCursor) (p : RangePiece) → PieceHere l base end c p
     → (i : ℕ) → i < p .len → insideValues len (p .first +ℤ l .«run_stride» *ℤ pos i) ≡ true
 piece-inside l t base len w end few c p here i k =
-    ap (insideValues len) (here .offsets i k)
-    ∙ seven-exact (runOf l ∷ outerOf l) (t .axes) base len .0
-    (ap (λ (n : ℕ). allInside (runOf l ∷ outerOf l) n base len) (t .total) ∙ w) (c .at + i) (rw (t .total) (omega (arith, here .ends)))
+    ap (insideValues len) (here .offsets i k) ∙ element-inside l t base len w (c .at + i) (omega (arith, here .ends))
 
 module _ (l : FullTraversal) (base : ℤ) (values : List Float) (end : ℕ) where
   -- a piece's rates, and those after it

@@ -1,5 +1,5 @@
 -- Inner: the cursor of a range, and the piece at it.
-use Prim.Native.Nat.{ℕ, _+_, _-_, _*_, _/_, _%_, min}
+use Prim.Native.Nat.{ℕ, _+_, _-_, _*_, _/_, _%_, _≤_, _<_, min}
 use mathlib.Core.Path.{_≡_}
 use mathlib.Core.Bool.{cond}
 use mathlib.Core.List.{_∷_}
@@ -10,6 +10,8 @@ use Rattle.layout.specs.declared.traversal.FullTraversal.{FullTraversal}
 use Rattle.layout.specs.Axes.{noAxis}
 use Rattle.offsets.specs.declared.pieces.RangeCursor.{RangeCursor}
 use Rattle.offsets.specs.declared.pieces.RangePiece.{RangePiece}
+use Rattle.offsets.specs.declared.pieces.RangeStrip.{RangeStrip}
+use Rattle.offsets.specs.Elements.{offset}
 use Rattle.offsets.specs.InnerCursors.{Bounded, cursorAt, advanced}
 use Rattle.offsets.specs.Pieces.{runOf, outerOf}
 
@@ -44,3 +46,13 @@ pub record OnRange (l : FullTraversal) (c : RangeCursor) : Type 0 where
   pub base : ℤ
   pub bounded : Bounded (runOf l ∷ outerOf l) base
   pub cursor-is : c ≡ rangeAt l base (c .at)
+
+-- the strip s at a cursor c: the offsets of its runs' elements are those of the elements from c on, one run after another
+pub record StripHere (l : FullTraversal) (base : ℤ) (end : ℕ) (c : RangeCursor) (s : RangeStrip) : Type 0 where
+  pub some-len : 1 ≤ s .len
+  pub some-run : 1 ≤ s .count
+  pub ends : c .at + s .count * s .len ≤ end
+  pub offsets : (j : ℕ) → j < s .count → (i : ℕ) → i < s .len
+      → s .first +ℤ s .step *ℤ pos j +ℤ l .«run_stride» *ℤ pos i ≡ offset (runOf l ∷ outerOf l) base (c .at + j * s .len + i)
+  pub next-at : s .next .at ≡ c .at + s .count * s .len
+  pub next-cursor-is : s .next .at < end → s .next ≡ rangeAt l base (s .next .at)

@@ -3,10 +3,11 @@ ghost use mathlib.Core.Path.{_≡_};
 ghost use mathlib.Core.List.{_∷_};
 ghost use Prim.Native.Nat.{_+_, _*_, _/_, _%_, _^_, _≤_, _<_};
 ghost use lib.ListN.{getD};
+ghost use lib.IntN.{ℤ};
 ghost use Rattle.layout.specs.Axes.{noAxis};
 ghost use Rattle.offsets.specs.InnerCursors.{Bounded, Traversal};
 ghost use Rattle.offsets.specs.Pieces.{runOf, outerOf};
-ghost use Rattle.offsets.specs.InnerPieces.{rangeAt, pieceOf, skipped, OnRange};
+ghost use Rattle.offsets.specs.InnerPieces.{rangeAt, pieceOf, skipped, OnRange, StripHere};
 use crate::cursor::ReduceOuterCursor;
 use layout::axis::PLACES;
 use layout::traversal::FullTraversal;
@@ -22,6 +23,15 @@ pub struct RangeCursor {
 pub struct RangePiece {
     pub first: i64,
     pub len: u64,
+    pub next: RangeCursor,
+}
+
+// Runs that begin a step apart: the offset of the first, how many elements each has, how many they are, and where the next begins.
+pub struct RangeStrip {
+    pub first: i64,
+    pub step: i64,
+    pub len: u64,
+    pub count: u64,
     pub next: RangeCursor,
 }
 
@@ -118,4 +128,36 @@ pub fn whole_runs(l: FullTraversal, c: RangeCursor, end: u64) -> u64
     let len = l.run_len;
     let room = end - c.at;
     if left * len <= room { left } else { room / len }
+}
+
+// The strip at a cursor that is not at the end: whole runs along the first outer axis, or one piece.
+pub fn next_strip(l: FullTraversal, end: u64, c: RangeCursor) -> RangeStrip
+    requires { ⌜ Traversal l × (c .at < end) × OnRange l c × (end ≤ l .total) × (l .total ≤ 2 ^ 40) ⌝ }
+    ensures { λ r. ⌜ ((base : ℤ) → Bounded (runOf l ∷ outerOf l) base → c ≡ rangeAt l base (c .at) → StripHere l base end c r) ⌝ }
+{
+    let n = whole_runs(l, c, end);
+    if n < 2 {
+        let p = next_piece(l, end, c);
+        let next = p.next;
+        return RangeStrip {
+            first: p.first,
+            step: 0,
+            len: p.len,
+            count: 1,
+            next,
+        };
+    }
+    let axes = l.run_axes;
+    let outer = axes[0];
+    let last = skip_runs(l, c, n - 1);
+    let q = next_piece(l, end, last);
+    let next = q.next;
+    let first = c.runs.source_offset;
+    RangeStrip {
+        first,
+        step: outer.source_step,
+        len: l.run_len,
+        count: n,
+        next,
+    }
 }

@@ -204,6 +204,7 @@ module _ (l : FullTraversal) (t : Traversal l) (base : ℤ) (b : Bounded (runOf 
             (map workedPiece (piecesOf l base values k end))) (next-at ∙ sym ends)
             ∙ strip-joins l t base b values w end few (firstAxis l .«source_step») n (c .at / l .«run_len») (c .runs .«source_offset») acc (omega (arith, ends))
             lie
-            ∙ ap (λ (k : ℕ). foldl combined acc (map workedPiece (piecesOf l base values k end))) (sym (runs-begin l t base b end c cursor-is n some-axis at-run left room))
+            ∙ ap (λ (k : ℕ). foldl combined acc (map workedPiece (piecesOf l base values k end)))
+            (sym (runs-begin l t base b end c cursor-is n some-axis at-run left room))
             ∙ s .rest;
       }
