@@ -3,7 +3,7 @@
 
 What an exported contract, a stated theorem or a table of cases reaches must lie in the files of specs/ that
 docs/PROOFS.md lists under "What must be believed", and nowhere else; each definition there must be reached; and all
-of them together have at most 600 lines. Imports, comments, blank lines and `unfolding` lines, which only steer the
+of them together have at most MOST_LINES lines. Imports, comments, blank lines and `unfolding` lines, which only steer the
 checker, are not counted. --write puts the list into the page.
 """
 
@@ -14,15 +14,18 @@ from pathlib import Path
 ROOT = Path(__file__).resolve().parent.parent
 PAGE = ROOT / "docs" / "PROOFS.md"
 # A new rule raises it by the lines of its definitions, in the commit that adds them.
-MOST_LINES = 600
-# The exported calls: a file of src and the functions in it (docs/RULES.md, C1 to C6).
+MOST_LINES = 730
+# The exported calls: a file of src and the functions in it (docs/RULES.md, C1 to C8).
 EXPORTED = {
     "layout/src/traversal.rt": ["compile"],
     "offsets/src/list.rt": ["offset_list"],
     "reduction/src/full.rt": ["reduce"],
     "accumulator/src/lib.rt": ["join"],
     "finishing/src/lib.rt": ["finish"],
+    "ordered/src/lib.rt": ["ordered_product"],
+    "figures/src/lib.rt": ["figure"],
     "probe/src/lib.rt": ["probe_reduce", "probe_list"],
+    "figure_probe/src/lib.rt": ["probe_ordered", "probe_figure"],
 }
 # Files whose every definition is a statement: theorems, and tables of cases that are proved.
 STATEMENTS = ("Theorems", "Cases")

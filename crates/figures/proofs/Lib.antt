@@ -1,0 +1,4 @@
+-- Laws of figures.
+pub mod Calls
+pub mod Theorems
+pub mod Cases

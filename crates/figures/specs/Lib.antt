@@ -1,0 +1,5 @@
+-- The figure of a range. Definitions only.
+pub mod Figures
+pub mod Theorems
+pub mod Cases
+pub mod InnerFigures

@@ -1,0 +1,6 @@
+-- Laws of the ordered product.
+pub mod Units
+pub mod Folding
+pub mod Calls
+pub mod Theorems
+pub mod Cases
