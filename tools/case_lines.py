@@ -47,6 +47,12 @@ def reduce(sizes, strides, base, start, end, values, word="reduce"):
     say(f"{word} {items(sizes)} {items(strides)} {base} {start} {end} {floats(values)}")
 
 
+def in_words(words, sizes, strides, base, start, end, values):
+    """One range as each of the words."""
+    for word in words:
+        reduce(sizes, strides, base, start, end, values, word)
+
+
 def join(left, right):
     """Each is the bits of m, e and the mark."""
     say("join " + " ".join(f"{m:016x} {e} {bad}" for m, e, bad in [left, right]))
@@ -89,3 +95,12 @@ def spoiled(word, good, wrong):
     line = " ".join([word, *good])
     other = [word + "s" + line[len(word) :], line[0].upper() + line[1:]]
     return [*lines, line + " ", line + " 0", line.replace(" ", "  ", 1), *other]
+
+
+def between_good_lines(lines):
+    """Lines that are not of the format, each between two that are."""
+    good = "compile 1 2 1 1"
+    say(good)
+    for line in lines:
+        say(line)
+        say(good)

@@ -31,7 +31,12 @@ ANSWERS = {
     "join": ("acc", "refused"),
     "finish": ("number", "refused"),
     "product": ("number", "refused"),
+    "ordered": ("number", "refused"),
+    "figure": ("number", "refused"),
 }
+# The calls over a range with its values, and those of them that multiply bad rates as IEEE 754 does.
+OVER_VALUES = ("reduce", "product", "ordered", "figure")
+WITH_BAD_RATES = ("ordered", "figure")
 
 
 class Failure(Exception):
@@ -202,7 +207,7 @@ def check_call(call, words):
         if call == "list":
             words.number("the length of the values", U64)
             words.items("place", ITEMS, lambda what: words.number(what, I64))
-        if call in ("reduce", "product"):
+        if call in OVER_VALUES:
             words.items("value", ITEMS, words.float)
     words.end()
 
@@ -274,7 +279,7 @@ def shown_case(words, refusals):
     if call == "list":
         layout, rest = shown_range(words[1:])
         return f"list: {layout}, {rest[0]} values, a buffer of {rest[1]}"
-    if call in ("reduce", "product"):
+    if call in OVER_VALUES:
         layout, rest = shown_range(words[1:])
         return f"{call}: {layout}, {shown_values(rest)}"
     if call == "join":
@@ -313,16 +318,30 @@ def shown_refusal(code, refusals):
 
 
 def shown_number(bits, call):
-    """A finished number. An m is never 0 or infinite, so a zero comes from underflow and an infinity from overflow."""
+    """A number, and with a zero, an infinity or a NaN what may have brought it."""
     value = float_of(bits)
-    if value != value:
-        return "NaN: a bad rate came in" if call == "product" else "NaN: the accumulator is bad"
-    if value != 0 and abs(value) != float("inf"):
+    if value != 0 and abs(value) < float("inf"):
         return repr(value)
+    name = "NaN" if value != value else repr(value)
+    return f"{name}: {reason_in_order(value) if call in WITH_BAD_RATES else reason_at_the_end(value, call)}"
+
+
+def reason_at_the_end(value, call):
+    """Of a finished number. No m is 0 or infinite, so a zero comes from underflow and an infinity from overflow."""
+    if value != value:
+        return "a bad rate came in" if call == "product" else "the accumulator is bad"
     way, size = ("underflow", "small") if value == 0 else ("overflow", "large")
     if call == "finish":
-        return f"{value!r}: {way}, m × 2^e is too {size} for a double"
-    return f"{value!r}: {way}, the product is too {size} for a double; reduce gives it as m × 2^e"
+        return f"{way}, m × 2^e is too {size} for a double"
+    return f"{way}, the product is too {size} for a double; reduce gives it as m × 2^e"
+
+
+def reason_in_order(value):
+    """Of an ordered product: a rate may have brought it, or a product on the way."""
+    if value != value:
+        return "a rate is a NaN, or an infinity met a zero"
+    rate, size = ("0", "small") if value == 0 else ("infinite", "large")
+    return f"a rate is {rate}, or the product became too {size} for a double"
 
 
 def shown_axes(words):

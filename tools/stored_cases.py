@@ -2,16 +2,17 @@
 """Prints the stored cases of the program `replay`, a line for each call.
 
 The format has no comments, so this file says what each group is for: here layouts, joins and malformed lines,
-in stored_products.py reductions, products and finishes.
+in stored_products.py reductions, products and finishes, in stored_figures.py ordered products and figures.
 The answers are the oracle's: crates/replay/stdout.
 """
 
 import sys
 
+import stored_figures
 import stored_products
 from case_lines import BAD, INFINITE, LEAST, LIMIT, MANY, MOST, ONE, OUT, SIGN, THREE_HALVES, TWO
 from case_lines import WRONG_FLOATS, WRONG_MARKS, WRONG_SIGNED
-from case_lines import compile_, join, list_, patterns_of_m, say, spoiled, unit
+from case_lines import between_good_lines, compile_, join, list_, patterns_of_m, spoiled, unit
 
 
 def times(s, t, e=0, f=0, bad=(0, 0)):
@@ -430,7 +431,6 @@ def malformed_joins():
 
 def malformed():
     """Lines that are not of the format, each between two that are."""
-    good = "compile 1 2 1 1"
     bad = [
         "",
         " ",
@@ -508,10 +508,7 @@ def malformed():
         "x" * 131072,
         "x" * 131073,
     ]
-    say(good)
-    for line in bad:
-        say(line)
-        say(good)
+    between_good_lines(bad)
 
 
 def longest():
@@ -547,6 +544,7 @@ def main():
         *stored_products.GROUPS,
         longest,
         malformed,
+        *stored_figures.GROUPS,
     ]:
         group()
     # The last line has no newline, and counts all the same.

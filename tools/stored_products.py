@@ -4,7 +4,7 @@ from math import isqrt
 
 from case_lines import INFINITE, LEAST, LIMIT, LISTED, MANY, MOST, ONE, SIGN, THREE_HALVES, TWO
 from case_lines import WRONG_FLOATS, WRONG_MARKS, WRONG_SIGNED, WRONG_UNSIGNED
-from case_lines import finish, floats, patterns_of_m, rate, reduce, say, spoiled, unit
+from case_lines import finish, floats, in_words, patterns_of_m, rate, reduce, say, spoiled, unit
 
 NAN = INFINITE + 2**51
 # A zero, a subnormal, an infinity and the NaN, with both signs where there are two.
@@ -13,6 +13,8 @@ STRIDES = [1, 2, -1]
 # The bounds within which a block of 64 is multiplied unsplit, each with the doubles above and below it.
 HIGH, LOW = rate(ONE, 120), rate(ONE, -120)
 BOUNDS = [HIGH, HIGH + 1, HIGH - 1, LOW, LOW - 1, LOW + 1]
+# The values of the products that the rules name.
+NAMED = [[unit(THREE_HALVES)] * 2, [rate(ONE, 1)] * 64, [0, rate(THREE_HALVES, 1)]]
 
 
 def mixed(number):
@@ -59,11 +61,7 @@ def runs(values, word="reduce"):
 
 def named_products():
     """The products that the rules name, at each stride, and as numbers."""
-    for values in [
-        [unit(THREE_HALVES)] * 2,
-        [rate(ONE, 1)] * 64,
-        [0, rate(THREE_HALVES, 1)],
-    ]:
+    for values in NAMED:
         runs(values)
         run(values, 1, "product")
         run(values, 2, "product")
@@ -177,7 +175,7 @@ def ranges_inside_runs():
         reduce([100], [-1], 99, start, end, table)
 
 
-def equal_strides():
+def equal_strides(words=("reduce",)):
     """Axes of one |stride| in both orders, which give other pieces, and stride 0 after all others."""
     table = rates(44, 120)
     for sizes, strides in [
@@ -191,11 +189,11 @@ def equal_strides():
     ]:
         total = sizes[0] * sizes[1] * (sizes[2] if len(sizes) > 2 else 1)
         for turned in [slice(None), slice(None, None, -1)]:
-            reduce(sizes[turned], strides[turned], 30, 0, total, table)
-            reduce(sizes[turned], strides[turned], 30, 4, total - 3, table)
+            in_words(words, sizes[turned], strides[turned], 30, 0, total, table)
+            in_words(words, sizes[turned], strides[turned], 30, 4, total - 3, table)
 
 
-def backwards():
+def backwards(words=("reduce",)):
     """Runs backwards in rows forwards, runs forwards in rows backwards, and both, which may fuse."""
     table = rates(51, 80)
     for sizes, strides, base in [
@@ -208,7 +206,7 @@ def backwards():
         ([5, 13], [-13, 1], 55),
     ]:
         for start, end in [(0, 65), (4, 60), (12, 14)]:
-            reduce(sizes, strides, base, start, end, table)
+            in_words(words, sizes, strides, base, start, end, table)
 
 
 def stride_0():
@@ -246,11 +244,11 @@ def ties_in_lanes():
         runs([value for s in values for value in [unit(-s)] * 35])
 
 
-def numbers():
-    """Products as numbers that pass the greatest double and the least, both ways, with every sign of the outcome."""
+def about_the_ends():
+    """Lists of values whose products pass the greatest double and the least, both ways, or just not."""
     greatest, least = INFINITE - 1, ONE
     above_one = unit(ONE + 1)
-    cases = [
+    return [
         [greatest, unit(ONE)],
         [greatest, above_one],
         [greatest, unit(TWO - 1) - 2**52],
@@ -272,7 +270,11 @@ def numbers():
         [least, rate(ONE, -54)],
         [least, least],
     ]
-    for values in cases:
+
+
+def numbers():
+    """Products as numbers about both ends of the doubles, with every sign of the outcome."""
+    for values in about_the_ends():
         for stride in [1, 2]:
             run(values, stride, "product")
             run(with_rate(values, 0, values[0] + SIGN), stride, "product")
@@ -285,10 +287,10 @@ def numbers():
         run(rates(72, 1000, e, e))
 
 
-def refused_reductions():
-    """Refusals 1 to 7 in rank, each with all that follow it and without, as products too."""
+def refused(words):
+    """Refusals 1 to 7 in rank, each with all that follow it and without."""
     two = rates(81, 2)
-    for word in ["reduce", "product"]:
+    for word in words:
         reduce([2], [1], 0, 0, 2, two, word)
         reduce([2**63, 2] * 5, [1], -1, 5, 4, [], word)
         reduce([2], [], 0, 0, 2, two, word)
@@ -320,6 +322,11 @@ def refused_reductions():
         reduce([], [], 2, 0, 1, two, word)
         reduce([1], [MOST], MOST, 0, 1, two, word)
         reduce([2, 2], [MOST, MOST], 1, 0, 1, two, word)
+
+
+def refused_reductions():
+    """The refusals of a reduction, as a product too."""
+    refused(["reduce", "product"])
 
 
 def the_listed_layouts():
@@ -386,8 +393,7 @@ def refusals_handed_in():
 
 def as_both(sizes, strides, base, start, end, table):
     """A range as an accumulator and as a number."""
-    for word in ["reduce", "product"]:
-        reduce(sizes, strides, base, start, end, table, word)
+    in_words(["reduce", "product"], sizes, strides, base, start, end, table)
 
 
 def runs_as_both(values):
@@ -435,12 +441,12 @@ def one_small_value_again():
     as_both([100, 3], [0, 1], 2, 50, 250, [rate(ONE, -20 - place) for place in range(6)])
 
 
-def five_axes():
+def five_axes(words=("reduce", "product")):
     """Five axes of which no two fuse, from element 17, which lies inside a run, and from the first."""
     for stride in STRIDES:
         base, table = laid(rates(117, 58), stride)
         for start, end in [(17, 32), (17, 18), (17, 25), (0, 32)]:
-            as_both([2] * 5, [stride * s for s in [1, 3, 7, 15, 31]], base, start, end, table)
+            in_words(words, [2] * 5, [stride * s for s in [1, 3, 7, 15, 31]], base, start, end, table)
 
 
 def zero_in_the_second_run():
@@ -470,9 +476,8 @@ def order_of_lanes():
         runs_as_both(turned)
 
 
-def cut_into_pieces():
-    """The same values in the same order, in runs of 24, 12, 8, 6, 4, 3 and 2: no two have the same last bits."""
-    values = rates(229, 24)
+def cuts(values):
+    """Ranges that visit the 24 values in their order, in runs of 24, 12, 8, 6, 4, 3 and 2, at each stride."""
     for length in [24, 12, 8, 6, 4, 3, 2]:
         # A value stands between two runs, so that they do not fuse.
         spread = []
@@ -480,7 +485,13 @@ def cut_into_pieces():
             spread += [*values[first : first + length], *rates(first, 1)]
         for stride in STRIDES:
             base, table = laid(spread, stride)
-            as_both([length, 24 // length], [stride, (length + 1) * stride], base, 0, 24, table)
+            yield [length, 24 // length], [stride, (length + 1) * stride], base, 0, 24, table
+
+
+def cut_into_pieces():
+    """The same values in the same order, cut into runs: no two lengths have the same last bits."""
+    for cut in cuts(rates(229, 24)):
+        as_both(*cut)
 
 
 def side_of_a_join():
@@ -507,18 +518,22 @@ def cases_that_see_what_the_stored_ones_did_not():
     side_of_a_join()
 
 
-def malformed_lines():
-    """Words of lines of `reduce`, `product` and `finish` that are not of the format."""
+def malformed_ranges(word):
+    """Words of a line with a range and its values that are not of the format."""
     m = "3ff8000000000000"
     count = [*WRONG_UNSIGNED, "33", str(2**64 - 1)]
     axes = [count, WRONG_UNSIGNED, count, WRONG_SIGNED]
     range_ = [WRONG_SIGNED, WRONG_UNSIGNED, WRONG_UNSIGNED]
     values = [[*WRONG_UNSIGNED, "3", "4097"], WRONG_FLOATS, WRONG_FLOATS]
     good = ["1", "2", "1", "1", "0", "0", "2", "2", m, m]
-    lines = []
-    for word in ["reduce", "product"]:
-        lines += spoiled(word, good, [*axes, *range_, *values])
-        lines.append(f"{word} 33{' 1' * 33} 33{' 1' * 33} 0 0 1 1 {m}")
+    lines = spoiled(word, good, [*axes, *range_, *values])
+    return [*lines, f"{word} 33{' 1' * 33} 33{' 1' * 33} 0 0 1 1 {m}"]
+
+
+def malformed_lines():
+    """Words of lines of `reduce`, `product` and `finish` that are not of the format."""
+    m = "3ff8000000000000"
+    lines = malformed_ranges("reduce") + malformed_ranges("product")
     lines.append("reduce 1 1 1 1 0 0 1 " + floats([unit(ONE)] * 4097))
     kinds = ["", "Acc", "ac", "accs", "number", "refused", m]
     lines += spoiled("finish", ["acc", m, "0", "0"], [kinds, WRONG_FLOATS, WRONG_SIGNED, WRONG_MARKS])

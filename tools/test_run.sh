@@ -63,6 +63,7 @@ calls() {
     check 'two files' 2 '' 'usage: ./run [FILE], and 2 arguments came' run_sh 'a b'
     check 'an option' 2 '' '--fast is no option' run_sh '--fast'
     check 'no argument' 0 'underflow, the product is too small' '' run_sh ''
+    has "$work/out" '    0.0: a rate is 0, or' || die 'no argument: the figure of a hall with a rate of 0 is not shown'
     check 'help that is not written' 1 '' 'cannot be written' run_sh '--help >/dev/full'
 }
 
@@ -217,6 +218,12 @@ readonly faulty=(
     'finish acc 0x3ff8000000000000 0 0' 'no 0x in front'
     'finish acc 1.5 0 0' "here $m"
     'finish acc one 0 0' 'the 16 lower-case hex digits of its bits'
+    'Figure 1 2 1 1' 'write it in lower case'
+    'ordered 1 2 1 1 0 0' 'the line ends where the end of the range should stand'
+    'ordered 1 4 1 1 0 0 4 4097' 'at most 4096 of them'
+    "ordered 1 2 1 1 0 0 2 2 $m" 'the line ends after 1 of 2 values; the count does not match the items'
+    "figure 1 2 1 1 0 0 2 2 $m 1.5" "word 11, \"1.5\", stands for value 2 of 2: a float is written by the 16 hex digits of its bits, here $m"
+    "figure 1 1 1 1 0 0 1 1 $m 0" '1 word too many: the line should end before word 11, "0"'
     "$(head -c 131073 /dev/zero | tr '\0' x)" 'the line has 131073 bytes'
 )
 
@@ -228,7 +235,7 @@ faults() {
 }
 
 numbers() {
-    local tiny=0010000000000000 huge=7fefffffffffffff
+    local tiny=0010000000000000 huge=7fefffffffffffff zero=0000000000000000 two='1 2 1 1 0 0 2 2'
     check_lines 'numbers' 0 \
         'finish acc 3ff0000000000000 -1075 0' '    0.0: underflow, m × 2^e is too small for a double' \
         'finish acc bff0000000000000 -2000 0' '    -0.0: underflow' \
@@ -238,6 +245,16 @@ numbers() {
         "product 1 2 1 1 0 0 2 2 $tiny $tiny" '    0.0: underflow, the product is too small for a double; reduce gives it as m × 2^e' \
         "product 1 2 1 1 0 0 2 2 $huge f${huge#?}" '    -inf: overflow, the product is too large for a double' \
         'product 1 1 1 1 0 0 1 1 0000000000000000' '    NaN: a bad rate came in' \
+        "ordered $two $m $m" '    2.25' \
+        "ordered $two $m $tiny" '    3.337610787760802e-308' \
+        "ordered $two $tiny $tiny" '    0.0: a rate is 0, or the product became too small for a double' \
+        "ordered $two b${m#?} $zero" '    -0.0: a rate is 0, or the product became too small for a double' \
+        "ordered $two $huge f${huge#?}" '    -inf: a rate is infinite, or the product became too large for a double' \
+        "ordered 1 2 1 1 0 0 3 2 $m $m" '    refused 6 (RANGE_PAST_END)' \
+        "figure $two $m $m" '    2.25' \
+        "figure $two $m $zero" '    0.0: a rate is 0, or the product became too small for a double' \
+        "figure $two 7ff0000000000000 $zero" '    NaN: a rate is a NaN, or an infinity met a zero' \
+        "figure 1 2 0 0 0 2 2 $m $m" '    refused 1 (STRIDE_LENGTH_MISMATCH)' \
         'list 1 2 1 1 4 0 2 6 3 -1 -2 -3' '    offsets 4 5' \
         'finish refused 11' '    refused 11'
 }

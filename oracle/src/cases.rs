@@ -37,8 +37,10 @@ fn answer(line: &[u8]) -> Option<String> {
     match words.word()? {
         b"compile" => compile(words),
         b"list" => list(words),
-        b"reduce" => Some(acc_text(reduced(words)?)),
-        b"product" => Some(number_text(rules::finish(reduced(words)?))),
+        b"reduce" => Some(acc_text(over_range(words, rules::reduce)?)),
+        b"product" => Some(number_text(rules::finish(over_range(words, rules::reduce)?))),
+        b"ordered" => Some(number_text(over_range(words, rules::ordered)?)),
+        b"figure" => Some(number_text(over_range(words, rules::figure)?)),
         b"join" => join(words),
         b"finish" => finish(words),
         _ => None,
@@ -89,14 +91,15 @@ fn list(mut words: Words) -> Option<String> {
     Some(text)
 }
 
-fn reduced(mut words: Words) -> Option<std::result::Result<Acc, u32>> {
+/// What a call over a range with its values gives.
+fn over_range<T>(mut words: Words, call: fn(&[u64], &[i64], &Range, &[f64]) -> T) -> Option<T> {
     let (sizes, strides) = axes(&mut words)?;
     let base = words.i64()?;
     let (start, end) = (words.u64()?, words.u64()?);
     let values = words.list(MOST_VALUES, Words::f64)?;
     words.end()?;
     let range = Range { base, start, end, length: values.len() as u64 };
-    Some(rules::reduce(&sizes, &strides, &range, &values))
+    Some(call(&sizes, &strides, &range, &values))
 }
 
 fn acc(words: &mut Words) -> Option<Acc> {

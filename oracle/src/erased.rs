@@ -191,9 +191,11 @@ impl ErasedReduceScalar for f64 {
     fn zero() -> f64 {
         0.0
     }
+    #[inline]
     fn one() -> f64 {
         1.0
     }
+    #[inline]
     fn reduce_product(lhs: f64, rhs: f64) -> f64 {
         lhs * rhs
     }

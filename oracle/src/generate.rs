@@ -1,13 +1,14 @@
 //! Ours: random case lines, the same for the same seed.
 //!
 //! A kind names what is drawn: `layout` gives lines of `compile` and `list`, `join` of `join`, `reduce` of `reduce`
-//! and `product`, `finish` of `finish`.
+//! and `product`, `ordered` of `ordered` and `figure`, `finish` of `finish`.
 
 mod accumulator;
 mod axes;
 mod finish;
 mod join;
 mod layout;
+pub mod ordered;
 mod rates;
 pub mod reduce;
 
@@ -21,6 +22,7 @@ pub fn maker(kind: &str) -> Option<Maker> {
         "layout" => Some(layout::line),
         "join" => Some(join::line),
         "reduce" => Some(reduce::line),
+        "ordered" => Some(ordered::line),
         "finish" => Some(finish::line),
         _ => None,
     }

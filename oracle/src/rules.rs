@@ -1,5 +1,5 @@
 //! Ours: what the product engine adds to the source, stated from its rules: refusals 2 and 4 to 10, the order in
-//! which they are asked, and the offset of an element. All sums here are made in 128 bits.
+//! which they are asked, the offset of an element, and the one NaN. All sums here are made in 128 bits.
 
 use crate::erased::calls::{self, Acc, Layout};
 use crate::StridedError;
@@ -112,6 +112,26 @@ pub fn list(sizes: &[u64], strides: &[i64], r: &Range, buffer: &mut [i64]) -> u3
 pub fn reduce(sizes: &[u64], strides: &[i64], r: &Range, values: &[f64]) -> Result<Acc, u32> {
     let layout = range(sizes, strides, r)?;
     Ok(calls::product(&layout, r.base, (r.start, r.end), values))
+}
+
+/// The one NaN for every pattern of a NaN: those of the Rust count as equal to it, as that of an infinity times 0,
+/// which has a sign on x86.
+pub fn one_nan(value: f64) -> f64 {
+    if value.is_nan() {
+        f64::from_bits(0x7ff8_0000_0000_0000)
+    } else {
+        value
+    }
+}
+
+pub fn ordered(sizes: &[u64], strides: &[i64], r: &Range, values: &[f64]) -> Result<f64, u32> {
+    let layout = range(sizes, strides, r)?;
+    Ok(one_nan(calls::ordered(&layout, r.base, (r.start, r.end), values)))
+}
+
+pub fn figure(sizes: &[u64], strides: &[i64], r: &Range, values: &[f64]) -> Result<f64, u32> {
+    let layout = range(sizes, strides, r)?;
+    Ok(one_nan(calls::figure(&layout, r.base, (r.start, r.end), values)))
 }
 
 /// Refusal 9. A NaN has no magnitude in [1, 2), so it is refused too.

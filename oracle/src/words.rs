@@ -1,6 +1,8 @@
 //! Ours: the words of a case line. Words are separated by exactly one space. A number is decimal with no leading
 //! zero and no plus, and a minus only before a number that is not 0. A float is 16 lower-case hex digits.
 
+use crate::rules;
+
 pub struct Words<'a> {
     line: Option<&'a [u8]>,
 }
@@ -69,7 +71,6 @@ impl<'a> Words<'a> {
         }
     }
 
-    /// Every pattern of a NaN is read as the one NaN.
     pub fn f64(&mut self) -> Option<f64> {
         let word = self.word()?;
         if word.len() != 16 {
@@ -84,8 +85,7 @@ impl<'a> Words<'a> {
             };
             bits = bits << 4 | u64::from(digit);
         }
-        let value = f64::from_bits(bits);
-        Some(if value.is_nan() { f64::from_bits(0x7ff8_0000_0000_0000) } else { value })
+        Some(rules::one_nan(f64::from_bits(bits)))
     }
 
     /// A count, at most `most`, and then as many items.

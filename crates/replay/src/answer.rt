@@ -2,7 +2,8 @@
 ghost use Prim.Native.Nat.{_+_, _*_, _≤_};
 ghost use mathlib.Core.Path.{_≡_};
 ghost use lib.ListN.{length};
-use crate::product::ReadReduced;
+use crate::product::RangeCall;
+use crate::product::ReadAnswer;
 use crate::range::Range;
 use crate::range::ReadRange;
 use layout::axis::ReduceOuterAxis;
@@ -29,32 +30,23 @@ pub fn answer(line: &[u8], out: &mut [u8]) -> usize
 {
     let end = text::word::find(line, 0, b' ');
     if check::same(&line[..end], b"join") {
-        return answer_reduced(crate::product::read_join(line, end + 1), &mut *out);
+        return put_answer(crate::product::read_join(line, end + 1), &mut *out);
     }
     if check::same(&line[..end], b"finish") {
-        return answer_finished(crate::product::given(line, end + 1), &mut *out);
+        return put_answer(crate::product::read_finish(line, end + 1), &mut *out);
     }
     answer_axes(&line[..end], line, end + 1, &mut *out)
 }
 
-fn answer_reduced(r: ReadReduced, out: &mut [u8]) -> usize
+fn put_answer(r: ReadAnswer, out: &mut [u8]) -> usize
     requires { ⌜ 131072 ≤ length (now out) ⌝ }
     ensures { λ r. ⌜ r ≤ 131072 ⌝ }
 {
-    let ReadReduced::Is(answer) = r else {
-        return malformed(&mut *out);
-    };
-    crate::acc::put_reduced(answer, &mut *out)
-}
-
-fn answer_finished(r: ReadReduced, out: &mut [u8]) -> usize
-    requires { ⌜ 131072 ≤ length (now out) ⌝ }
-    ensures { λ r. ⌜ r ≤ 131072 ⌝ }
-{
-    let ReadReduced::Is(answer) = r else {
-        return malformed(&mut *out);
-    };
-    crate::acc::put_finished(finishing::finish(answer), &mut *out)
+    match r {
+        ReadAnswer::Reduced(answer) => crate::acc::put_reduced(answer, &mut *out),
+        ReadAnswer::Finished(answer) => crate::acc::put_finished(answer, &mut *out),
+        ReadAnswer::Malformed => malformed(&mut *out),
+    }
 }
 
 // Every other call has its sizes and strides first, so they are read before it is known which one it is.
@@ -95,18 +87,35 @@ fn answer_layout(
         return answer_list(sizes, strides, line, at, &mut *out);
     }
     if check::same(call, b"reduce") {
-        return answer_reduced(
-            crate::product::read_reduce(sizes, strides, line, at),
-            &mut *out,
-        );
+        return answer_range(RangeCall::Reduce, sizes, strides, line, at, &mut *out);
     }
     if check::same(call, b"product") {
-        return answer_finished(
-            crate::product::read_reduce(sizes, strides, line, at),
-            &mut *out,
-        );
+        return answer_range(RangeCall::Product, sizes, strides, line, at, &mut *out);
+    }
+    if check::same(call, b"ordered") {
+        return answer_range(RangeCall::Ordered, sizes, strides, line, at, &mut *out);
+    }
+    if check::same(call, b"figure") {
+        return answer_range(RangeCall::Figure, sizes, strides, line, at, &mut *out);
     }
     malformed(&mut *out)
+}
+
+fn answer_range(
+    call: RangeCall,
+    sizes: &[u64],
+    strides: &[i64],
+    line: &[u8],
+    at: usize,
+    out: &mut [u8],
+) -> usize
+    requires { ⌜ 131072 ≤ length (now out) ⌝ }
+    ensures { λ r. ⌜ r ≤ 131072 ⌝ }
+{
+    put_answer(
+        crate::product::read_over_range(call, sizes, strides, line, at),
+        &mut *out,
+    )
 }
 
 fn answer_compile(sizes: &[u64], strides: &[i64], line: &[u8], at: usize, out: &mut [u8]) -> usize

@@ -1,7 +1,9 @@
-// The calls whose answer is an accumulator or a refusal, each read from the rest of its line.
+// The calls whose answer is an accumulator, a number or a refusal, each read from the rest of its line.
 use crate::acc::ReadAcc;
+use crate::range::Range;
 use crate::range::ReadRange;
 use accumulator::Reduced;
+use finishing::Finished;
 use text::word::ReadU64;
 
 // How many values a line may have.
@@ -9,46 +11,106 @@ const VALUES: usize = 4096;
 
 const U32_MAX: u64 = 0xffff_ffff;
 
+// The calls over a range and its values.
+pub enum RangeCall {
+    Reduce,
+    Product,
+    Ordered,
+    Figure,
+}
+
 // The answer, unless the line was malformed.
-pub enum ReadReduced {
+pub enum ReadAnswer {
+    Reduced(Reduced),
+    Finished(Finished),
+    Malformed,
+}
+
+// What the line of a `finish` gives.
+enum ReadReduced {
     Is(Reduced),
     Malformed,
 }
 
 // Two accumulators, joined.
-pub fn read_join(line: &[u8], at: usize) -> ReadReduced {
+pub fn read_join(line: &[u8], at: usize) -> ReadAnswer {
     let ReadAcc::Is(a, to_b) = crate::acc::read_acc(line, at) else {
-        return ReadReduced::Malformed;
+        return ReadAnswer::Malformed;
     };
     let ReadAcc::Is(b, next) = crate::acc::read_acc(line, to_b) else {
-        return ReadReduced::Malformed;
+        return ReadAnswer::Malformed;
     };
     if !text::word::at_end(line, next) {
-        return ReadReduced::Malformed;
+        return ReadAnswer::Malformed;
     }
-    ReadReduced::Is(accumulator::join(a, b))
+    ReadAnswer::Reduced(accumulator::join(a, b))
 }
 
-// A range and its values, reduced.
-pub fn read_reduce(sizes: &[u64], strides: &[i64], line: &[u8], at: usize) -> ReadReduced {
+// A range and its values, read once for every call.
+pub fn read_over_range(
+    call: RangeCall,
+    sizes: &[u64],
+    strides: &[i64],
+    line: &[u8],
+    at: usize,
+) -> ReadAnswer {
     let mut values = [0.0; VALUES];
     let ReadRange::Is(r, to_values) = crate::range::read_range(line, at) else {
-        return ReadReduced::Malformed;
+        return ReadAnswer::Malformed;
     };
     let v = crate::float::read_floats(line, to_values, &mut values);
     if !v.ok {
-        return ReadReduced::Malformed;
+        return ReadAnswer::Malformed;
     }
     if !text::word::at_end(line, v.next) {
-        return ReadReduced::Malformed;
+        return ReadAnswer::Malformed;
     }
     let n = v.count;
-    let answer = reduction::full::reduce(sizes, strides, r.base, r.start, r.end, &values[..n]);
-    ReadReduced::Is(answer)
+    over_range(call, sizes, strides, r, &values[..n])
 }
 
-// An answer that the line itself gives: `acc M E BAD` or `refused N`.
-pub fn given(line: &[u8], at: usize) -> ReadReduced {
+// What the call gives for them.
+fn over_range(
+    call: RangeCall,
+    sizes: &[u64],
+    strides: &[i64],
+    r: Range,
+    values: &[f64],
+) -> ReadAnswer {
+    match call {
+        RangeCall::Reduce => ReadAnswer::Reduced(reduce(sizes, strides, r, values)),
+        RangeCall::Product => ReadAnswer::Finished(product(sizes, strides, r, values)),
+        RangeCall::Ordered => ReadAnswer::Finished(ordered(sizes, strides, r, values)),
+        RangeCall::Figure => ReadAnswer::Finished(figure(sizes, strides, r, values)),
+    }
+}
+
+fn reduce(sizes: &[u64], strides: &[i64], r: Range, values: &[f64]) -> Reduced {
+    reduction::full::reduce(sizes, strides, r.base, r.start, r.end, values)
+}
+
+fn product(sizes: &[u64], strides: &[i64], r: Range, values: &[f64]) -> Finished {
+    finishing::finish(reduce(sizes, strides, r, values))
+}
+
+fn ordered(sizes: &[u64], strides: &[i64], r: Range, values: &[f64]) -> Finished {
+    ordered::ordered_product(sizes, strides, r.base, r.start, r.end, values)
+}
+
+fn figure(sizes: &[u64], strides: &[i64], r: Range, values: &[f64]) -> Finished {
+    figures::figure(sizes, strides, r.base, r.start, r.end, values)
+}
+
+// The answer of a reduction that the line itself gives, finished.
+pub fn read_finish(line: &[u8], at: usize) -> ReadAnswer {
+    let ReadReduced::Is(answer) = given(line, at) else {
+        return ReadAnswer::Malformed;
+    };
+    ReadAnswer::Finished(finishing::finish(answer))
+}
+
+// `acc M E BAD` or `refused N`.
+fn given(line: &[u8], at: usize) -> ReadReduced {
     if line.len() < at {
         return ReadReduced::Malformed;
     }

@@ -4,7 +4,7 @@
 //! gives every number exactly, and accumulators are made by its own splitting and joining.
 
 use super::reduce_kernel::{
-    reduce_full_range, FullTraversal, ReduceKernel, StableProductKernel, StableProductScalar,
+    reduce_full_range, FullTraversal, OrderedProductKernel, ReduceKernel, StableProductKernel, StableProductScalar,
 };
 use super::ErasedReduceScalar;
 use crate::Result;
@@ -72,6 +72,22 @@ impl Plan {
     /// The product of a range whose elements all lie inside the values.
     pub fn product(&self, base: isize, range: Range<usize>, values: &[f64]) -> Answer {
         Answer(reduce::<f64, StableProductKernel>(self, base, range, values))
+    }
+
+    /// The ordered product of such a range. A NaN has the bits that the machine gives it.
+    pub fn ordered(&self, base: isize, range: Range<usize>, values: &[f64]) -> f64 {
+        reduce::<f64, OrderedProductKernel>(self, base, range, values)
+    }
+
+    /// The finished product of such a range, made again by the stable kernel's own fallback where that asks for it.
+    pub fn figure(&self, base: isize, range: Range<usize>, values: &[f64]) -> f64 {
+        type Fallback = <StableProductKernel as ReduceKernel<f64>>::Fallback;
+        let acc = reduce::<f64, StableProductKernel>(self, base, range.clone(), values);
+        if <StableProductKernel as ReduceKernel<f64>>::needs_ordered_fallback(&acc) {
+            reduce::<f64, Fallback>(self, base, range, values)
+        } else {
+            f64::sp_finish(acc)
+        }
     }
 }
 
@@ -152,6 +168,16 @@ pub fn visited(layout: &Layout, base: i64, range: (u64, u64), length: u64) -> Ve
 /// The product of a range whose elements all lie inside the values.
 pub fn product(layout: &Layout, base: i64, range: (u64, u64), values: &[f64]) -> Acc {
     layout.plan.product(base as isize, range.0 as usize..range.1 as usize, values).read()
+}
+
+/// The ordered product of such a range.
+pub fn ordered(layout: &Layout, base: i64, range: (u64, u64), values: &[f64]) -> f64 {
+    layout.plan.ordered(base as isize, range.0 as usize..range.1 as usize, values)
+}
+
+/// The figure of such a range.
+pub fn figure(layout: &Layout, base: i64, range: (u64, u64), values: &[f64]) -> f64 {
+    layout.plan.figure(base as isize, range.0 as usize..range.1 as usize, values)
 }
 
 fn read(acc: SourceAcc) -> Acc {

@@ -5,8 +5,11 @@ use super::Dice;
 
 /// The exponents of the bounds within which a block of 64 is multiplied unsplit, and of the normal numbers.
 const BLOCK: i64 = 120;
-const LEAST: i64 = -1022;
-const MOST: i64 = 1023;
+pub const LEAST: i64 = -1022;
+pub const MOST: i64 = 1023;
+
+const INFINITE: u64 = 2047 << 52;
+const NAN: u64 = INFINITE + ONE / 2;
 
 const KINDS: [fn(&mut Dice) -> u64; 15] = [
     keep,
@@ -29,15 +32,31 @@ const KINDS: [fn(&mut Dice) -> u64; 15] = [
 /// So many rates, none of them bad. In some lines a few are negative, in others half of them.
 pub fn drawn(dice: &mut Dice, count: u64) -> Vec<u64> {
     let kind = KINDS.get(dice.below(KINDS.len() as u64 + 2) as usize).copied();
-    let minus = dice.of(&[0, 0, 2, 50]);
+    let minus = Minus::drawn(dice);
     let mut rates = Vec::new();
     for _ in 0..count {
         let draw = kind.unwrap_or_else(|| dice.of(&KINDS));
         let size = draw(dice);
-        let sign = if minus > 0 && dice.once_in(minus) { SIGN } else { 0 };
-        rates.push(size + sign);
+        rates.push(size + minus.sign(dice));
     }
     rates
+}
+
+/// How many rates of a line are negative: one in so many, or with 0 none.
+pub struct Minus(u64);
+
+impl Minus {
+    pub fn drawn(dice: &mut Dice) -> Minus {
+        Minus(dice.of(&[0, 0, 2, 50]))
+    }
+
+    pub fn sign(&self, dice: &mut Dice) -> u64 {
+        if self.0 > 0 && dice.once_in(self.0) {
+            SIGN
+        } else {
+            0
+        }
+    }
 }
 
 /// A zero, a subnormal, an infinity or the NaN, which has one pattern here: the Rust keeps a NaN's own fraction and
@@ -47,10 +66,18 @@ pub fn bad(dice: &mut Dice) -> u64 {
         0 | 1 => 0,
         2 => dice.of(&[1, 2, ONE / 2, ONE - 1]),
         3 => 1 + dice.below(ONE - 1),
-        4 => 2047 << 52,
-        _ => return 0x7ff8_0000_0000_0000,
+        4 => INFINITE,
+        _ => return NAN,
     };
     size + dice.of(&[0, SIGN])
+}
+
+/// A bad rate, a NaN with any pattern: for calls whose answers hold nothing of the pattern.
+pub fn bad_of_any_pattern(dice: &mut Dice) -> u64 {
+    match bad(dice) {
+        NAN => INFINITE + dice.of(&[1, ONE / 2 - 1, ONE / 2, ONE / 2 + 1, ONE - 1]) + dice.of(&[0, SIGN]),
+        other => other,
+    }
 }
 
 /// The same rate with another exponent, as near to the wanted one as a normal number can have, and what is still
@@ -65,8 +92,17 @@ fn rate(significand: u64, e: i64) -> u64 {
     (((e + 1023) as u64) << 52) + (significand - ONE)
 }
 
+/// From 2^-1074 on: below the normal numbers the last bits of the significand are cut off.
+pub fn rate_or_subnormal(significand: u64, e: i64) -> u64 {
+    if e < LEAST {
+        significand >> (LEAST - e)
+    } else {
+        rate(significand, e)
+    }
+}
+
 /// From `least` to `most`.
-fn between(dice: &mut Dice, least: i64, most: i64) -> i64 {
+pub fn between(dice: &mut Dice, least: i64, most: i64) -> i64 {
     least + dice.below((most - least + 1) as u64) as i64
 }
 

@@ -17,7 +17,7 @@ pub fn line(dice: &mut Dice) -> String {
     Call::drawn(dice).text()
 }
 
-fn drawn_axes(dice: &mut Dice) -> Axes {
+pub fn drawn_axes(dice: &mut Dice) -> Axes {
     let room = if dice.once_in(40) { 1000 } else { dice.of(&[30, 80, 140, 200, 300, 300, 300, 300]) };
     let mut axes = match dice.below(24) {
         0 => dice.of(&[axes::wild, axes::edge, axes::mixed])(dice),
@@ -134,24 +134,29 @@ pub struct Call {
     word: &'static str,
     pub axes: Axes,
     pub range: Range,
-    values: Vec<u64>,
+    pub values: Vec<u64>,
 }
 
 impl Call {
     pub fn drawn(dice: &mut Dice) -> Call {
         let axes = drawn_axes(dice);
-        let total = axes.total(dice);
-        let (start, end) = stretch(dice, total);
-        let (base, length) = fit(dice, &axes);
-        let word = dice.of(&["reduce", "reduce", "reduce", "product"]);
-        let values = rates::drawn(dice, length);
-        let mut call = Call { word, axes, range: Range { base, start, end, length }, values };
+        let mut call = Call::over(dice, axes, &["reduce", "reduce", "reduce", "product"]);
         if dice.once_in(7) {
-            call.spoil(dice);
-        } else if dice.once_in(if word == "product" { 2 } else { 20 }) {
+            call.spoil(dice, rates::bad);
+        } else if dice.once_in(if call.word == "product" { 2 } else { 20 }) {
             call.aim(dice);
         }
         call
+    }
+
+    /// One of the words, over these axes, with values of which none is bad.
+    pub fn over(dice: &mut Dice, axes: Axes, words: &[&'static str]) -> Call {
+        let total = axes.total(dice);
+        let (start, end) = stretch(dice, total);
+        let (base, length) = fit(dice, &axes);
+        let word = dice.of(words);
+        let values = rates::drawn(dice, length);
+        Call { word, axes, range: Range { base, start, end, length }, values }
     }
 
     pub fn text(&self) -> String {
@@ -179,12 +184,18 @@ impl Call {
         rules::offset(&axes, self.range.base, element) as usize
     }
 
+    /// The places of the visited elements, in their order, if the call is accepted.
+    pub fn visited(&self) -> Option<Vec<usize>> {
+        self.run()?;
+        Some((self.range.start..self.range.end).map(|element| self.place(element)).collect())
+    }
+
     /// Mostly one rate becomes bad, now and then two or three.
-    fn spoil(&mut self, dice: &mut Dice) {
+    pub fn spoil(&mut self, dice: &mut Dice, bad: fn(&mut Dice) -> u64) {
         let Some(run) = self.run() else { return };
         for _ in 0..dice.of(&[1, 1, 1, 1, 2, 3]) {
             let place = self.place(self.spot(dice, run));
-            self.values[place] = rates::bad(dice);
+            self.values[place] = bad(dice);
         }
     }
 

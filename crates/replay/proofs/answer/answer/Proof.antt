@@ -23,8 +23,8 @@ add-read-join c = search needs
 read-join-requires : tie.Need-read-join-requires
 read-join-requires c κs = search needs
 
-answer-reduced-requires : tie.Need-answer-reduced-requires
-answer-reduced-requires c κs = search needs
+put-answer-requires : tie.Need-put-answer-requires
+put-answer-requires c κs = search needs
 
 same-length : tie.Need-same-length
 same-length c = search needs
@@ -41,14 +41,14 @@ slice-aggregate-same-4 c = search needs
 same-requires-2 : tie.Need-same-requires-2
 same-requires-2 c κs = search needs
 
-add-given : tie.Need-add-given
-add-given c = search needs
+add-read-finish : tie.Need-add-read-finish
+add-read-finish c = search needs
 
-given-requires : tie.Need-given-requires
-given-requires c κs = search needs
+read-finish-requires : tie.Need-read-finish-requires
+read-finish-requires c κs = search needs
 
-answer-finished-requires : tie.Need-answer-finished-requires
-answer-finished-requires c κs = search needs
+put-answer-requires-2 : tie.Need-put-answer-requires-2
+put-answer-requires-2 c κs = search needs
 
 same-length-2 : tie.Need-same-length-2
 same-length-2 c = search needs
@@ -81,15 +81,15 @@ answer-spec =
     same-requires
     add-read-join
     read-join-requires
-    answer-reduced-requires
+    put-answer-requires
     same-length
     returns
     slice-aggregate-same-3
     slice-aggregate-same-4
     same-requires-2
-    add-given
-    given-requires
-    answer-finished-requires
+    add-read-finish
+    read-finish-requires
+    put-answer-requires-2
     same-length-2
     returns-2
     slice-aggregate-answer-axes

@@ -1,9 +1,9 @@
--- `replay::product::read_reduce` meets its contract. The count that was read lies within the array.
+-- `replay::product::read_over_range` meets its contract. The count that was read lies within the array.
 -- Assumes nothing.
 use borrow.Author.Needs.{needs}
 use Rattle.replay.proofs.Parts.{counts}
-use Rattle.replay.proofs.product.read_reduce.Statement.{statement}
-use Rattle.replay.proofs.product.read_reduce.Tie as tie
+use Rattle.replay.proofs.product.read_over_range.Statement.{statement}
+use Rattle.replay.proofs.product.read_over_range.Tie as tie
 
 read-range-requires : tie.Need-read-range-requires
 read-range-requires c κs = search needs
@@ -35,17 +35,17 @@ returns-3 c = search needs
 array-share-prefix-values : tie.Need-array-share-prefix-values
 array-share-prefix-values c = search needs
 
-slice-aggregate-reduce : tie.Need-slice-aggregate-reduce
-slice-aggregate-reduce c = counts _ _ (search needs)
+slice-aggregate-over-range : tie.Need-slice-aggregate-over-range
+slice-aggregate-over-range c = counts _ _ (search needs)
 
-reduce-requires : tie.Need-reduce-requires
-reduce-requires c κs = search needs
+over-range-requires : tie.Need-over-range-requires
+over-range-requires c κs = search needs
 
 returns-4 : tie.Need-returns-4
 returns-4 c = search needs
 
-pub read-reduce-spec : {M : Type 1} → statement M
-read-reduce-spec =
+pub read-over-range-spec : {M : Type 1} → statement M
+read-over-range-spec =
     tie.close
     (tie.spec
     read-range-requires
@@ -58,6 +58,6 @@ read-reduce-spec =
     at-end-requires
     returns-3
     array-share-prefix-values
-    slice-aggregate-reduce
-    reduce-requires
+    slice-aggregate-over-range
+    over-range-requires
     returns-4)
