@@ -1,10 +1,12 @@
 //! Every case of both tables, of growth, and of short calls with several axes: those that take longer than the Rust.
+//! And every case of the calls that hand out a number: those that take longer than aimed at.
 //!
 //! A busy machine makes a case look slow now and then, so one that does is timed again, and its best ratio counts.
 
 use crate::job::Job;
 use crate::rates::Rates;
-use crate::{growth, rare, table, timing};
+use crate::table::Row;
+use crate::{figures, growth, rare, table, timing};
 use std::time::Duration;
 
 const LEAST: Duration = Duration::from_millis(100);
@@ -15,15 +17,17 @@ const TRIES: usize = 4;
 /// Calls of so many values, of each of the layouts with several axes.
 const SHORT: [u64; 20] = [1, 2, 3, 5, 7, 8, 9, 16, 17, 31, 32, 33, 63, 64, 65, 100, 128, 129, 200, 256];
 
-/// What was timed, and what of it took longer than the Rust.
+/// What was timed, and what of it took longer than the Rust; then the ratios of figures, and those past their aim.
 #[derive(Default)]
 struct Seen {
     cases: usize,
     slower: usize,
+    ratios: usize,
+    missed: usize,
     same: bool,
 }
 
-/// Whether no case takes longer than the Rust, and all answers were the same.
+/// Whether no case takes longer than the Rust, nor a figure than aimed at, and all answers were the same.
 pub fn print() -> bool {
     let mut seen = Seen { same: true, ..Seen::default() };
     for (name, lists) in [("the first table", &table::LISTS[..]), ("the second table", &rare::LISTS[..])] {
@@ -40,8 +44,25 @@ pub fn print() -> bool {
     for (name, axes) in layouts() {
         SHORT.into_iter().for_each(|count| seen.time(&format!("{name}, {count} values"), &short(&axes, count)));
     }
+    eprintln!("figures ..");
+    for table in &figures::TABLES {
+        (table.rows)().iter().for_each(|row| seen.figure(table, row));
+    }
     println!("{} of {} cases take longer than the Rust", seen.slower, seen.cases);
-    seen.same && seen.slower == 0
+    println!("{} of {} ratios of figures are past their aim", seen.missed, seen.ratios);
+    seen.same && seen.slower == 0 && seen.missed == 0
+}
+
+/// The best of each ratio, out of so many tries that none is past its aim, or out of all.
+fn best(aims: &[f64], ratios: impl Fn() -> Vec<f64>) -> Vec<f64> {
+    let mut best = vec![f64::INFINITY; aims.len()];
+    for _ in 0..TRIES {
+        best.iter_mut().zip(ratios()).for_each(|(best, ratio)| *best = best.min(ratio));
+        if best.iter().zip(aims).all(|(ratio, aim)| ratio <= aim) {
+            break;
+        }
+    }
+    best
 }
 
 impl Seen {
@@ -52,16 +73,32 @@ impl Seen {
             self.same = false;
             return;
         }
-        let mut best = f64::INFINITY;
-        for _ in 0..TRIES {
+        let ratios = best(&[1.0], || {
             let times = timing::measure(job, LEAST);
-            best = best.min(times.engine / times.rust);
-            if best <= 1.0 {
-                return;
+            vec![times.engine / times.rust]
+        });
+        if ratios[0] > 1.0 {
+            self.slower += 1;
+            println!("{name}: {:.3} of the Rust's time", ratios[0]);
+        }
+    }
+
+    fn figure(&mut self, table: &figures::Table, row: &Row) {
+        let name = format!("{}, {}, {}", table.name, row.name, row.rates);
+        self.ratios += table.ratios.len();
+        if let Some(difference) = row.job.number_difference() {
+            println!("{name}: {difference}");
+            self.same = false;
+            return;
+        }
+        let aims: Vec<f64> = table.ratios.iter().map(|ratio| ratio.1).collect();
+        let found = best(&aims, || table.measure(&row.job, LEAST).1);
+        for (ratio, &(head, aim)) in found.into_iter().zip(table.ratios) {
+            if ratio > aim {
+                self.missed += 1;
+                println!("{name}: {head} is {ratio:.3}, and the aim {aim}");
             }
         }
-        self.slower += 1;
-        println!("{name}: {best:.3} of the Rust's time");
     }
 }
 

@@ -1,12 +1,14 @@
 //! Random calls to the engine and to the Rust, whose answers must be the same to the bit: the number of the
-//! refusal, the accumulator, and every place of a buffer. The offsets of each range are listed and compared too. Now
-//! and then comes a long piece.
+//! refusal, the accumulator, and every place of a buffer. The offsets of each range are listed and compared too, and
+//! its ordered product and its figure; then both of these for a call that is drawn for them. Now and then comes a long
+//! piece.
 
 use crate::erased::calls::{self, Layout};
 use crate::generate::reduce::Call;
-use crate::generate::Dice;
+use crate::generate::{ordered, Dice};
 use crate::job;
 use crate::long;
+use crate::numbers::Counts;
 use crate::probe::{self, Bits, Place};
 use crate::rules;
 use std::collections::BTreeMap;
@@ -44,43 +46,82 @@ impl Kind {
 type Reduced = (u32, Bits);
 type Listed = (u32, Vec<i64>);
 
+/// How often each kind of answer was given.
+#[derive(Default)]
+struct Seen {
+    kinds: BTreeMap<Kind, u64>,
+    numbers: Counts,
+}
+
 /// Whether all answers were the same.
 pub fn run(count: u64, seed: u64) -> bool {
     let mut dice = Dice::new(seed);
-    let mut counts: BTreeMap<Kind, u64> = BTreeMap::new();
+    let mut seen = Seen::default();
     for number in 0..count {
-        let call = Call::drawn(&mut dice);
-        let values = call.floats();
-        let (kind, expected) = rust(&call, &values);
-        let found = engine(&call, &values);
-        if found != expected {
-            println!("call {number} of seed {seed} differs: {}", call.text());
-            println!("the Rust gives {expected:x?}, the engine {found:x?}");
+        if let Err(difference) = seen.ask(&mut dice, number % LONG == 0) {
+            println!("call {number} of seed {seed} differs: {difference}");
             return false;
-        }
-        let before = buffer(&mut dice, &call);
-        let (expected, found) = (rust_list(&call, before.clone()), engine_list(&call, before));
-        if found != expected {
-            println!("the list of call {number} of seed {seed} differs: {}", call.text());
-            println!("the Rust gives {expected:?}, the engine {found:?}");
-            return false;
-        }
-        *counts.entry(kind).or_default() += 1;
-        if number % LONG == 0 {
-            if let Some((base, expected, found)) = long::drawn(&mut dice).difference() {
-                println!("the long piece after call {number} of seed {seed} differs, from {base}");
-                println!("the Rust gives {expected:x?}, the engine {found:x?}");
-                return false;
-            }
         }
     }
     let longer = count.div_ceil(LONG);
     println!("{count} reductions of seed {seed}, the lists of their offsets, and {longer} long pieces:");
     println!("all answers are the same");
-    for (kind, count) in counts {
+    for (kind, count) in seen.kinds {
         println!("{count:>9} {}", kind.text());
     }
+    println!("their ordered products and their figures, and those of {count} calls that are drawn for them:");
+    println!("all answers are the same, and each NaN is the one NaN");
+    seen.numbers.print();
     true
+}
+
+impl Seen {
+    /// A call of each kind, and a long piece if it is time for one. What differs is the error.
+    fn ask(&mut self, dice: &mut Dice, long: bool) -> Result<(), String> {
+        self.reduction(dice)?;
+        self.numbers_alone(dice)?;
+        if long {
+            long_piece(dice)?;
+        }
+        Ok(())
+    }
+
+    /// A call, with all that is asked about its range.
+    fn reduction(&mut self, dice: &mut Dice) -> Result<(), String> {
+        let call = Call::drawn(dice);
+        let values = call.floats();
+        let (kind, expected) = rust(&call, &values);
+        let found = engine(&call, &values);
+        if found != expected {
+            return Err(format!("{}\nthe Rust gives {expected:x?}, the engine {found:x?}", call.text()));
+        }
+        let before = buffer(dice, &call);
+        let (expected, found) = (rust_list(&call, before.clone()), engine_list(&call, before));
+        if found != expected {
+            return Err(format!("the list of {}\nthe Rust gives {expected:?}, the engine {found:?}", call.text()));
+        }
+        *self.kinds.entry(kind).or_default() += 1;
+        self.numbers.ask(&call, &values)
+    }
+
+    /// A call whose values lead the ordered product to its limits. Its NaNs have any pattern, of which the engine's
+    /// accumulator keeps nothing, so that is not compared.
+    fn numbers_alone(&mut self, dice: &mut Dice) -> Result<(), String> {
+        let call = ordered::drawn(dice);
+        self.numbers.ask(&call, &call.floats())
+    }
+}
+
+fn long_piece(dice: &mut Dice) -> Result<(), String> {
+    let job = long::drawn(dice);
+    if let Some((base, expected, found)) = job.difference() {
+        let answers = format!("the Rust gives {expected:x?}, the engine {found:x?}");
+        return Err(format!("the long piece behind it, from {base}\n{answers}"));
+    }
+    match job.number_difference() {
+        Some(difference) => Err(format!("the long piece behind it\n{difference}")),
+        None => Ok(()),
+    }
 }
 
 fn rust(call: &Call, values: &[f64]) -> (Kind, Reduced) {
@@ -109,19 +150,9 @@ fn accepted(call: &Call, layout: &Layout, bad: bool) -> Kind {
     Kind::Accepted { way, several: first != last, bad }
 }
 
-fn probe_range(call: &Call) -> probe::Range<'_> {
-    probe::Range {
-        sizes: &call.axes.sizes,
-        strides: &call.axes.strides,
-        base: call.range.base,
-        start: call.range.start,
-        end: call.range.end,
-    }
-}
-
 fn engine(call: &Call, values: &[f64]) -> Reduced {
     let mut place = BEFORE;
-    let code = probe::reduce_into(&probe_range(call), values, &mut place);
+    let code = probe::reduce_into(&probe::Range::of(call), values, &mut place);
     (code, place.bits())
 }
 
@@ -142,6 +173,6 @@ fn rust_list(call: &Call, mut buffer: Vec<i64>) -> Listed {
 }
 
 fn engine_list(call: &Call, mut buffer: Vec<i64>) -> Listed {
-    let code = probe::list(&probe_range(call), call.range.length, &mut buffer);
+    let code = probe::list(&probe::Range::of(call), call.range.length, &mut buffer);
     (code, buffer)
 }

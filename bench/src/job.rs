@@ -1,11 +1,12 @@
 //! A call that is timed, for the engine and for the Rust.
 //!
 //! Timed of the Rust: the source's own `FullTraversal::compile` and `reduce_full_range` with
-//! `StableProductKernel` on f64, and nothing else. The refusals that the engine adds are no part of the source:
-//! `Job::new` asks them once, before the timing. Timed of the engine: the whole call, with all its checks.
+//! `StableProductKernel` or `OrderedProductKernel` on f64, and nothing else. The refusals that the engine adds are no
+//! part of the source: `Job::new` asks them once, before the timing. Timed of the engine: the whole call, with all its
+//! checks.
 
 use crate::erased::calls::{Acc, Answer, Plan};
-use crate::probe::{self, Bits, Reduced};
+use crate::probe::{self, Bits, Numbered, Reduced};
 use crate::rules;
 use std::hint::black_box;
 
@@ -66,15 +67,48 @@ impl Job {
     }
 
     #[inline(never)]
-    pub fn engine(&self, turn: usize) -> Reduced {
-        let range = probe::Range {
+    pub fn rust_ordered_ahead(&self, plan: &Plan, turn: usize) -> f64 {
+        let base = black_box(self.bases[turn]) as isize;
+        black_box(plan).ordered(base, 0..black_box(self.count) as usize, black_box(&self.values))
+    }
+
+    #[inline(never)]
+    pub fn rust_ordered(&self, turn: usize) -> f64 {
+        let base = black_box(self.bases[turn]) as isize;
+        self.plan().ordered(base, 0..black_box(self.count) as usize, black_box(&self.values))
+    }
+
+    /// The finished product, or the ordered one where a rate is bad, with the plan compiled once.
+    #[inline(never)]
+    pub fn rust_figure(&self, turn: usize) -> f64 {
+        let base = black_box(self.bases[turn]) as isize;
+        self.plan().figure(base, 0..black_box(self.count) as usize, black_box(&self.values))
+    }
+
+    #[inline]
+    fn range(&self, turn: usize) -> probe::Range<'_> {
+        probe::Range {
             sizes: black_box(&self.sizes),
             strides: black_box(&self.strides),
             base: black_box(self.bases[turn]),
             start: 0,
             end: black_box(self.count),
-        };
-        probe::reduce(&range, black_box(&self.values))
+        }
+    }
+
+    #[inline(never)]
+    pub fn engine(&self, turn: usize) -> Reduced {
+        probe::reduce(&self.range(turn), black_box(&self.values))
+    }
+
+    #[inline(never)]
+    pub fn ordered(&self, turn: usize) -> Numbered {
+        probe::ordered(&self.range(turn), black_box(&self.values))
+    }
+
+    #[inline(never)]
+    pub fn figure(&self, turn: usize) -> Numbered {
+        probe::figure(&self.range(turn), black_box(&self.values))
     }
 
     /// The first base at which the two answers differ, with them.
@@ -83,6 +117,21 @@ impl Job {
             let expected = bits(self.rust(turn).read());
             let found = self.engine(turn);
             (found != Ok(expected)).then_some((self.bases[turn], expected, found))
+        })
+    }
+
+    /// The first number of the engine that is not the Rust's: the ordered product or the figure, from each base.
+    pub fn number_difference(&self) -> Option<String> {
+        (0..self.turns()).find_map(|turn| {
+            let ordered = ("ordered product", self.rust_ordered(turn), self.ordered(turn));
+            let figure = ("figure", self.rust_figure(turn), self.figure(turn));
+            [ordered, figure].into_iter().find_map(|(name, number, found)| {
+                let expected = rules::one_nan(number).to_bits();
+                let base = self.bases[turn];
+                (found != Ok(expected)).then(|| {
+                    format!("the {name} from {base} differs: the Rust gives {expected:x}, the engine {found:x?}")
+                })
+            })
         })
     }
 }

@@ -1,6 +1,8 @@
 //! The engine's calls (crates/probe). Nothing checks these declarations against the library, so they all stand here.
 //! A slice passes as a pointer and then a length, and a bool in memory is a byte.
 
+use crate::generate::reduce::Call;
+
 extern "C" {
     fn probe_reduce(
         sizes: *const u64,
@@ -29,6 +31,32 @@ extern "C" {
         out: *mut i64,
         out_len: usize,
     ) -> u32;
+
+    fn probe_ordered(
+        sizes: *const u64,
+        sizes_len: usize,
+        strides: *const i64,
+        strides_len: usize,
+        base: i64,
+        start: u64,
+        end: u64,
+        values: *const f64,
+        values_len: usize,
+        number: *mut f64,
+    ) -> u32;
+
+    fn probe_figure(
+        sizes: *const u64,
+        sizes_len: usize,
+        strides: *const i64,
+        strides_len: usize,
+        base: i64,
+        start: u64,
+        end: u64,
+        values: *const f64,
+        values_len: usize,
+        number: *mut f64,
+    ) -> u32;
 }
 
 /// An accumulator, or a place for one. The mark is read as the byte it is, which must be 0 or 1.
@@ -51,6 +79,9 @@ impl Place {
 /// The accumulator, or the number of a refusal.
 pub type Reduced = Result<Bits, u32>;
 
+/// The bits of a number that is handed out, or the number of a refusal.
+pub type Numbered = Result<u64, u32>;
+
 /// A layout and a range of its elements.
 pub struct Range<'a> {
     pub sizes: &'a [u64],
@@ -58,6 +89,18 @@ pub struct Range<'a> {
     pub base: i64,
     pub start: u64,
     pub end: u64,
+}
+
+impl Range<'_> {
+    pub fn of(call: &Call) -> Range<'_> {
+        Range {
+            sizes: &call.axes.sizes,
+            strides: &call.axes.strides,
+            base: call.range.base,
+            start: call.range.start,
+            end: call.range.end,
+        }
+    }
 }
 
 /// 0, with the accumulator in `place`; or the refusal 1 to 7, with `place` as it was.
@@ -107,5 +150,63 @@ pub fn list(range: &Range, length: u64, out: &mut [i64]) -> u32 {
             out.as_mut_ptr(),
             out.len(),
         )
+    }
+}
+
+/// 0, with the ordered product in `number`; or the refusal 1 to 7, with `number` as it was.
+#[inline]
+pub fn ordered_into(range: &Range, values: &[f64], number: &mut f64) -> u32 {
+    // SAFETY: each pointer goes with the length of its own slice, and only `number` is written.
+    unsafe {
+        probe_ordered(
+            range.sizes.as_ptr(),
+            range.sizes.len(),
+            range.strides.as_ptr(),
+            range.strides.len(),
+            range.base,
+            range.start,
+            range.end,
+            values.as_ptr(),
+            values.len(),
+            number,
+        )
+    }
+}
+
+/// 0, with the figure in `number`; or the refusal 1 to 7, with `number` as it was.
+#[inline]
+pub fn figure_into(range: &Range, values: &[f64], number: &mut f64) -> u32 {
+    // SAFETY: each pointer goes with the length of its own slice, and only `number` is written.
+    unsafe {
+        probe_figure(
+            range.sizes.as_ptr(),
+            range.sizes.len(),
+            range.strides.as_ptr(),
+            range.strides.len(),
+            range.base,
+            range.start,
+            range.end,
+            values.as_ptr(),
+            values.len(),
+            number,
+        )
+    }
+}
+
+#[inline]
+pub fn ordered(range: &Range, values: &[f64]) -> Numbered {
+    let mut number = 0.0;
+    match ordered_into(range, values, &mut number) {
+        0 => Ok(number.to_bits()),
+        code => Err(code),
+    }
+}
+
+#[inline]
+pub fn figure(range: &Range, values: &[f64]) -> Numbered {
+    let mut number = 0.0;
+    match figure_into(range, values, &mut number) {
+        0 => Ok(number.to_bits()),
+        code => Err(code),
     }
 }

@@ -13,6 +13,8 @@ pub enum Rates {
     Spread,
     /// Keep rates of both signs.
     Signed,
+    /// Keep rates so near to 1 that the product of a million is a normal number.
+    Near,
 }
 
 impl Rates {
@@ -21,6 +23,7 @@ impl Rates {
             Rates::Keep => "[0.9, 1)",
             Rates::Spread => "[0.5, 2)",
             Rates::Signed => "±[0.9, 1)",
+            Rates::Near => "[0.9999, 1)",
         }
     }
 
@@ -30,6 +33,7 @@ impl Rates {
             Rates::Keep => (0.9 + 0.1 * part).min(1.0 - f64::EPSILON),
             Rates::Spread => (1.0 + part) * dice.of(&[0.5, 1.0]),
             Rates::Signed => (0.9 + 0.1 * part).min(1.0 - f64::EPSILON) * dice.of(&[-1.0, 1.0]),
+            Rates::Near => (0.9999 + 0.0001 * part).min(1.0 - f64::EPSILON),
         }
     }
 

@@ -14,7 +14,7 @@ pub const GAP: u64 = 8;
 const FROM_MEMORY: u64 = 10_000_000;
 
 /// Short calls take turns with so many bases.
-const TURNS: i64 = 64;
+pub const TURNS: i64 = 64;
 
 pub struct Row {
     pub name: String,

@@ -23,11 +23,11 @@ struct Best {
 }
 
 impl Best {
-    /// So many calls a batch that it lasts long enough and takes each base equally often.
-    fn new(job: &Job, call: &mut impl FnMut(usize)) -> Best {
-        let mut calls = job.turns();
+    /// So many calls a batch that it lasts long enough and takes each turn equally often.
+    fn new<T>(turns: usize, call: &mut impl FnMut(usize) -> T) -> Best {
+        let mut calls = turns;
         loop {
-            let spent = batch(job, calls, call);
+            let spent = batch(turns, calls, call);
             if spent >= BATCH {
                 return Best { calls, spent, batch: spent };
             }
@@ -35,8 +35,8 @@ impl Best {
         }
     }
 
-    fn again(&mut self, job: &Job, call: &mut impl FnMut(usize)) {
-        let spent = batch(job, self.calls, call);
+    fn again<T>(&mut self, turns: usize, call: &mut impl FnMut(usize) -> T) {
+        let spent = batch(turns, self.calls, call);
         self.spent += spent;
         self.batch = self.batch.min(spent);
     }
@@ -46,12 +46,11 @@ impl Best {
     }
 }
 
-fn batch(job: &Job, calls: usize, call: &mut impl FnMut(usize)) -> Duration {
-    let turns = job.turns();
+fn batch<T>(turns: usize, calls: usize, call: &mut impl FnMut(usize) -> T) -> Duration {
     let mut turn = 0;
     let began = Instant::now();
     for _ in 0..calls {
-        call(turn);
+        black_box(call(turn));
         turn += 1;
         if turn == turns {
             turn = 0;
@@ -60,29 +59,35 @@ fn batch(job: &Job, calls: usize, call: &mut impl FnMut(usize)) -> Duration {
     began.elapsed()
 }
 
-/// At least `least` for each program.
+/// Nanoseconds a call of each of three programs, out of at least `least` for each. A program is handed the turn whose
+/// base it takes.
+pub fn by_turns<A, B, C>(
+    turns: usize,
+    least: Duration,
+    mut first: impl FnMut(usize) -> A,
+    mut second: impl FnMut(usize) -> B,
+    mut third: impl FnMut(usize) -> C,
+) -> [f64; 3] {
+    let mut best = [Best::new(turns, &mut first), Best::new(turns, &mut second), Best::new(turns, &mut third)];
+    while best.iter().any(|one| one.spent < least) {
+        best[0].again(turns, &mut first);
+        best[1].again(turns, &mut second);
+        best[2].again(turns, &mut third);
+    }
+    best.map(|one| one.nanoseconds())
+}
+
+/// The reduction. At least `least` for each program.
 pub fn measure(job: &Job, least: Duration) -> Times {
     let plan = job.plan();
-    let mut rust = |turn| {
-        black_box(job.rust(turn));
-    };
-    let mut rust_ahead = |turn| {
-        black_box(job.rust_ahead(&plan, turn));
-    };
-    let mut engine = |turn| {
-        let _ = black_box(job.engine(turn));
-    };
-    let mut best = [Best::new(job, &mut rust), Best::new(job, &mut rust_ahead), Best::new(job, &mut engine)];
-    while best.iter().any(|one| one.spent < least) {
-        best[0].again(job, &mut rust);
-        best[1].again(job, &mut rust_ahead);
-        best[2].again(job, &mut engine);
-    }
-    Times {
-        rust: best[0].nanoseconds(),
-        rust_ahead: best[1].nanoseconds(),
-        engine: best[2].nanoseconds(),
-    }
+    let [rust, rust_ahead, engine] = by_turns(
+        job.turns(),
+        least,
+        |turn| job.rust(turn),
+        |turn| job.rust_ahead(&plan, turn),
+        |turn| job.engine(turn),
+    );
+    Times { rust, rust_ahead, engine }
 }
 
 /// Nanoseconds a value for reading alone: eight sums over the bits of all values, in order.
