@@ -2,9 +2,11 @@
 """Puts measured figures into docs/PERFORMANCE.md, each between the lines `<!-- NAME -->` and `<!-- /NAME -->`.
 
     bench/run > build/table.txt && bench/run rare > build/rare.txt && bench/run growth > build/growth.txt &&
+        bench/run figures > build/figures.txt &&
         python3 tools/growth.py build/growth.txt docs/growth.svg && python3 tools/performance.py
 
-It reads those three files and what tools/stack_frames.py says of the static library.
+It reads those four files and what tools/stack_frames.py says of the static libraries. With names behind it, as
+`performance.py figures`, it puts in those alone, and reads no other file.
 """
 
 import re
@@ -64,8 +66,8 @@ def grown(lines):
     return "\n".join(out)
 
 
-def stack():
-    command = [sys.executable, "tools/stack_frames.py"]
+def stack(library):
+    command = [sys.executable, "tools/stack_frames.py", f"target/staticlib/lib{library}.a"]
     return subprocess.run(command, cwd=ROOT, check=True, capture_output=True, text=True).stdout.strip()
 
 
@@ -77,14 +79,25 @@ def put(page, name, figures):
     return page
 
 
+PLACES = {
+    "table": lambda: built("table.txt"),
+    "before": lambda: before(built("table.txt")),
+    "rare": lambda: built("rare.txt"),
+    "figures": lambda: built("figures.txt"),
+    "growth": lambda: grown(built("growth.txt").splitlines()),
+    "stack": lambda: stack("probe"),
+    "figure-stack": lambda: stack("figure_probe"),
+}
+
+
 def main():
+    names = sys.argv[1:] or list(PLACES)
     try:
-        table = built("table.txt")
-        figures = {"table": table, "before": before(table), "rare": built("rare.txt")}
-        figures |= {"growth": grown(built("growth.txt").splitlines()), "stack": stack()}
         page = PAGE.read_text(encoding="utf-8")
-        for name, text in figures.items():
-            page = put(page, name, text)
+        for name in names:
+            if name not in PLACES:
+                raise ValueError(f"there is no place '{name}'; there are {', '.join(PLACES)}")
+            page = put(page, name, PLACES[name]())
         PAGE.write_text(page, encoding="utf-8")
     except (OSError, ValueError, subprocess.CalledProcessError) as error:
         sys.exit(f"performance.py: {error}")

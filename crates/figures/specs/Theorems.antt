@@ -22,8 +22,8 @@ use Rattle.reduction.specs.Ranges.{piecesOf, reduceOf}
 use Rattle.ordered.specs.Ranges.{orderedOf}
 use Rattle.figures.specs.Figures.{figureOf}
 
--- rule O4 of an accepted range, by rule D3: the two numbers differ in their last bits at most where both are numbers, since one is rounded after each
--- value in turn, and the other is the plain product of the pieces in eight lanes, which keeps its range, rounded once more at the end
+-- rule O4 of an accepted range, by rule D3. The two numbers need not be equal, least of all in their last bits: the ordered product is rounded after each
+-- value in turn, within the range of a double; the finished number is the plain product of the pieces, in eight lanes, rounded to that range once.
 pub record RuleO4 (ns : List ℕ) (ss : List ℤ) (base : ℤ) (start end : ℕ) (values : List Float) : Type 0 where
   -- a visited rate is bad: the ordered product call's answer
   pub bad : some isBad (visitedRates ns ss base start end values) ≡ true → figureOf ns ss base start end values ≡ orderedOf ns ss base start end values

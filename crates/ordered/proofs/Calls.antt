@@ -1,7 +1,7 @@
 -- The two cases of the ordered product's answer: a refusal, or the fold over the visited values, whose pattern whole numbers give.
 -- Assumes nothing.
 use Prim.Native.Nat.{ℕ, _-_}
-use mathlib.Core.Path.{_≡_, refl, sym, _∙_, ap}
+use mathlib.Core.Path.{_≡_, refl, _∙_, ap}
 use mathlib.Core.Bool.{Bool, false, cond}
 use mathlib.Core.List.{List, _∷_}
 use lib.ListN.{length, getD}

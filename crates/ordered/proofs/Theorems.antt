@@ -1,10 +1,10 @@
 -- Rule O3 of every accepted range.
 -- Assumes that each value is one of binary64, as every f64 is.
-use Prim.Native.Nat.{ℕ, _-_}
+use Prim.Native.Nat.{_-_}
 use mathlib.Core.Path.{_≡_, refl, sym, _∙_, ap}
 use mathlib.Core.Bool.{false}
 use mathlib.Core.List.{List, [], _∷_, foldl, foldl-map}
-use lib.IntN.{ℤ, pos}
+use lib.IntN.{pos}
 use lib.Ieee.{Float, fin, binary64, mul}
 use Rattle.layout.specs.Order.{axesOf}
 use Rattle.offsets.specs.Lists.{offsetsFrom}

@@ -5,16 +5,16 @@ use mathlib.Core.Path.{_≡_, refl, sym, ap, _∙_, subst}
 use mathlib.Core.Bool.{Bool, true, false, cond}
 use mathlib.Core.List.{List, [], _∷_, map, foldl}
 use native.Mathlib.Omega.{arith}
-use native.Mathlib.Nat.{mul-one, one-mul, mul-assoc, mul-left-comm, zero-add, mul-pos, mul-div-cancel, lt-of-lt-of-le, lt-of-not-le, lt-irrefl}
+use native.Mathlib.Nat.{mul-one, one-mul, mul-assoc, mul-left-comm, zero-add, mul-pos, mul-div-cancel, lt-of-lt-of-le, lt-of-not-le}
 use lib.IntN.{ℤ, pos, subℕ}
 use lib.Dec.{T, ltb, eqb, eqb·suc-zero}
 use lib.Pow.{pow-add, pow-pos, pow-mono}
-use lib.Ieee.{Float, nan, inf, fin, Format, prec, emax, low, hid, ones, top, unlike, up, down, size, odd, fits, toBits, ofBits, round, mul}
+use lib.Ieee.{Float, nan, inf, fin, Format, prec, emax, low, hid, top, unlike, up, down, size, odd, fits, toBits, ofBits, round, mul}
 use lib.Ieee.Fits.{up-pos, down-pos, mul-fits}
 use lib.Ieee.Exact.{HasValue, odd-sign, units-val}
 use lib.Ieee.Bits.{ofBits-toBits}
-use borrow.Author.Tests.{ltb-true, ne-eqb, eqb-false}
-use Rattle.floats.specs.Rounding.{unitPlaces, tiesToEven, delivered, rounded}
+use borrow.Author.Tests.{ne-eqb, eqb-false}
+use Rattle.floats.specs.Rounding.{tiesToEven, delivered}
 use Rattle.floats.specs.Product.{signs, bias}
 use Rattle.floats.specs.Fields.{signField, expField, fraction, pattern, ofParts, valueOf}
 use Rattle.floats.proofs.Unique.{pattern-of, bits-are}

@@ -19,8 +19,6 @@ use Rattle.ordered.specs.InnerFolds.{foldPlaces, foldRuns}
 use Rattle.ordered.proofs.Folding.{fold-more}
 use Rattle.ordered.proofs.fold_strip_ordered.Statement.{statement}
 use Rattle.ordered.proofs.fold_strip_ordered.Tie as tie
-use Rattle.ordered.proofs.fold_strip_ordered.Reads as reads
-use Rattle.ordered.proofs.fold_strip_ordered.Lts as lts
 
 abbrev Inv-loop : tie.InvT-loop
 Inv-loop acc values first step stride len count product₀ at₀ j₀ product at j =

@@ -1,7 +1,7 @@
 -- `ordered::ordered_full_range` meets its contract. The loop's invariant: what is left makes the whole of what there is (`Folding`).
 -- Assumes nothing.
 use Prim.Native.Nat.{_-_, _*_, _≤_}
-use mathlib.Core.Path.{_≡_, _∙_}
+use mathlib.Core.Path.{_∙_}
 use native.Mathlib.Omega.{arith}
 use native.Mathlib.Nat.{mul-le-mul-right}
 use lib.ListN.{length}
@@ -17,8 +17,6 @@ use Rattle.offsets.proofs.Runs.{strip-places-inside}
 use Rattle.ordered.proofs.Folding.{Folding, folding-none, folding-more, folding-all}
 use Rattle.ordered.proofs.ordered_full_range.Statement.{statement}
 use Rattle.ordered.proofs.ordered_full_range.Tie as tie
-use Rattle.ordered.proofs.ordered_full_range.Reads as reads
-use Rattle.ordered.proofs.ordered_full_range.Lts as lts
 
 abbrev Inv-loop : tie.InvT-loop
 Inv-loop l base start end values stride product₀ c₀ product c = Folding l (toZ w64 base) values start end (fin false 1 (pos 0)) product c

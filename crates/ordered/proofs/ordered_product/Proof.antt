@@ -1,6 +1,5 @@
 -- `ordered::ordered_product` meets its contract: a refusal of the range, or the fold, which is what whole numbers give.
 -- Assumes nothing.
-use Prim.Native.Nat.{_-_}
 use mathlib.Core.Path.{_≡_, sym, _∙_, ap}
 use lib.ListN.{length}
 use mir.Facts.{toZ-ofZ}
@@ -11,8 +10,6 @@ use Rattle.offsets.proofs.Checked.{Checked, checked, checked-code}
 use Rattle.ordered.proofs.Calls.{ordered-refused, ordered-number, ordered-accepted}
 use Rattle.ordered.proofs.ordered_product.Statement.{statement}
 use Rattle.ordered.proofs.ordered_product.Tie as tie
-use Rattle.ordered.proofs.ordered_product.Reads as reads
-use Rattle.ordered.proofs.ordered_product.Lts as lts
 
 -- the range's answer, over the arguments themselves
 answered : (c : tie.After-checked-range) → let s = c .before .before .before in

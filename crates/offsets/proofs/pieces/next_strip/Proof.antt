@@ -14,8 +14,6 @@ use Rattle.offsets.proofs.Skipping.{firstAxis}
 use Rattle.offsets.proofs.Runs.{last-digit, on-last, runs-strip, piece-strip}
 use Rattle.offsets.proofs.pieces.next_strip.Statement.{statement}
 use Rattle.offsets.proofs.pieces.next_strip.Tie as tie
-use Rattle.offsets.proofs.pieces.next_strip.Reads as reads
-use Rattle.offsets.proofs.pieces.next_strip.Lts as lts
 
 whole-runs-requires : tie.Need-whole-runs-requires
 whole-runs-requires c κs = search needs
