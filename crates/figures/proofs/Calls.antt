@@ -1,32 +1,19 @@
 -- The cases of the figure's answer.
 -- Assumes nothing.
 use Prim.Native.Nat.{ℕ}
-use mathlib.Core.Path.{_≡_, refl, ap, _∙_}
+use mathlib.Core.Path.{_≡_, ap, _∙_}
 use mathlib.Core.Bool.{Bool, true, false, cond}
-use mathlib.Core.List.{List, [], _∷_}
-use native.Mathlib.Omega.{arith}
+use mathlib.Core.List.{List}
 use lib.ListN.{length}
 use lib.IntN.{ℤ}
 use lib.Ieee.{Float}
 use borrow.Author.Tests.{eq-eqb, ne-eqb}
-use types.Run.{OneOf}
-use denote.Enum.Declared.{tagOf}
-use Rattle.accumulator.proofs.Reduced.{the-type}
-use Rattle.accumulator.specs.declared.Reduced.{Reduced}
-use Rattle.accumulator.specs.declared.Reduced.the-variants.{Acc, Refused}
 use Rattle.offsets.specs.Lists.{rangeCode}
 use Rattle.floats.specs.Fields.{valueOf}
 use Rattle.finishing.specs.Finishing.{FinalAnswer, value, refusal, valueOfAcc}
 use Rattle.reduction.specs.Ranges.{rangeProduct}
 use Rattle.ordered.specs.Ranges.{rangeBits}
-use Rattle.figures.specs.InnerFigures.{markOf}
 use Rattle.figures.specs.Figures.{rangeFigure, figureOf}
-
--- an answer whose tag says that it is a refusal has no mark
-pub mark-none : (r : Reduced) → OneOf (1 ∷ []) (tagOf the-type r) → false ≡ markOf r
-unfolding markOf
-mark-none (Acc a) h = let z : _≡_ {A = ℕ} 0 1 = h in absurd (omega arith)
-mark-none (Refused n) h = refl
 
 module _ (ns : List ℕ) (ss : List ℤ) (base : ℤ) (start end : ℕ) (values : List Float) where
   abbrev code : ℕ

@@ -2,4 +2,3 @@
 pub mod Figures
 pub mod Theorems
 pub mod Cases
-pub mod InnerFigures

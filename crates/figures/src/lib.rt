@@ -1,22 +1,12 @@
 // The figure of a range: a number even where a rate is bad.
 ghost use mathlib.Core.Path.{_≡_};
 ghost use Rattle.finishing.specs.Finishing.{finalAnswerOf};
-ghost use Rattle.figures.specs.InnerFigures.{markOf};
 ghost use Rattle.figures.specs.Figures.{figureOf};
 use accumulator::Reduced;
 use finishing::Finished;
 
-// The bad mark of an answer; a refusal has none.
-fn mark_of(answer: Reduced) -> bool
-    ensures { λ r. ⌜ r ≡ markOf answer ⌝ }
-{
-    match answer {
-        Reduced::Acc(a) => a.bad,
-        Reduced::Refused(_) => false,
-    }
-}
-
-// The finished number of the reduction, or where its mark is bad the ordered product of the same range; or one of refusals 1 to 7.
+// The finished number of the reduction, or where its mark is bad the ordered product of the same range; or one of refusals 1 to 7. The layout is compiled
+// and tested once for both.
 pub fn figure(
     sizes: &[u64],
     strides: &[i64],
@@ -27,9 +17,15 @@ pub fn figure(
 ) -> Finished
     ensures { λ r. ⌜ finalAnswerOf r ≡ figureOf (now (sizes .entry)) (now (strides .entry)) base start end (now (values .entry)) ⌝ }
 {
-    let answer = reduction::full::reduce(sizes, strides, base, start, end, values);
-    if mark_of(answer) {
-        return ordered::ordered_product(sizes, strides, base, start, end, values);
+    let length = values.len() as u64;
+    let range = offsets::list::checked_range(sizes, strides, base, start, end, length);
+    if range.code != 0 {
+        return Finished::Refused(range.code);
     }
-    finishing::finish(answer)
+    let acc = reduction::full::reduce_full_range(range.traversal, base, start, end, values);
+    if acc.bad {
+        let number = ordered::ordered_full_range(range.traversal, base, start, end, values);
+        return Finished::Number(number);
+    }
+    finishing::finish(Reduced::Acc(acc))
 }

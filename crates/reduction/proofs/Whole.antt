@@ -49,7 +49,7 @@ abbrev is-accumulator : Answer → Bool
 is-accumulator (accumulator m e bad) = true
 is-accumulator (refusal n) = false
 
-pub answer-acc : (r : Reduced) (a : StableProductFloatAcc) → answerOf r ≡ answerOf (Acc a) → r ≡ Acc a
+answer-acc : (r : Reduced) (a : StableProductFloatAcc) → answerOf r ≡ answerOf (Acc a) → r ≡ Acc a
 answer-acc (Refused n) a e = absurd (subst T (sym (ap is-accumulator e)) tt)
 answer-acc (Acc b) a e = ap Acc (same (ap answer-m e) (ap (answer-e (a .e)) e) (ap answer-bad e))
   where

@@ -1,7 +1,7 @@
--- `figures::figure` meets its contract: by the mark of the reduction's answer, the ordered product's answer, or the finished one.
+-- `figures::figure` meets its contract: a refusal of the range, the ordered product where the mark is set, or the finished number.
 -- Assumes nothing.
 use Prim.Native.Nat.{ℕ}
-use mathlib.Core.Path.{_≡_, sym, _∙_, subst}
+use mathlib.Core.Path.{_≡_, sym, _∙_, ap, subst}
 use mathlib.Core.List.{List}
 use lib.ListN.{length, getD}
 use lib.Dec.{T}
@@ -9,64 +9,116 @@ use lib.IntN.{pos}
 use lib.Ieee.{Float, nan, binary64, fits}
 use mir.Facts.{toZ-ofZ}
 use borrow.Author.Needs.{needs}
+use Rattle.layout.specs.declared.traversal.FullTraversal.{FullTraversal}
+use Rattle.accumulator.specs.declared.StableProductFloatAcc.{StableProductFloatAcc}
+use Rattle.accumulator.specs.declared.Reduced.the-variants.{Acc}
 use Rattle.accumulator.specs.Joining.{answerOf}
 use Rattle.kernels.specs.Lanes.{Each}
+use Rattle.kernels.specs.Pieces.{joinedPieces}
 use Rattle.kernels.proofs.Striding.{strided-values, strided-all}
-use Rattle.reduction.specs.Ranges.{reduceOf}
-use Rattle.figures.proofs.Theorems.{figure-marked, figure-unmarked}
+use Rattle.finishing.specs.Finishing.{value, refusal}
+use Rattle.offsets.specs.InnerLists.{rangeOf}
+use Rattle.offsets.proofs.Checked.{Checked, checked, checked-code}
+use Rattle.reduction.specs.Ranges.{piecesOf, rangeProduct}
+use Rattle.reduction.proofs.Whole.{rule-D3}
+use Rattle.ordered.proofs.Calls.{ordered-accepted}
+use Rattle.figures.proofs.Calls.{figure-refused, figure-bad}
+use Rattle.figures.proofs.Theorems.{rule-O4}
 use Rattle.figures.proofs.figure.Statement.{statement}
 use Rattle.figures.proofs.figure.Tie as tie
 
--- the reduction's answer, over the arguments themselves
-answered : (c : tie.After-reduce) → let s = c .before .before .before in
-    answerOf (c .reduce .result)
-    ≡ reduceOf (s .args .sizes .now) (s .args .strides .now) (s .args .base) (s .args .start) (s .args .end) (s .args .values .now)
-answered c = simp (toZ-ofZ (c .before .before .before .fits .base)) at (c .reduce .ensures)
+-- the range's answer, over the arguments themselves
+answered : (c : tie.After-checked-range) → let s = c .before .before .before in
+    c .checked-range .result
+    ≡ rangeOf (s .args .sizes .now) (s .args .strides .now) (s .args .base) (s .args .start) (s .args .end) (length (s .args .values .now))
+answered c = simp (toZ-ofZ (c .before .before .before .fits .base)) at (c .checked-range .ensures)
+
+accepted : (c : tie.Else1) → let s = c .before .before .before .before .before in
+    Checked (s .args .sizes .now) (s .args .strides .now) (s .args .base) (s .args .start) (s .args .end) (length (s .args .values .now))
+    (c .before .before .checked-range .result .traversal)
+accepted c = checked _ _ _ _ _ _ (c .before .before .checked-range .result) (answered (c .before .before)) (c .if1 .left)
+
+checked-range-requires : tie.Need-checked-range-requires
+checked-range-requires c κs = search needs
+
+returns : tie.Need-returns
+returns c =
+    let m = c .before .before in
+    let s = m .before .before .before in
+    let code = checked-code _ _ _ _ _ _ (m .checked-range .result) (answered m) in
+    ap refusal code
+    ∙ sym (figure-refused (s .args .sizes .now) (s .args .strides .now) (s .args .base) (s .args .start) (s .args .end) (s .args .values .now)
+    (λ e. c .if1 .taken (code ∙ e)))
+
+reduce-full-range-requires : tie.Need-reduce-full-range-requires
+reduce-full-range-requires c κs =
+    let s = c .before .before .before .before .before in
+    let a = accepted c in
+    simp (toZ-ofZ (s .fits .base)) (a .traversal, a .bounded, a .forward, a .inside, a .few, a .within)
+
+-- the reduction's accumulator is the range's
+reduced : (c : tie.After-reduce-full-range) → let s = c .before .before .before .before .before .before in
+    c .reduce-full-range .result
+    ≡ rangeProduct (s .args .sizes .now) (s .args .strides .now) (s .args .base) (s .args .start) (s .args .end) (s .args .values .now)
+reduced c =
+    let b = c .before in
+    let s = b .before .before .before .before .before in
+    simp (toZ-ofZ (s .fits .base)) at (c .reduce-full-range .ensures)
+    ∙ ap (λ (l : FullTraversal). joinedPieces (piecesOf l (s .args .base) (s .args .values .now) (s .args .start) (s .args .end))) (accepted b .is)
 
 -- every value of a slice is one of binary64
 values-fit : (xs : List Float) → ((i : ℕ) → T (fits binary64 (getD xs i nan))) → Each (λ (x : Float). T (fits binary64 x)) xs
 values-fit xs v = subst (Each (λ (x : Float). T (fits binary64 x))) (strided-all xs) (strided-values xs v (pos 0) (pos 1) (length xs))
 
-reduce-requires : tie.Need-reduce-requires
-reduce-requires c κs = search needs
-
-mark-of-requires : tie.Need-mark-of-requires
-mark-of-requires c κs = search needs
-
-ordered-product-requires : tie.Need-ordered-product-requires
-ordered-product-requires c κs = search needs
-
-returns : tie.Need-returns
-returns c =
-    let t = c .before in
-    let m = t .before in
-    let a = m .before in
-    let s = a .before .before .before in
-    simp (toZ-ofZ (s .fits .base)) at (c .ordered-product .ensures)
-    ∙ sym (figure-marked (s .args .sizes .now) (s .args .strides .now) (s .args .base) (s .args .start) (s .args .end) (s .args .values .now)
-    (a .reduce .result) (answered a) (sym (m .mark-of .ensures) ∙ t .if1 .taken))
-
-finish-requires : tie.Need-finish-requires
-finish-requires c κs = search needs
+ordered-full-range-requires : tie.Need-ordered-full-range-requires
+ordered-full-range-requires c κs =
+    let e = c .before .before in
+    let s = e .before .before .before .before .before in
+    let a = accepted e in
+    simp (toZ-ofZ (s .fits .base)) (a .traversal, a .bounded, a .forward, a .inside, a .few, a .within)
 
 returns-2 : tie.Need-returns-2
 returns-2 c =
     let t = c .before in
-    let m = t .before in
-    let a = m .before in
-    let k = a .before in
+    let r = t .before in
+    let b = r .before in
+    let m = b .before .before in
+    let k = m .before in
     let s = k .before .before in
+    let a = accepted b in
+    let made = simp (toZ-ofZ (s .fits .base)) at (c .ordered-full-range .ensures) in
+    ap value (made
+    ∙ ordered-accepted (s .args .sizes .now) (s .args .strides .now) (s .args .base) (s .args .start) (s .args .end) (s .args .values .now)
+    (k .shared-slice-known2 .given) (m .checked-range .result .traversal) a)
+    ∙ sym (figure-bad (s .args .sizes .now) (s .args .strides .now) (s .args .base) (s .args .start) (s .args .end) (s .args .values .now) (a .code)
+    (sym (ap (λ (x : StableProductFloatAcc). x .bad) (reduced r)) ∙ t .if2 .taken))
+
+finish-requires : tie.Need-finish-requires
+finish-requires c κs = search needs
+
+returns-3 : tie.Need-returns-3
+returns-3 c =
+    let t = c .before in
+    let r = t .before in
+    let b = r .before in
+    let k = b .before .before .before in
+    let s = k .before .before in
+    let a = accepted b in
+    let v = values-fit (s .args .values .now) (k .shared-slice-known2 .given) in
+    let d = rule-D3 (s .args .sizes .now) (s .args .strides .now) (s .args .base) (s .args .start) (s .args .end) (s .args .values .now) v (a .code) in
+    let o = rule-O4 (s .args .sizes .now) (s .args .strides .now) (s .args .base) (s .args .start) (s .args .end) (s .args .values .now) v (a .code) in
     c .finish .ensures
-    ∙ sym (figure-unmarked (s .args .sizes .now) (s .args .strides .now) (s .args .base) (s .args .start) (s .args .end) (s .args .values .now)
-    (a .reduce .result) (answered a) (values-fit (s .args .values .now) (k .shared-slice-known2 .given)) (sym (m .mark-of .ensures) ∙ t .if1 .left))
+    ∙ sym (o .finished (Acc (r .reduce-full-range .result)) (ap (λ (x : StableProductFloatAcc). answerOf (Acc x)) (reduced r) ∙ sym (d .answer))
+    (sym (d .mark) ∙ sym (ap (λ (x : StableProductFloatAcc). x .bad) (reduced r)) ∙ t .if2 .left))
 
 pub figure-spec : {M : Type 1} → statement M
 figure-spec =
     tie.close
     (tie.spec
-    reduce-requires
-    mark-of-requires
-    ordered-product-requires
+    checked-range-requires
     returns
+    reduce-full-range-requires
+    ordered-full-range-requires
+    returns-2
     finish-requires
-    returns-2)
+    returns-3)
