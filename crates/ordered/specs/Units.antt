@@ -1,4 +1,4 @@
--- Rules O1 and O2: a value as a whole number of units, and the product of two. No float is in it: bit patterns go in, and a bit pattern comes out.
+-- Rules O1 to O3: a value as a whole number of units, the product of two, and of a list in order. No float is in it: patterns go in, and one comes out.
 -- For an exponent field of w bits and a fraction of t bits (IEEE 754-2019, 3.6). The unit is the least positive number, 2^-1074 at w = 11, t = 52.
 use Prim.Native.Nat.{ℕ, zero, suc, _+_, _-_, _*_, _/_, _^_, max}
 use mathlib.Core.Bool.{Bool, false, cond}
@@ -66,7 +66,7 @@ writeUnits w t notNumber = pattern w t false (2 ^ w - 1) (2 ^ (t - 1))
 writeUnits w t (infinite s) = pattern w t s (2 ^ w - 1) 0
 writeUnits w t (unitCount s n) = let k = size n - (t + 1) in pattern w t s k (n / 2 ^ k)
 
--- rule O2, the ordered product of a list of patterns: from 1, each multiplied in from the right, in order
+-- rule O3, the ordered product of a list of patterns: from 1, each multiplied in from the right, in order
 unfoldable pub orderedBits : ℕ → ℕ → List ℕ → ℕ
 unfolding readUnits unitProduct writeUnits
 orderedBits w t bs = writeUnits w t (foldl (λ v b. unitProduct w t v (readUnits w t b)) (unitCount false (2 ^ onePlaces w t)) bs)
