@@ -13,7 +13,7 @@ use std::time::Duration;
 
 const LEAST: Duration = Duration::from_millis(300);
 
-/// A ratio that is shown, and no more: a short reduction with a bad rate takes longer than the Rust's.
+/// A ratio that is shown, and no more: figures of short calls with a bad rate take longer than the Rust's two passes.
 const NO_AIM: f64 = f64::INFINITY;
 
 /// Three programs by turns. The last is the engine's call that the table is about.
