@@ -14,7 +14,7 @@ from pathlib import Path
 ROOT = Path(__file__).resolve().parent.parent
 PAGE = ROOT / "docs" / "PROOFS.md"
 # A new rule raises it by the lines of its definitions, in the commit that adds them.
-MOST_LINES = 730
+MOST_LINES = 744
 # The exported calls: a file of src and the functions in it (docs/RULES.md, C1 to C8).
 EXPORTED = {
     "layout/src/traversal.rt": ["compile"],
@@ -45,7 +45,7 @@ class Module:
         self.name = f"{path.parts[-3]}/{path.stem}"
         self.imports, self.kit, self.lines, self.owner = {}, set(), {}, {}
         current = None
-        for line in path.read_text(encoding="utf-8").splitlines():
+        for line in sections(path.read_text(encoding="utf-8").splitlines()):
             if line.startswith("use "):
                 self.imports.update(imported(line))
                 self.kit.update(kit_names(line))
@@ -66,6 +66,17 @@ class Module:
 
     def words(self, name):
         return {word for line in self.lines[name] for word in WORD.findall(line) if word[0] != "."}
+
+
+def sections(lines):
+    """The lines as they would stand outside of a section, whose own line is left with what stands before it."""
+    inside = False
+    for line in lines:
+        if line.strip() and line[0] != " ":
+            inside = line.startswith("module _ ")
+            yield f"  {line}" if inside else line
+        else:
+            yield line[2:] if inside else line
 
 
 def imported(line):

@@ -7,6 +7,7 @@ use lib.ListN.{length}
 use lib.Dec.{T}
 use lib.IntN.{ℤ}
 use lib.Ieee.{Float, binary64, fits}
+use Rattle.layout.specs.Axes.{PLACES}
 use Rattle.layout.specs.Compile.{compileOf}
 use Rattle.offsets.specs.Lists.{rangeCode}
 use Rattle.offsets.specs.Values.{visitedRates}
@@ -31,7 +32,7 @@ pub record RuleO4 (ns : List ℕ) (ss : List ℤ) (base : ℤ) (start end : ℕ)
   pub finished : (r : Reduced) → answerOf r ≡ reduceOf ns ss base start end values → some isBad (visitedRates ns ss base start end values) ≡ false
       → figureOf ns ss base start end values ≡ finishedOf r
   pub good : some isBad (visitedRates ns ss base start end values) ≡ false → figureOf ns ss base start end values
-      ≡ value (roundedOnce (factorOfAcc (accOf (plainProduct 11 52 (patternsOf (piecesOf ((compileOf ns ss) .traversal) base values start end))))))
+      ≡ value (roundedOnce (factorOfAcc (accOf (plainProduct 11 52 (patternsOf (piecesOf ((compileOf PLACES ns ss) .traversal) base values start end))))))
 
 -- it holds of every accepted range, over values of binary64, as every f64 is
 abbrev pub RuleO4Law : Type 0

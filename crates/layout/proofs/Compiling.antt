@@ -5,6 +5,7 @@ use mathlib.Core.Path.{_≡_, refl, sym, _∙_, ap, subst}
 use mathlib.Core.Bool.{Bool, true, false, cond}
 use mathlib.Core.List.{List, [], _∷_}
 use mathlib.Core.Option.{Option, none, some}
+use native.Mathlib.Omega.{arith}
 use native.Mathlib.Numerals.{add-one}
 use lib.Dec.{T}
 use lib.ListN.{length, drop, getD, drop-of-length-le}
@@ -17,11 +18,11 @@ use Rattle.layout.specs.declared.traversal.FullTraversal.{FullTraversal}
 use Rattle.layout.specs.declared.order.Counted.{Counted}
 use Rattle.layout.specs.Axes.{PLACES}
 use Rattle.layout.specs.InnerTables.{held, heldIf}
-use Rattle.layout.specs.Order.{keptAxes, axesOf, resetsFit}
+use Rattle.layout.specs.Order.{keptAxes, orderFrom, axesOf, resetsFit}
 use Rattle.layout.specs.InnerAnswers.{checkedOr}
 use Rattle.layout.specs.Fuse.{fuse}
-use Rattle.layout.proofs.Ordering.{axes-resets}
-use Rattle.layout.proofs.Fusing.{fuse-resets}
+use Rattle.layout.proofs.Ordering.{axes-resets, length-order, length-kept}
+use Rattle.layout.proofs.Fusing.{fuse-resets, length-fuse, none-some}
 use Rattle.refusals.specs.Refusals.{firstOf}
 use Rattle.layout.specs.Compile.{totalFrom, totalOf, layoutOf, emptyLayout, fusedOf, traversalAt, traversalOf, compileRefusals, layoutBeside, compileOf}
 use Rattle.layout.specs.Compile.{overflows, aboveMost}
@@ -39,8 +40,18 @@ pub total-all : (ns : List ℕ) (t i : ℕ) → length ns ≤ i → totalFrom t 
 unfolding totalFrom
 total-all ns t i h = rw (drop-of-length-le ns h)
 
+-- ---- rules L2 to L4: the fused axes are no more than those of the input
+pub length-fused : (ns : List ℕ) (ss : List ℤ) (xs : List ReduceOuterAxis) → fusedOf ns ss ≡ some xs → length xs ≤ length ns
+unfolding fusedOf axesOf
+length-fused ns ss xs e = go (resetsFit (keptAxes ns ss)) e
+  where
+    go : (b : Bool) → cond b (fuse (orderFrom [] (keptAxes ns ss))) none ≡ some xs → length xs ≤ length ns
+    go true f =
+        let a = length-fuse (orderFrom [] (keptAxes ns ss)) xs f in let b = length-order [] (keptAxes ns ss) in let d = length-kept ns ss in omega arith
+    go false f = absurd (none-some f)
+
 -- ---- rule L5: the layout
-pub layout-total : (t : ℕ) (xs : List ReduceOuterAxis) → (layoutOf t xs) .total ≡ t
+pub layout-total : (t : ℕ) (xs : List ReduceOuterAxis) → (layoutOf PLACES t xs) .total ≡ t
 unfolding layoutOf
 layout-total t [] = refl
 layout-total t (a ∷ xs) = refl
@@ -55,34 +66,34 @@ module _ (ns : List ℕ) (ss : List ℤ) where
       go none f k = absurd (subst T (sym k ∙ ap (λ (r : CheckedU64). r .ok) (e ∙ ap checkedOr f)) tt)
       go (some t) f k = f ∙ ap some (sym (ap (λ (r : CheckedU64). r .value) (e ∙ ap checkedOr f)))
 
-  pub total-no : (r : CheckedU64) → r ≡ checkedOr (totalOf ns) → r .ok ≡ false → traversalOf ns ss ≡ none
+  pub total-no : (r : CheckedU64) → r ≡ checkedOr (totalOf ns) → r .ok ≡ false → traversalOf PLACES ns ss ≡ none
   unfolding checkedOr traversalOf traversalAt
   total-no r e = go (totalOf ns) refl
     where
-      go : (o : Option ℕ) → totalOf ns ≡ o → r .ok ≡ false → traversalAt ns ss (totalOf ns) ≡ none
-      go none f k = ap (traversalAt ns ss) f
+      go : (o : Option ℕ) → totalOf ns ≡ o → r .ok ≡ false → traversalAt PLACES ns ss (totalOf ns) ≡ none
+      go none f k = ap (traversalAt PLACES ns ss) f
       go (some t) f k = absurd (subst T (sym (ap (λ (r : CheckedU64). r .ok) (e ∙ ap checkedOr f)) ∙ k) tt)
 
-  pub no-elements : (t : ℕ) → totalOf ns ≡ some t → t ≡ 0 → traversalOf ns ss ≡ some emptyLayout
+  pub no-elements : (t : ℕ) → totalOf ns ≡ some t → t ≡ 0 → traversalOf PLACES ns ss ≡ some (emptyLayout PLACES)
   unfolding traversalOf traversalAt
-  no-elements t e z = ap (traversalAt ns ss) (e ∙ ap some z)
+  no-elements t e z = ap (traversalAt PLACES ns ss) (e ∙ ap some z)
 
   module _ (t : ℕ) (e : totalOf ns ≡ some t) (n : t ≡ 0 → ⊥) where
-    at-total : traversalOf ns ss ≡ elim (fusedOf ns ss) [ none ↦ none | some xs ↦ some (layoutOf t xs) ]
+    at-total : traversalOf PLACES ns ss ≡ elim (fusedOf ns ss) [ none ↦ none | some xs ↦ some (layoutOf PLACES t xs) ]
     unfolding traversalOf traversalAt
     at-total =
-        ap (traversalAt ns ss) e
-        ∙ ap (λ (b : Bool). cond b (some emptyLayout) (elim (fusedOf ns ss) [ none ↦ none | some xs ↦ some (layoutOf t xs) ])) (ne-eqb t 0 n)
+        ap (traversalAt PLACES ns ss) e
+        ∙ ap (λ (b : Bool). cond b (some (emptyLayout PLACES)) (elim (fusedOf ns ss) [ none ↦ none | some xs ↦ some (layoutOf PLACES t xs) ])) (ne-eqb t 0 n)
 
-    pub unfused : fusedOf ns ss ≡ none → traversalOf ns ss ≡ none
-    unfused f = at-total ∙ ap (λ (o : Option (List ReduceOuterAxis)). elim o [ none ↦ none | some xs ↦ some (layoutOf t xs) ]) f
+    pub unfused : fusedOf ns ss ≡ none → traversalOf PLACES ns ss ≡ none
+    unfused f = at-total ∙ ap (λ (o : Option (List ReduceOuterAxis)). elim o [ none ↦ none | some xs ↦ some (layoutOf PLACES t xs) ]) f
 
-    pub fused-is : (xs : List ReduceOuterAxis) → fusedOf ns ss ≡ some xs → traversalOf ns ss ≡ some (layoutOf t xs)
-    fused-is xs f = at-total ∙ ap (λ (o : Option (List ReduceOuterAxis)). elim o [ none ↦ none | some xs ↦ some (layoutOf t xs) ]) f
+    pub fused-is : (xs : List ReduceOuterAxis) → fusedOf ns ss ≡ some xs → traversalOf PLACES ns ss ≡ some (layoutOf PLACES t xs)
+    fused-is xs f = at-total ∙ ap (λ (o : Option (List ReduceOuterAxis)). elim o [ none ↦ none | some xs ↦ some (layoutOf PLACES t xs) ]) f
 
     -- rule L3 by the ordered axes, and where it holds
     module _ (o : Counted) (q : o .ok ≡ resetsFit (keptAxes ns ss)) where
-      pub no-resets : o .ok ≡ false → traversalOf ns ss ≡ none
+      pub no-resets : o .ok ≡ false → traversalOf PLACES ns ss ≡ none
       unfolding fusedOf
       no-resets k = unfused (ap (λ (b : Bool). cond b (fuse (axesOf ns ss)) none) (sym q ∙ k))
 
@@ -92,12 +103,12 @@ module _ (ns : List ℕ) (ss : List ℤ) where
         unfolding fusedOf
         fused-option = ap (λ (b : Bool). cond b (fuse (axesOf ns ss)) none) (sym q ∙ k) ∙ ap fuse (sym w) ∙ p
 
-        pub no-fusing : f .ok ≡ false → traversalOf ns ss ≡ none
+        pub no-fusing : f .ok ≡ false → traversalOf PLACES ns ss ≡ none
         unfolding heldIf
         no-fusing z = unfused (fused-option ∙ ap (λ (b : Bool). heldIf b (f .count) es' ts') z)
 
         module _ (z : f .ok ≡ true) where
-          pub is-layout : traversalOf ns ss ≡ some (layoutOf t (held (f .count) es' ts'))
+          pub is-layout : traversalOf PLACES ns ss ≡ some (layoutOf PLACES t (held (f .count) es' ts'))
           unfolding heldIf
           is-layout = fused-is (held (f .count) es' ts') (fused-option ∙ ap (λ (b : Bool). heldIf b (f .count) es' ts') z)
 
@@ -109,33 +120,33 @@ module _ (ns : List ℕ) (ss : List ℤ) where
 
 -- ---- the ranks
 module _ (ns : List ℕ) (ss : List ℤ) where
-  answer : (c : ℕ) (o : Option FullTraversal) → firstOf (compileRefusals ns ss) ≡ c → traversalOf ns ss ≡ o
-      → compileOf ns ss ≡ record { code = c; traversal = layoutBeside c o }
+  answer : (c : ℕ) (o : Option FullTraversal) → firstOf (compileRefusals PLACES ns ss) ≡ c → traversalOf PLACES ns ss ≡ o
+      → compileOf PLACES ns ss ≡ record { code = c; traversal = layoutBeside PLACES c o }
   unfolding compileOf
   answer c o e f =
-      ap (λ (k : ℕ). record { code = k; traversal = layoutBeside k (traversalOf ns ss) }) e
-      ∙ ap (λ (x : Option FullTraversal). record { code = c; traversal = layoutBeside c x }) f
+      ap (λ (k : ℕ). record { code = k; traversal = layoutBeside PLACES k (traversalOf PLACES ns ss) }) e
+      ∙ ap (λ (x : Option FullTraversal). record { code = c; traversal = layoutBeside PLACES c x }) f
 
-  pub code-1 : (length ns ≡ length ss → ⊥) → compileOf ns ss ≡ record { code = 1; traversal = emptyLayout }
+  pub code-1 : (length ns ≡ length ss → ⊥) → compileOf PLACES ns ss ≡ record { code = 1; traversal = emptyLayout PLACES }
   unfolding compileRefusals firstOf layoutBeside
-  code-1 n = answer 1 (traversalOf ns ss) (rw (ne-eqb (length ns) (length ss) n)) refl
+  code-1 n = answer 1 (traversalOf PLACES ns ss) (rw (ne-eqb (length ns) (length ss) n)) refl
 
   module _ (e : length ns ≡ length ss) where
-    pub code-2 : PLACES < length ns → compileOf ns ss ≡ record { code = 2; traversal = emptyLayout }
+    pub code-2 : PLACES < length ns → compileOf PLACES ns ss ≡ record { code = 2; traversal = emptyLayout PLACES }
     unfolding compileRefusals firstOf layoutBeside
-    code-2 h = answer 2 (traversalOf ns ss) (rw (eq-eqb (length ns) (length ss) e, lt-ltb 8 (length ns) h)) refl
+    code-2 h = answer 2 (traversalOf PLACES ns ss) (rw (eq-eqb (length ns) (length ss) e, lt-ltb PLACES (length ns) h)) refl
 
     module _ (h : length ns ≤ PLACES) where
-      pub code-3 : traversalOf ns ss ≡ none → compileOf ns ss ≡ record { code = 3; traversal = emptyLayout }
+      pub code-3 : traversalOf PLACES ns ss ≡ none → compileOf PLACES ns ss ≡ record { code = 3; traversal = emptyLayout PLACES }
       unfolding compileRefusals firstOf layoutBeside overflows
-      code-3 f = answer 3 none (rw (eq-eqb (length ns) (length ss) e, le-ltb 8 (length ns) h, f)) f
+      code-3 f = answer 3 none (rw (eq-eqb (length ns) (length ss) e, le-ltb PLACES (length ns) h, f)) f
 
-      pub code-4 : (l : FullTraversal) (t : ℕ) → traversalOf ns ss ≡ some l → totalOf ns ≡ some t → 2 ^ 40 < t
-          → compileOf ns ss ≡ record { code = 4; traversal = emptyLayout }
+      pub code-4 : (l : FullTraversal) (t : ℕ) → traversalOf PLACES ns ss ≡ some l → totalOf ns ≡ some t → 2 ^ 40 < t
+          → compileOf PLACES ns ss ≡ record { code = 4; traversal = emptyLayout PLACES }
       unfolding compileRefusals firstOf layoutBeside overflows aboveMost
-      code-4 l t f g k = answer 4 (some l) (rw (eq-eqb (length ns) (length ss) e, le-ltb 8 (length ns) h, f, g, lt-ltb (2 ^ 40) t k)) f
+      code-4 l t f g k = answer 4 (some l) (rw (eq-eqb (length ns) (length ss) e, le-ltb PLACES (length ns) h, f, g, lt-ltb (2 ^ 40) t k)) f
 
-      pub code-0 : (l : FullTraversal) (t : ℕ) → traversalOf ns ss ≡ some l → totalOf ns ≡ some t → t ≤ 2 ^ 40
-          → compileOf ns ss ≡ record { code = 0; traversal = l }
+      pub code-0 : (l : FullTraversal) (t : ℕ) → traversalOf PLACES ns ss ≡ some l → totalOf ns ≡ some t → t ≤ 2 ^ 40
+          → compileOf PLACES ns ss ≡ record { code = 0; traversal = l }
       unfolding compileRefusals firstOf layoutBeside overflows aboveMost
-      code-0 l t f g k = answer 0 (some l) (rw (eq-eqb (length ns) (length ss) e, le-ltb 8 (length ns) h, f, g, le-ltb (2 ^ 40) t k)) f
+      code-0 l t f g k = answer 0 (some l) (rw (eq-eqb (length ns) (length ss) e, le-ltb PLACES (length ns) h, f, g, le-ltb (2 ^ 40) t k)) f

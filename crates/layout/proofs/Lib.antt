@@ -6,4 +6,5 @@ pub mod Fusing
 pub mod Outer
 pub mod Compiling
 pub mod Line
+pub mod Places
 pub mod Theorems

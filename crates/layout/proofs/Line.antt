@@ -10,7 +10,7 @@ use lib.ListN.{length, getD}
 use lib.IntN.{ℤ, pos}
 use borrow.Author.Tests.{lt-ltb, eq-eqb, ne-eqb}
 use Rattle.layout.specs.declared.axis.ReduceOuterAxis.{ReduceOuterAxis}
-use Rattle.layout.specs.Axes.{axisOf, resetFits}
+use Rattle.layout.specs.Axes.{PLACES, axisOf, resetFits}
 use Rattle.layout.specs.Order.{keptAxes, insertAxis, orderFrom, axesOf, resetsFit}
 use Rattle.layout.specs.Fuse.{fuse, fuseFrom}
 use Rattle.layout.specs.Compile.{totalFrom, totalOf, fusedOf, layoutOf, emptyLayout, traversalOf, compileOf}
@@ -70,28 +70,28 @@ module _ (n : ℕ) (s : ℤ) where
         rw (e, lt-ltb n (2 ^ 64) h)
 
     -- no elements
-    pub line-empty : n ≡ 0 → compileOf (n ∷ []) (s ∷ []) ≡ record { code = 0; traversal = emptyLayout }
-    line-empty z = code-0 (n ∷ []) (s ∷ []) refl (omega arith) emptyLayout n (no-elements (n ∷ []) (s ∷ []) n line-total z) line-total (omega arith)
+    pub line-empty : n ≡ 0 → compileOf PLACES (n ∷ []) (s ∷ []) ≡ record { code = 0; traversal = emptyLayout PLACES }
+    line-empty z = code-0 (n ∷ []) (s ∷ []) refl (omega arith) (emptyLayout PLACES) n (no-elements (n ∷ []) (s ∷ []) n line-total z) line-total (omega arith)
 
     -- an axis of size 1 is dropped: a run of 1 by 1
-    pub line-one : n ≡ 1 → compileOf (n ∷ []) (s ∷ []) ≡ record { code = 0; traversal = layoutOf 1 (axisOf 1 (pos 1) ∷ []) }
+    pub line-one : n ≡ 1 → compileOf PLACES (n ∷ []) (s ∷ []) ≡ record { code = 0; traversal = layoutOf PLACES 1 (axisOf 1 (pos 1) ∷ []) }
     unfolding layoutOf axisOf
     line-one e =
-        code-0 (n ∷ []) (s ∷ []) refl (omega arith) (layoutOf n []) n (fused-is (n ∷ []) (s ∷ []) n line-total (λ z. omega arith) [] (line-dropped e))
+        code-0 (n ∷ []) (s ∷ []) refl (omega arith) (layoutOf PLACES n []) n (fused-is (n ∷ []) (s ∷ []) n line-total (λ z. omega arith) [] (line-dropped e))
         line-total (omega arith)
-        ∙ ap (λ (k : ℕ). record { code = 0; traversal = layoutOf k [] }) e
+        ∙ ap (λ (k : ℕ). record { code = 0; traversal = layoutOf PLACES k [] }) e
 
     -- else rule L3, then rule L1's most
     module _ (z : n ≡ 0 → ⊥) (e : n ≡ 1 → ⊥) where
-      pub line-3 : resetFits n s ≡ false → compileOf (n ∷ []) (s ∷ []) ≡ record { code = 3; traversal = emptyLayout }
+      pub line-3 : resetFits n s ≡ false → compileOf PLACES (n ∷ []) (s ∷ []) ≡ record { code = 3; traversal = emptyLayout PLACES }
       line-3 f = code-3 (n ∷ []) (s ∷ []) refl (omega arith) (unfused (n ∷ []) (s ∷ []) n line-total z (line-unfused e f))
 
       module _ (f : resetFits n s ≡ true) where
-        is-line : traversalOf (n ∷ []) (s ∷ []) ≡ some (layoutOf n (axisOf n s ∷ []))
+        is-line : traversalOf PLACES (n ∷ []) (s ∷ []) ≡ some (layoutOf PLACES n (axisOf n s ∷ []))
         is-line = fused-is (n ∷ []) (s ∷ []) n line-total z (axisOf n s ∷ []) (line-fused e f)
 
-        pub line-4 : 2 ^ 40 < n → compileOf (n ∷ []) (s ∷ []) ≡ record { code = 4; traversal = emptyLayout }
+        pub line-4 : 2 ^ 40 < n → compileOf PLACES (n ∷ []) (s ∷ []) ≡ record { code = 4; traversal = emptyLayout PLACES }
         line-4 k = code-4 (n ∷ []) (s ∷ []) refl (omega arith) _ n is-line line-total k
 
-        pub line-run : n ≤ 2 ^ 40 → compileOf (n ∷ []) (s ∷ []) ≡ record { code = 0; traversal = layoutOf n (axisOf n s ∷ []) }
+        pub line-run : n ≤ 2 ^ 40 → compileOf PLACES (n ∷ []) (s ∷ []) ≡ record { code = 0; traversal = layoutOf PLACES n (axisOf n s ∷ []) }
         line-run k = code-0 (n ∷ []) (s ∷ []) refl (omega arith) _ n is-line line-total k

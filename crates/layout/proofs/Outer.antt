@@ -37,12 +37,12 @@ module _ (es : List ℕ) (ts : List ℤ) (w : Whole es ts) where
 
   -- one outer axis more
   pub outer-more : (i : ℕ) → 1 ≤ i → i < PLACES
-      → set (placesOf (drop 1 (held i es ts))) (i - 1) (axisOf (getD es i 0) (getD ts i (pos 0))) ≡ placesOf (drop 1 (held (i + 1) es ts))
+      → set (placesOf PLACES (drop 1 (held i es ts))) (i - 1) (axisOf (getD es i 0) (getD ts i (pos 0))) ≡ placesOf PLACES (drop 1 (held (i + 1) es ts))
   outer-more i h k =
-      ap (λ (n : ℕ). set (placesOf (drop 1 (held i es ts))) n a) (sym short)
+      ap (λ (n : ℕ). set (placesOf PLACES (drop 1 (held i es ts))) n a) (sym short)
       ∙ pushed (drop 1 (held i es ts)) a (omega (arith, short))
-      ∙ ap placesOf (sym (drop-append-le 1 (held i es ts) (a ∷ []) (omega (arith, all))))
-      ∙ ap (λ (l : List ReduceOuterAxis). placesOf (drop 1 l)) (sym (held-more es ts i (omega (arith, w .0)) (omega (arith, w .1))))
+      ∙ ap (placesOf PLACES) (sym (drop-append-le 1 (held i es ts) (a ∷ []) (omega (arith, all))))
+      ∙ ap (λ (l : List ReduceOuterAxis). placesOf PLACES (drop 1 l)) (sym (held-more es ts i (omega (arith, w .0)) (omega (arith, w .1))))
     where
       a : ReduceOuterAxis
       a = axisOf (getD es i 0) (getD ts i (pos 0))
@@ -57,7 +57,7 @@ module _ (es : List ℕ) (ts : List ℤ) (w : Whole es ts) where
   none-past n h = drop-of-length-le (held n es ts) {i = 1} (omega (arith, length-held es ts n (omega (arith, w .0)) (omega (arith, w .1))))
 
   -- at first there is none
-  pub no-outer : (z : ReduceOuterAxis) → z ≡ noAxis → replicate PLACES z ≡ placesOf (drop 1 (held 1 es ts))
+  pub no-outer : (z : ReduceOuterAxis) → z ≡ noAxis → replicate PLACES z ≡ placesOf PLACES (drop 1 (held 1 es ts))
   unfolding placesOf
   no-outer z e = ap (replicate PLACES) e ∙ ap (λ (l : List ReduceOuterAxis). l ++ replicate (PLACES - length l) noAxis) (sym (none-past 1 (omega arith)))
 
@@ -67,24 +67,24 @@ module _ (es : List ℕ) (ts : List ℤ) (w : Whole es ts) where
   outer-all (suc n) i h k m = let e : i ≡ suc n = omega arith in ap (λ (j : ℕ). drop 1 (held j es ts)) e
 
   -- the layout without axes
-  pub run-none : (t n : ℕ) (places : List ReduceOuterAxis) → n ≡ 0 → places ≡ placesOf (drop 1 (held n es ts))
-      → record { total = t; «run_len» = 1; «run_stride» = pos 1; «axis_count» = 0; «run_axes» = places } ≡ layoutOf t (held n es ts)
+  pub run-none : (t n : ℕ) (places : List ReduceOuterAxis) → n ≡ 0 → places ≡ placesOf PLACES (drop 1 (held n es ts))
+      → record { total = t; «run_len» = 1; «run_stride» = pos 1; «axis_count» = 0; «run_axes» = places } ≡ layoutOf PLACES t (held n es ts)
   unfolding layoutOf held axesIn
   run-none t n places z e =
       ap (λ (l : List ReduceOuterAxis). record { total = t; «run_len» = 1; «run_stride» = pos 1; «axis_count» = 0; «run_axes» = l }) e
-      ∙ ap (λ (k : ℕ). record { total = t; «run_len» = 1; «run_stride» = pos 1; «axis_count» = 0; «run_axes» = placesOf (drop 1 (held k es ts)) }) z
-      ∙ ap (λ (k : ℕ). layoutOf t (held k es ts)) (sym z)
+      ∙ ap (λ (k : ℕ). record { total = t; «run_len» = 1; «run_stride» = pos 1; «axis_count» = 0; «run_axes» = placesOf PLACES (drop 1 (held k es ts)) }) z
+      ∙ ap (λ (k : ℕ). layoutOf PLACES t (held k es ts)) (sym z)
 
   -- the first axis is the run
-  pub run-first : (t n : ℕ) (places : List ReduceOuterAxis) → (n ≡ 0 → ⊥) → n ≤ PLACES → places ≡ placesOf (drop 1 (held n es ts))
-      → record { total = t; «run_len» = getD es 0 0; «run_stride» = getD ts 0 (pos 0); «axis_count» = n - 1; «run_axes» = places } ≡ layoutOf t (held n es ts)
+  pub run-first : (t n : ℕ) (places : List ReduceOuterAxis) → (n ≡ 0 → ⊥) → n ≤ PLACES → places ≡ placesOf PLACES (drop 1 (held n es ts))
+      → record { total = t; «run_len» = getD es 0 0; «run_stride» = getD ts 0 (pos 0); «axis_count» = n - 1; «run_axes» = places } ≡ layoutOf PLACES t (held n es ts)
   unfolding layoutOf axisOf held axesIn
   run-first t n places z h e =
       ap (λ (l : List ReduceOuterAxis). record { total = t; «run_len» = getD es 0 0; «run_stride» = getD ts 0 (pos 0); «axis_count» = n - 1; «run_axes» = l })
-      (e ∙ ap (λ (l : List ReduceOuterAxis). placesOf (drop 1 l)) first)
-      ∙ ap (λ (k : ℕ). record { total = t; «run_len» = getD es 0 0; «run_stride» = getD ts 0 (pos 0); «axis_count» = k; «run_axes» = placesOf others })
+      (e ∙ ap (λ (l : List ReduceOuterAxis). placesOf PLACES (drop 1 l)) first)
+      ∙ ap (λ (k : ℕ). record { total = t; «run_len» = getD es 0 0; «run_stride» = getD ts 0 (pos 0); «axis_count» = k; «run_axes» = placesOf PLACES others })
       (sym counted)
-      ∙ ap (layoutOf t) (sym first)
+      ∙ ap (layoutOf PLACES t) (sym first)
     where
       others : List ReduceOuterAxis
       others = axesIn (drop 1 (take n es)) (drop 1 (take n ts))

@@ -13,12 +13,12 @@ use Rattle.layout.specs.declared.axis.ReduceOuterAxis.{ReduceOuterAxis}
 use Rattle.layout.specs.Axes.{PLACES, noAxis, placesOf, axisOf}
 use Rattle.layout.specs.InnerTables.{axesIn, held, opened}
 
-pub length-placesOf : (xs : List ReduceOuterAxis) → length xs ≤ PLACES → length (placesOf xs) ≡ PLACES
+pub length-placesOf : (xs : List ReduceOuterAxis) → length xs ≤ PLACES → length (placesOf PLACES xs) ≡ PLACES
 unfolding placesOf
 length-placesOf xs h = simp (length-append, length-replicate) (omega arith)
 
 -- the store behind the axes that are held
-pub pushed : (xs : List ReduceOuterAxis) (a : ReduceOuterAxis) → length xs < PLACES → set (placesOf xs) (length xs) a ≡ placesOf (xs ++ a ∷ [])
+pub pushed : (xs : List ReduceOuterAxis) (a : ReduceOuterAxis) → length xs < PLACES → set (placesOf PLACES xs) (length xs) a ≡ placesOf PLACES (xs ++ a ∷ [])
 unfolding placesOf
 pushed xs a k =
     ap (λ (m : ℕ). set (xs ++ replicate m noAxis) (length xs) a) e

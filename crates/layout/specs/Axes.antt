@@ -27,5 +27,6 @@ resetFits n s = fitsI64 (pos (n - 1)) && fitsI64 (span n s) && fitsI64 (negℤ (
 abbrev pub noAxis : ReduceOuterAxis
 noAxis = record { extent = 0; «source_step» = pos 0; «source_reset» = pos 0 }
 
-unfoldable pub placesOf : List ReduceOuterAxis → List ReduceOuterAxis
-placesOf xs = xs ++ replicate (PLACES - length xs) noAxis
+-- a table of so many places, with these axes in its first ones
+unfoldable pub placesOf : ℕ → List ReduceOuterAxis → List ReduceOuterAxis
+placesOf places xs = xs ++ replicate (places - length xs) noAxis

@@ -10,7 +10,7 @@ use Rattle.refusals.specs.Refusals.{Refusal, firstOf, STRIDE_LENGTH_MISMATCH, T
 use Rattle.layout.specs.declared.axis.ReduceOuterAxis.{ReduceOuterAxis}
 use Rattle.layout.specs.declared.traversal.FullTraversal.{FullTraversal}
 use Rattle.layout.specs.declared.traversal.Compiled.{Compiled}
-use Rattle.layout.specs.Axes.{PLACES, placesOf}
+use Rattle.layout.specs.Axes.{placesOf}
 use Rattle.layout.specs.Order.{keptAxes, axesOf, resetsFit}
 use Rattle.layout.specs.Fuse.{fuse}
 
@@ -26,24 +26,6 @@ totalOf sizes = totalFrom 1 sizes
 unfoldable pub fusedOf : List ℕ → List ℤ → Option (List ReduceOuterAxis)
 fusedOf sizes strides = cond (resetsFit (keptAxes sizes strides)) (fuse (axesOf sizes strides)) none
 
--- rule L5: the first axis is the run, the others are outer
-unfoldable pub layoutOf : ℕ → List ReduceOuterAxis → FullTraversal
-layoutOf t [] = record { total = t; «run_len» = 1; «run_stride» = pos 1; «axis_count» = 0; «run_axes» = placesOf [] }
-layoutOf t (a ∷ xs) = record { total = t; «run_len» = a .extent; «run_stride» = a .«source_step»; «axis_count» = length xs; «run_axes» = placesOf xs }
-
--- rule L1: the layout of total 0
-unfoldable pub emptyLayout : FullTraversal
-emptyLayout = record { total = 0; «run_len» = 0; «run_stride» = pos 1; «axis_count» = 0; «run_axes» = placesOf [] }
-
--- rules L1 to L5: the layout, unless a check of rules L1, L3 or L4 overflows
-unfoldable pub traversalAt : List ℕ → List ℤ → Option ℕ → Option FullTraversal
-traversalAt sizes strides none = none
-traversalAt sizes strides (some t) =
-    cond (eqb t 0) (some emptyLayout) (elim (fusedOf sizes strides) [ none ↦ none | some xs ↦ some (layoutOf t xs) ])
-
-unfoldable pub traversalOf : List ℕ → List ℤ → Option FullTraversal
-traversalOf sizes strides = traversalAt sizes strides (totalOf sizes)
-
 unfoldable pub overflows : Option FullTraversal → Bool
 overflows none = true
 overflows (some l) = false
@@ -52,19 +34,39 @@ unfoldable pub aboveMost : Option ℕ → Bool
 aboveMost none = false
 aboveMost (some t) = ltb (2 ^ 40) t
 
--- rules R1 to R4, in rank
-unfoldable pub compileRefusals : List ℕ → List ℤ → List Refusal
-compileRefusals sizes strides =
-    (STRIDE_LENGTH_MISMATCH, not (eqb (length sizes) (length strides))) ∷ (TOO_MANY_AXES, ltb PLACES (length sizes))
-    ∷ (OFFSET_OVERFLOW, overflows (traversalOf sizes strides)) ∷ (TOO_MANY_ELEMENTS, aboveMost (totalOf sizes)) ∷ []
+-- the rest is over any number of places for axes: the engine has `PLACES`
+module _ (places : ℕ) where
+  -- rule L5: the first axis is the run, the others are outer
+  unfoldable pub layoutOf : ℕ → List ReduceOuterAxis → FullTraversal
+  layoutOf t [] = record { total = t; «run_len» = 1; «run_stride» = pos 1; «axis_count» = 0; «run_axes» = placesOf places [] }
+  layoutOf t (a ∷ xs) = record { total = t; «run_len» = a .extent; «run_stride» = a .«source_step»; «axis_count» = length xs; «run_axes» = placesOf places xs }
 
--- rule R0: the layout beside a code
-unfoldable pub layoutBeside : ℕ → Option FullTraversal → FullTraversal
-layoutBeside zero (some l) = l
-layoutBeside zero none = emptyLayout
-layoutBeside (suc n) l = emptyLayout
+  -- rule L1: the layout of total 0
+  unfoldable pub emptyLayout : FullTraversal
+  emptyLayout = record { total = 0; «run_len» = 0; «run_stride» = pos 1; «axis_count» = 0; «run_axes» = placesOf places [] }
 
--- rule C1, the whole answer: the code, and beside a refusal the layout of total 0
-unfoldable pub compileOf : List ℕ → List ℤ → Compiled
-compileOf sizes strides =
-    record { code = firstOf (compileRefusals sizes strides); traversal = layoutBeside (firstOf (compileRefusals sizes strides)) (traversalOf sizes strides) }
+  -- rules L1 to L5: the layout, unless a check of rules L1, L3 or L4 overflows
+  unfoldable pub traversalAt : List ℕ → List ℤ → Option ℕ → Option FullTraversal
+  traversalAt sizes strides none = none
+  traversalAt sizes strides (some t) =
+      cond (eqb t 0) (some emptyLayout) (elim (fusedOf sizes strides) [ none ↦ none | some xs ↦ some (layoutOf t xs) ])
+
+  unfoldable pub traversalOf : List ℕ → List ℤ → Option FullTraversal
+  traversalOf sizes strides = traversalAt sizes strides (totalOf sizes)
+
+  -- rules R1 to R4, in rank
+  unfoldable pub compileRefusals : List ℕ → List ℤ → List Refusal
+  compileRefusals sizes strides =
+      (STRIDE_LENGTH_MISMATCH, not (eqb (length sizes) (length strides))) ∷ (TOO_MANY_AXES, ltb places (length sizes))
+      ∷ (OFFSET_OVERFLOW, overflows (traversalOf sizes strides)) ∷ (TOO_MANY_ELEMENTS, aboveMost (totalOf sizes)) ∷ []
+
+  -- rule R0: the layout beside a code
+  unfoldable pub layoutBeside : ℕ → Option FullTraversal → FullTraversal
+  layoutBeside zero (some l) = l
+  layoutBeside zero none = emptyLayout
+  layoutBeside (suc n) l = emptyLayout
+
+  -- rule C1, the whole answer: the code, and beside a refusal the layout of total 0
+  unfoldable pub compileOf : List ℕ → List ℤ → Compiled
+  compileOf sizes strides =
+      record { code = firstOf (compileRefusals sizes strides); traversal = layoutBeside (firstOf (compileRefusals sizes strides)) (traversalOf sizes strides) }

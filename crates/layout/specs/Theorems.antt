@@ -1,13 +1,13 @@
 -- What is proved about compiling, each statement as a type that a proof inhabits (proofs/Theorems).
-use Prim.Native.Nat.{ℕ}
+use Prim.Native.Nat.{ℕ, _+_, _≤_}
 use mathlib.Core.Path.{_≡_}
 use mathlib.Core.Bool.{Bool}
-use mathlib.Core.List.{List, [], _∷_}
-use lib.ListN.{replicate}
+use mathlib.Core.List.{List, [], _∷_, _++_}
+use lib.ListN.{length, replicate}
 use lib.IntN.{ℤ, pos}
 use Rattle.layout.specs.declared.axis.ReduceOuterAxis.{ReduceOuterAxis}
 use Rattle.layout.specs.declared.traversal.FullTraversal.{FullTraversal}
-use Rattle.layout.specs.Axes.{axisOf, noAxis}
+use Rattle.layout.specs.Axes.{PLACES, axisOf, noAxis}
 use Rattle.layout.specs.Order.{keptAxes, axesOf}
 use Rattle.layout.specs.Sorting.{Sorted, count, keyed}
 use Rattle.layout.specs.Compile.{compileOf}
@@ -23,4 +23,22 @@ abbrev pub outerBy3 : FullTraversal
 outerBy3 = record { total = 4; «run_len» = 2; «run_stride» = pos 1; «axis_count» = 1; «run_axes» = axisOf 2 (pos 3) ∷ replicate 7 noAxis }
 
 abbrev pub WholeRecord : Type 0
-WholeRecord = compileOf (2 ∷ 2 ∷ []) (pos 1 ∷ pos 3 ∷ []) ≡ record { code = 0; traversal = outerBy3 }
+WholeRecord = compileOf PLACES (2 ∷ 2 ∷ []) (pos 1 ∷ pos 3 ∷ []) ≡ record { code = 0; traversal = outerBy3 }
+
+-- a layout with n more places, zeros in them, and every other field as it is
+abbrev pub withPlaces : ℕ → FullTraversal → FullTraversal
+withPlaces n l =
+    record {
+      total = l .total;
+      «run_len» = l .«run_len»;
+      «run_stride» = l .«run_stride»;
+      «axis_count» = l .«axis_count»;
+      «run_axes» = l .«run_axes» ++ replicate n noAxis;
+    }
+
+-- Rules L5 and R2: with n places more than p, a layout of at most p axes has the code that it has with p, and the record that it has with p, with
+-- zeros in the n places.
+abbrev pub MorePlaces : Type 0
+MorePlaces =
+    (p n : ℕ) (ns : List ℕ) (ss : List ℤ) → length ns ≤ p
+    → compileOf (p + n) ns ss ≡ record { code = (compileOf p ns ss) .code; traversal = withPlaces n ((compileOf p ns ss) .traversal) }

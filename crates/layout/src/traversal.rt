@@ -52,7 +52,7 @@ pub fn checked_total(sizes: &[u64]) -> CheckedU64
 
 // The layout of total 0.
 pub fn empty() -> FullTraversal
-    ensures { λ r. ⌜ r ≡ emptyLayout ⌝ }
+    ensures { λ r. ⌜ r ≡ emptyLayout PLACES ⌝ }
 {
     let z = crate::axis::no_axis();
     FullTraversal {
@@ -71,7 +71,7 @@ fn outer_places(
     count: usize,
 ) -> [ReduceOuterAxis; PLACES]
     requires { ⌜ (count ≤ PLACES) × Whole (now extents) (now steps) × (resetsFit (held count (now extents) (now steps)) ≡ true) ⌝ }
-    ensures { λ r. ⌜ r ≡ placesOf (drop 1 (held count (now (extents .entry)) (now (steps .entry)))) ⌝ }
+    ensures { λ r. ⌜ r ≡ placesOf PLACES (drop 1 (held count (now (extents .entry)) (now (steps .entry)))) ⌝ }
 {
     let z = crate::axis::no_axis();
     let mut places = [z; PLACES];
@@ -98,7 +98,7 @@ fn with_run(
     count: usize,
 ) -> FullTraversal
     requires { ⌜ (count ≤ PLACES) × Whole (now extents) (now steps) × (resetsFit (held count (now extents) (now steps)) ≡ true) ⌝ }
-    ensures { λ r. ⌜ r ≡ layoutOf total (held count (now (extents .entry)) (now (steps .entry))) ⌝ }
+    ensures { λ r. ⌜ r ≡ layoutOf PLACES total (held count (now (extents .entry)) (now (steps .entry))) ⌝ }
 {
     let places = outer_places(extents, steps, count);
     if count == 0 {
@@ -122,7 +122,7 @@ fn with_run(
 
 // A refusal, beside the layout of total 0.
 pub fn refused(code: u32) -> Compiled
-    ensures { λ r. ⌜ r ≡ record { code = code; traversal = emptyLayout } ⌝ }
+    ensures { λ r. ⌜ r ≡ record { code = code; traversal = emptyLayout PLACES } ⌝ }
 {
     Compiled {
         code,
@@ -132,7 +132,7 @@ pub fn refused(code: u32) -> Compiled
 
 // An accepted layout of total 0.
 fn no_elements() -> Compiled
-    ensures { λ r. ⌜ r ≡ record { code = 0; traversal = emptyLayout } ⌝ }
+    ensures { λ r. ⌜ r ≡ record { code = 0; traversal = emptyLayout PLACES } ⌝ }
 {
     let code = 0;
     Compiled {
@@ -143,7 +143,7 @@ fn no_elements() -> Compiled
 
 // The layout that is one run.
 fn one_run(len: u64, stride: i64) -> Compiled
-    ensures { λ r. ⌜ r ≡ record { code = 0; traversal = layoutOf len (axisOf len stride ∷ []) } ⌝ }
+    ensures { λ r. ⌜ r ≡ record { code = 0; traversal = layoutOf PLACES len (axisOf len stride ∷ []) } ⌝ }
 {
     let z = crate::axis::no_axis();
     Compiled {
@@ -160,7 +160,7 @@ fn one_run(len: u64, stride: i64) -> Compiled
 
 // One axis needs no order and no fusing.
 fn compile_line(size: u64, stride: i64) -> Compiled
-    ensures { λ r. ⌜ r ≡ compileOf (size ∷ []) (stride ∷ []) ⌝ }
+    ensures { λ r. ⌜ r ≡ compileOf PLACES (size ∷ []) (stride ∷ []) ⌝ }
 {
     if size == 0 {
         return no_elements();
@@ -180,7 +180,7 @@ fn compile_line(size: u64, stride: i64) -> Compiled
 
 impl FullTraversal {
     pub fn compile(sizes: &[u64], strides: &[i64]) -> Compiled
-        ensures { λ r. ⌜ r ≡ compileOf (now (sizes .entry)) (now (strides .entry)) ⌝ }
+        ensures { λ r. ⌜ r ≡ compileOf PLACES (now (sizes .entry)) (now (strides .entry)) ⌝ }
     {
         if sizes.len() != strides.len() {
             return refused(refusals::STRIDE_LENGTH_MISMATCH);

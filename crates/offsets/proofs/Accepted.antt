@@ -22,12 +22,11 @@ use Rattle.layout.specs.declared.traversal.FullTraversal.{FullTraversal}
 use Rattle.refusals.specs.Refusals.{Refusal, firstOf}
 use Rattle.layout.specs.Compile.{totalFrom, totalOf, fusedOf, layoutOf, emptyLayout, traversalAt, traversalOf, overflows}
 use Rattle.layout.proofs.Tables.{length-placesOf}
-use Rattle.layout.proofs.Ordering.{length-order, length-kept}
-use Rattle.layout.proofs.Compiling.{layout-total}
+use Rattle.layout.proofs.Compiling.{length-fused, layout-total}
 use Rattle.offsets.specs.Pieces.{runOf, outerOf}
 use Rattle.offsets.specs.InnerCursors.{Traversal, Axis, Axes}
 use Rattle.layout.specs.Fuse.{fuse}
-use Rattle.layout.proofs.Fusing.{some-inj, none-some, length-fuse}
+use Rattle.layout.proofs.Fusing.{some-inj, none-some}
 use Rattle.offsets.specs.Elements.{digits, shift, offset}
 use Rattle.offsets.specs.InnerCursors.{elements}
 use Rattle.offsets.proofs.Fused.{SameElements, same-trans, fuse-same}
@@ -139,7 +138,7 @@ order-same done (a ∷ xs) w v =
     swap : (x y z : ℕ) → x * y * z ≡ y * (x * z)
     swap x y z = omega arith
 
-placed : (xs : List ReduceOuterAxis) → take (length xs) (placesOf xs) ≡ xs
+placed : (xs : List ReduceOuterAxis) → take (length xs) (placesOf PLACES xs) ≡ xs
 unfolding placesOf
 placed xs = take-append-seam xs (replicate (PLACES - length xs) noAxis)
 
@@ -157,7 +156,7 @@ no-run =
     ring b = simp ints (simp atoms (omega arith))
 
 pub layout-traversal : (t : ℕ) (ys : List ReduceOuterAxis) → Axes ys → length ys ≤ PLACES → elements ys ≡ t
-    → Traversal (layoutOf t ys) × SameElements ys (runOf (layoutOf t ys) ∷ outerOf (layoutOf t ys))
+    → Traversal (layoutOf PLACES t ys) × SameElements ys (runOf (layoutOf PLACES t ys) ∷ outerOf (layoutOf PLACES t ys))
 unfolding layoutOf runOf outerOf
 layout-traversal t [] w h e =
     (record { few = omega arith; places = length-placesOf [] (omega arith); axes = no-run .axes; total = no-run .elements ∙ e }, no-run)
@@ -174,11 +173,11 @@ layout-traversal t (a ∷ xs) w h e = (
     run : axisOf (a .extent) (a .«source_step») ≡ a
     run = sym (axes-at a xs (a ∷ xs) refl w .0 .0)
 
-    outer : take (length xs) (placesOf xs) ≡ xs
+    outer : take (length xs) (placesOf PLACES xs) ≡ xs
     outer = placed xs
 
-    same : _≡_ {A = List ReduceOuterAxis} (axisOf (a .extent) (a .«source_step») ∷ take (length xs) (placesOf xs)) (a ∷ xs)
-    same = ap (λ (b : ReduceOuterAxis). b ∷ take (length xs) (placesOf xs)) run ∙ ap (λ (l : List ReduceOuterAxis). a ∷ l) outer
+    same : _≡_ {A = List ReduceOuterAxis} (axisOf (a .extent) (a .«source_step») ∷ take (length xs) (placesOf PLACES xs)) (a ∷ xs)
+    same = ap (λ (b : ReduceOuterAxis). b ∷ take (length xs) (placesOf PLACES xs)) run ∙ ap (λ (l : List ReduceOuterAxis). a ∷ l) outer
 
 -- ---- what an accepted compile says
 pub refused-none : (n : ℕ) (b : Bool) (rs : List Refusal) → firstOf ((suc n, b) ∷ rs) ≡ 0 → (b ≡ false) × (firstOf rs ≡ 0)
@@ -207,11 +206,11 @@ pub record AcceptedLayout (ns : List ℕ) (ss : List ℤ) (l : FullTraversal) : 
   pub product : totalOf ns ≡ some (l .total)
 
 module _ (ns : List ℕ) (ss : List ℤ) (eq : length ns ≡ length ss) (small : length ns ≤ PLACES) where
-  with-fused : (t : ℕ) → totalOf ns ≡ some t → (t ≡ 0 → ⊥) → (xs : List ReduceOuterAxis) → fusedOf ns ss ≡ some xs → AcceptedLayout ns ss (layoutOf t xs)
+  with-fused : (t : ℕ) → totalOf ns ≡ some t → (t ≡ 0 → ⊥) → (xs : List ReduceOuterAxis) → fusedOf ns ss ≡ some xs → AcceptedLayout ns ss (layoutOf PLACES t xs)
   unfolding fusedOf axesOf totalOf
   with-fused t e n xs f = go (resetsFit (keptAxes ns ss)) refl
     where
-      go : (b : Bool) → resetsFit (keptAxes ns ss) ≡ b → AcceptedLayout ns ss (layoutOf t xs)
+      go : (b : Bool) → resetsFit (keptAxes ns ss) ≡ b → AcceptedLayout ns ss (layoutOf PLACES t xs)
       go false q = absurd (none-some (ap (λ (b : Bool). cond b (fuse (orderFrom [] (keptAxes ns ss))) none) (sym q) ∙ f))
       go true q =
           let p : t ≡ 1 * sizes-product ns = total-product 1 ns t e in
@@ -223,7 +222,8 @@ module _ (ns : List ℕ) (ss : List ℤ) (eq : length ns ≡ length ss) (small :
           ∙ ap (λ (m : ℕ). elements [] * m) (kept-elements ns ss eq)
           ∙ ap (λ (m : ℕ). m * sizes-product ns) one-element
           ∙ sym p in
-          let r = layout-traversal t xs (s .axes) (few xs z) (s .elements ∙ c) in
+          let few = length-fused ns ss xs f in
+          let r = layout-traversal t xs (s .axes) (omega arith) (s .elements ∙ c) in
           record {
             traversal = r .0;
             same = same-trans (orderFrom [] (keptAxes ns ss)) xs _ s (r .1);
@@ -231,25 +231,21 @@ module _ (ns : List ℕ) (ss : List ℤ) (eq : length ns ≡ length ss) (small :
             total = c ∙ sym (layout-total t xs);
             product = e ∙ ap some (sym (layout-total t xs));
           }
-        where
-          few : (xs : List ReduceOuterAxis) → fuse (orderFrom [] (keptAxes ns ss)) ≡ some xs → length xs ≤ PLACES
-          few xs z =
-              let a = length-fuse (orderFrom [] (keptAxes ns ss)) xs z in let b = length-order [] (keptAxes ns ss) in let d = length-kept ns ss in omega arith
 
   -- a layout that compiling gives
-  pub is-accepted : (l : FullTraversal) → traversalOf ns ss ≡ some l → 0 < l .total → AcceptedLayout ns ss l
+  pub is-accepted : (l : FullTraversal) → traversalOf PLACES ns ss ≡ some l → 0 < l .total → AcceptedLayout ns ss l
   unfolding traversalOf traversalAt emptyLayout
   is-accepted l e h = go (totalOf ns) refl
     where
       go : (o : Option ℕ) → totalOf ns ≡ o → AcceptedLayout ns ss l
-      go none q = absurd (none-some (ap (traversalAt ns ss) (sym q) ∙ e))
+      go none q = absurd (none-some (ap (traversalAt PLACES ns ss) (sym q) ∙ e))
       go (some t) q = zero-or (decLt 0 t)
         where
-          at-t : traversalAt ns ss (some t) ≡ some l
-          at-t = ap (traversalAt ns ss) (sym q) ∙ e
+          at-t : traversalAt PLACES ns ss (some t) ≡ some l
+          at-t = ap (traversalAt PLACES ns ss) (sym q) ∙ e
 
           zero-or : Dec (0 < t) → AcceptedLayout ns ss l
-          zero-or (no n) = absurd (empty (ap (λ (x : FullTraversal). x .total) (some-inj (ap (λ (m : ℕ). traversalAt ns ss (some m)) z ∙ at-t))))
+          zero-or (no n) = absurd (empty (ap (λ (x : FullTraversal). x .total) (some-inj (ap (λ (m : ℕ). traversalAt PLACES ns ss (some m)) z ∙ at-t))))
             where
               z : 0 ≡ t
               z = omega arith
@@ -263,18 +259,18 @@ module _ (ns : List ℕ) (ss : List ℤ) (eq : length ns ≡ length ss) (small :
 
               fused : (o : Option (List ReduceOuterAxis)) → fusedOf ns ss ≡ o → AcceptedLayout ns ss l
               fused none f =
-                  absurd (none-some (ap (λ (o : Option (List ReduceOuterAxis)). elim o [ none ↦ none | some xs ↦ some (layoutOf t xs) ]) (sym f) ∙ at-fused))
+                  absurd (none-some (ap (λ (o : Option (List ReduceOuterAxis)). elim o [ none ↦ none | some xs ↦ some (layoutOf PLACES t xs) ]) (sym f) ∙ at-fused))
                 where
-                  at-fused : elim (fusedOf ns ss) [ none ↦ none | some xs ↦ some (layoutOf t xs) ] ≡ some l
+                  at-fused : elim (fusedOf ns ss) [ none ↦ none | some xs ↦ some (layoutOf PLACES t xs) ] ≡ some l
                   at-fused =
-                      ap (λ (b : Bool). cond b (some emptyLayout) (elim (fusedOf ns ss) [ none ↦ none | some xs ↦ some (layoutOf t xs) ])) (sym (ne-eqb t 0 nz))
+                      ap (λ (b : Bool). cond b (some (emptyLayout PLACES)) (elim (fusedOf ns ss) [ none ↦ none | some xs ↦ some (layoutOf PLACES t xs) ])) (sym (ne-eqb t 0 nz))
                       ∙ at-t
               fused (some xs) f =
                   subst (AcceptedLayout ns ss)
-                  (some-inj (ap (λ (o : Option (List ReduceOuterAxis)). elim o [ none ↦ none | some xs ↦ some (layoutOf t xs) ]) (sym f) ∙ at-fused))
+                  (some-inj (ap (λ (o : Option (List ReduceOuterAxis)). elim o [ none ↦ none | some xs ↦ some (layoutOf PLACES t xs) ]) (sym f) ∙ at-fused))
                   (with-fused t q nz xs f)
                 where
-                  at-fused : elim (fusedOf ns ss) [ none ↦ none | some xs ↦ some (layoutOf t xs) ] ≡ some l
+                  at-fused : elim (fusedOf ns ss) [ none ↦ none | some xs ↦ some (layoutOf PLACES t xs) ] ≡ some l
                   at-fused =
-                      ap (λ (b : Bool). cond b (some emptyLayout) (elim (fusedOf ns ss) [ none ↦ none | some xs ↦ some (layoutOf t xs) ])) (sym (ne-eqb t 0 nz))
+                      ap (λ (b : Bool). cond b (some (emptyLayout PLACES)) (elim (fusedOf ns ss) [ none ↦ none | some xs ↦ some (layoutOf PLACES t xs) ])) (sym (ne-eqb t 0 nz))
                       ∙ at-t

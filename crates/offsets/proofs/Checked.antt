@@ -8,6 +8,7 @@ use mathlib.Core.Option.{some}
 use lib.IntN.{ℤ}
 use Rattle.layout.specs.declared.traversal.FullTraversal.{FullTraversal}
 use Rattle.layout.specs.declared.traversal.Compiled.{Compiled}
+use Rattle.layout.specs.Axes.{PLACES}
 use Rattle.layout.specs.Order.{axesOf}
 use Rattle.layout.specs.Compile.{compileOf, layoutBeside}
 use Rattle.offsets.specs.Elements.{allInside}
@@ -21,7 +22,7 @@ use Rattle.offsets.proofs.Ranges.{Ranged, ranged as all-of, ranged-acce
 pub record Checked (ns : List ℕ) (ss : List ℤ) (base : ℤ) (start end len : ℕ) (l : FullTraversal) : Type 0 where
   pub code : rangeCode ns ss base start end len ≡ 0
   pub ranged : Ranged ns ss base start end len
-  pub is : l ≡ (compileOf ns ss) .traversal
+  pub is : l ≡ (compileOf PLACES ns ss) .traversal
   pub traversal : Traversal l
   pub bounded : Bounded (runOf l ∷ outerOf l) base
   pub forward : start < end
@@ -31,7 +32,7 @@ pub record Checked (ns : List ℕ) (ss : List ℤ) (base : ℤ) (start end len :
   pub offsets : (n k : ℕ) → offsetsFrom (runOf l ∷ outerOf l) base k n ≡ offsetsFrom (axesOf ns ss) base k n
 
 module _ (ns : List ℕ) (ss : List ℤ) (base : ℤ) (start end len : ℕ) where
-  pub accepted-range : rangeCode ns ss base start end len ≡ 0 → Checked ns ss base start end len ((compileOf ns ss) .traversal)
+  pub accepted-range : rangeCode ns ss base start end len ≡ 0 → Checked ns ss base start end len ((compileOf PLACES ns ss) .traversal)
   accepted-range e =
       let r = all-of ns ss base start end len e in
       let a = ranged-accepted ns ss base start end len r in
@@ -58,4 +59,4 @@ module _ (ns : List ℕ) (ss : List ℤ) (base : ℤ) (start end len : ℕ) wher
     checked z =
         let k = sym checked-code ∙ z in
         subst (Checked ns ss base start end len)
-        (sym (ap (λ (x : Compiled). x .traversal) e ∙ ap (λ (n : ℕ). layoutBeside n (some ((compileOf ns ss) .traversal))) k)) (accepted-range k)
+        (sym (ap (λ (x : Compiled). x .traversal) e ∙ ap (λ (n : ℕ). layoutBeside PLACES n (some ((compileOf PLACES ns ss) .traversal))) k)) (accepted-range k)

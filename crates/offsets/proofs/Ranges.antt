@@ -54,120 +54,120 @@ module _ (ns : List ℕ) (ss : List ℤ) where
     pub same : length ns ≡ length ss
     pub few : length ns ≤ PLACES
     pub layout : FullTraversal
-    pub compiled : traversalOf ns ss ≡ some layout
+    pub compiled : traversalOf PLACES ns ss ≡ some layout
     pub most : aboveMost (totalOf ns) ≡ false
-    pub is : (compileOf ns ss) .traversal ≡ layout
-    pub after : (rs : List Refusal) → firstOf (compileRefusals ns ss ++ rs) ≡ firstOf rs
+    pub is : (compileOf PLACES ns ss) .traversal ≡ layout
+    pub after : (rs : List Refusal) → firstOf (compileRefusals PLACES ns ss ++ rs) ≡ firstOf rs
 
-  pub clear : (compileOf ns ss) .code ≡ 0 → Clear
+  pub clear : (compileOf PLACES ns ss) .code ≡ 0 → Clear
   unfolding compileOf compileRefusals layoutBeside firstOf
   clear e =
       let r4 : List Refusal = (4, aboveMost (totalOf ns)) ∷ [] in
-      let r3 : List Refusal = (3, overflows (traversalOf ns ss)) ∷ r4 in
+      let r3 : List Refusal = (3, overflows (traversalOf PLACES ns ss)) ∷ r4 in
       let r2 : List Refusal = (2, ltb PLACES (length ns)) ∷ r3 in
       let a = refused-none 0 (not (eqb (length ns) (length ss))) r2 e in
       let b = refused-none 1 (ltb PLACES (length ns)) r3 (a .1) in
-      let c = refused-none 2 (overflows (traversalOf ns ss)) r4 (b .1) in
+      let c = refused-none 2 (overflows (traversalOf PLACES ns ss)) r4 (b .1) in
       let d = refused-none 3 (aboveMost (totalOf ns)) [] (c .1) in
-      let l = not-over (traversalOf ns ss) (c .0) in
+      let l = not-over (traversalOf PLACES ns ss) (c .0) in
       record {
         same = eqb-true (length ns) (length ss) (not-false (eqb (length ns) (length ss)) (a .0));
         few = ltb-false PLACES (length ns) (b .0);
         layout = l .0;
         compiled = l .1;
         most = d .0;
-        is = ap (λ (n : ℕ). layoutBeside n (traversalOf ns ss)) e ∙ ap (layoutBeside 0) (l .1);
+        is = ap (λ (n : ℕ). layoutBeside PLACES n (traversalOf PLACES ns ss)) e ∙ ap (layoutBeside PLACES 0) (l .1);
         after = λ rs. rw (a .0, b .0, c .0, d .0);
       }
 
-  pub clear-accepted : (c : Clear) → 0 < (compileOf ns ss) .traversal .total → AcceptedLayout ns ss ((compileOf ns ss) .traversal)
+  pub clear-accepted : (c : Clear) → 0 < (compileOf PLACES ns ss) .traversal .total → AcceptedLayout ns ss ((compileOf PLACES ns ss) .traversal)
   clear-accepted c h =
       subst (AcceptedLayout ns ss) (sym (c .is))
       (is-accepted ns ss (c .same) (c .few) (c .layout) (c .compiled) (subst (λ (l : FullTraversal). 0 < l .total) (c .is) h))
 
 module _ (ns : List ℕ) (ss : List ℤ) (base : ℤ) (start end len : ℕ) where
   range-at : (c : ℕ) → rangeCode ns ss base start end len ≡ c
-      → rangeOf ns ss base start end len ≡ record { code = c; traversal = layoutBeside c (some ((compileOf ns ss) .traversal)) }
+      → rangeOf ns ss base start end len ≡ record { code = c; traversal = layoutBeside PLACES c (some ((compileOf PLACES ns ss) .traversal)) }
   unfolding rangeOf
-  range-at c e = ap (λ (n : ℕ). record { code = n; traversal = layoutBeside n (some ((compileOf ns ss) .traversal)) }) e
+  range-at c e = ap (λ (n : ℕ). record { code = n; traversal = layoutBeside PLACES n (some ((compileOf PLACES ns ss) .traversal)) }) e
 
   -- refusals 1 to 4 are the compile's
-  pub range-compile : ((compileOf ns ss) .code ≡ 0 → ⊥) → compileOf ns ss ≡ rangeOf ns ss base start end len
+  pub range-compile : ((compileOf PLACES ns ss) .code ≡ 0 → ⊥) → compileOf PLACES ns ss ≡ rangeOf ns ss base start end len
   unfolding rangeCode compileOf layoutBeside
   range-compile n =
-      let q = first-hides (compileRefusals ns ss) (rangeRefusals ns ss base start end len) n in
-      go (firstOf (compileRefusals ns ss)) refl q
+      let q = first-hides (compileRefusals PLACES ns ss) (rangeRefusals ns ss base start end len) n in
+      go (firstOf (compileRefusals PLACES ns ss)) refl q
     where
       hidden : (k : ℕ) (o : Option FullTraversal)
-          → _≡_ {A = Compiled} (record { code = suc k; traversal = layoutBeside (suc k) o })
-          (record { code = suc k; traversal = layoutBeside (suc k) (some ((compileOf ns ss) .traversal)) })
+          → _≡_ {A = Compiled} (record { code = suc k; traversal = layoutBeside PLACES (suc k) o })
+          (record { code = suc k; traversal = layoutBeside PLACES (suc k) (some ((compileOf PLACES ns ss) .traversal)) })
       hidden k o = refl
 
-      go : (k : ℕ) → firstOf (compileRefusals ns ss) ≡ k
-          → firstOf (compileRefusals ns ss ++ rangeRefusals ns ss base start end len) ≡ firstOf (compileRefusals ns ss)
+      go : (k : ℕ) → firstOf (compileRefusals PLACES ns ss) ≡ k
+          → firstOf (compileRefusals PLACES ns ss ++ rangeRefusals ns ss base start end len) ≡ firstOf (compileRefusals PLACES ns ss)
           → _≡_ {A = Compiled}
-          (record { code = firstOf (compileRefusals ns ss); traversal = layoutBeside (firstOf (compileRefusals ns ss)) (traversalOf ns ss) })
+          (record { code = firstOf (compileRefusals PLACES ns ss); traversal = layoutBeside PLACES (firstOf (compileRefusals PLACES ns ss)) (traversalOf PLACES ns ss) })
           (rangeOf ns ss base start end len)
       go zero e q = absurd (n e)
       go (suc k) e q =
-          ap (λ (m : ℕ). record { code = m; traversal = layoutBeside m (traversalOf ns ss) }) e ∙ hidden k (traversalOf ns ss) ∙ sym (range-at (suc k) (q ∙ e))
+          ap (λ (m : ℕ). record { code = m; traversal = layoutBeside PLACES m (traversalOf PLACES ns ss) }) e ∙ hidden k (traversalOf PLACES ns ss) ∙ sym (range-at (suc k) (q ∙ e))
 
   module _ (c : Clear ns ss) where
-    pub range-5 : end ≤ start → rangeOf ns ss base start end len ≡ record { code = 5; traversal = emptyLayout }
+    pub range-5 : end ≤ start → rangeOf ns ss base start end len ≡ record { code = 5; traversal = emptyLayout PLACES }
     unfolding rangeCode rangeRefusals firstOf layoutBeside
     range-5 h = range-at 5 (c .after (rangeRefusals ns ss base start end len) ∙ rw (le-leb end start h))
 
-    pub range-6 : start < end → (compileOf ns ss) .traversal .total < end → rangeOf ns ss base start end len ≡ record { code = 6; traversal = emptyLayout }
+    pub range-6 : start < end → (compileOf PLACES ns ss) .traversal .total < end → rangeOf ns ss base start end len ≡ record { code = 6; traversal = emptyLayout PLACES }
     unfolding rangeCode rangeRefusals firstOf layoutBeside totalIn
-    range-6 h k = range-at 6 (c .after (rangeRefusals ns ss base start end len) ∙ rw (lt-leb end start h, lt-ltb ((compileOf ns ss) .traversal .total) end k))
+    range-6 h k = range-at 6 (c .after (rangeRefusals ns ss base start end len) ∙ rw (lt-leb end start h, lt-ltb ((compileOf PLACES ns ss) .traversal .total) end k))
 
-    module _ (h : start < end) (k : end ≤ (compileOf ns ss) .traversal .total) where
+    module _ (h : start < end) (k : end ≤ (compileOf PLACES ns ss) .traversal .total) where
       -- the test over the compiled layout is the test over rule L2's axes
       tested : (b : Bool)
-          → allInside (runOf ((compileOf ns ss) .traversal) ∷ outerOf ((compileOf ns ss) .traversal)) ((compileOf ns ss) .traversal .total) base len ≡ b
-          → allInside (axesOf ns ss) ((compileOf ns ss) .traversal .total) base len ≡ b
+          → allInside (runOf ((compileOf PLACES ns ss) .traversal) ∷ outerOf ((compileOf PLACES ns ss) .traversal)) ((compileOf PLACES ns ss) .traversal .total) base len ≡ b
+          → allInside (axesOf ns ss) ((compileOf PLACES ns ss) .traversal .total) base len ≡ b
       tested b e = sym (inside-same (axesOf ns ss) _ _ base len (clear-accepted ns ss c (omega arith) .same)) ∙ e
 
-      pub range-7 : allInside (runOf ((compileOf ns ss) .traversal) ∷ outerOf ((compileOf ns ss) .traversal)) ((compileOf ns ss) .traversal .total) base len
+      pub range-7 : allInside (runOf ((compileOf PLACES ns ss) .traversal) ∷ outerOf ((compileOf PLACES ns ss) .traversal)) ((compileOf PLACES ns ss) .traversal .total) base len
           ≡ false
-          → rangeOf ns ss base start end len ≡ record { code = 7; traversal = emptyLayout }
+          → rangeOf ns ss base start end len ≡ record { code = 7; traversal = emptyLayout PLACES }
       unfolding rangeCode rangeRefusals firstOf layoutBeside totalIn
       range-7 e =
           range-at 7
-          (c .after (rangeRefusals ns ss base start end len) ∙ rw (lt-leb end start h, le-ltb ((compileOf ns ss) .traversal .total) end k, tested false e))
+          (c .after (rangeRefusals ns ss base start end len) ∙ rw (lt-leb end start h, le-ltb ((compileOf PLACES ns ss) .traversal .total) end k, tested false e))
 
-      pub range-0 : allInside (runOf ((compileOf ns ss) .traversal) ∷ outerOf ((compileOf ns ss) .traversal)) ((compileOf ns ss) .traversal .total) base len
+      pub range-0 : allInside (runOf ((compileOf PLACES ns ss) .traversal) ∷ outerOf ((compileOf PLACES ns ss) .traversal)) ((compileOf PLACES ns ss) .traversal .total) base len
           ≡ true
-          → rangeOf ns ss base start end len ≡ record { code = 0; traversal = (compileOf ns ss) .traversal }
+          → rangeOf ns ss base start end len ≡ record { code = 0; traversal = (compileOf PLACES ns ss) .traversal }
       unfolding rangeCode rangeRefusals firstOf layoutBeside totalIn
       range-0 e =
           range-at 0
-          (c .after (rangeRefusals ns ss base start end len) ∙ rw (lt-leb end start h, le-ltb ((compileOf ns ss) .traversal .total) end k, tested true e))
+          (c .after (rangeRefusals ns ss base start end len) ∙ rw (lt-leb end start h, le-ltb ((compileOf PLACES ns ss) .traversal .total) end k, tested true e))
 
 -- ---- an accepted range
 pub record Ranged (ns : List ℕ) (ss : List ℤ) (base : ℤ) (start end len : ℕ) : Type 0 where
   pub clears : Clear ns ss
   pub forward : start < end
-  pub inside : end ≤ (compileOf ns ss) .traversal .total
-  pub within : allInside (axesOf ns ss) ((compileOf ns ss) .traversal .total) base len ≡ true
-  pub after : (rs : List Refusal) → firstOf (compileRefusals ns ss ++ rangeRefusals ns ss base start end len ++ rs) ≡ firstOf rs
+  pub inside : end ≤ (compileOf PLACES ns ss) .traversal .total
+  pub within : allInside (axesOf ns ss) ((compileOf PLACES ns ss) .traversal .total) base len ≡ true
+  pub after : (rs : List Refusal) → firstOf (compileRefusals PLACES ns ss ++ rangeRefusals ns ss base start end len ++ rs) ≡ firstOf rs
 
 module _ (ns : List ℕ) (ss : List ℤ) (base : ℤ) (start end len : ℕ) where
-  code-is : firstOf (compileRefusals ns ss) ≡ 0 → (compileOf ns ss) .code ≡ 0
+  code-is : firstOf (compileRefusals PLACES ns ss) ≡ 0 → (compileOf PLACES ns ss) .code ≡ 0
   unfolding compileOf
   code-is q = q
 
   cleared : rangeCode ns ss base start end len ≡ 0 → Clear ns ss
   unfolding rangeCode
-  cleared e = go (decLt 0 (firstOf (compileRefusals ns ss)))
+  cleared e = go (decLt 0 (firstOf (compileRefusals PLACES ns ss)))
     where
-      go : Dec (0 < firstOf (compileRefusals ns ss)) → Clear ns ss
-      go (yes h) = absurd (clash (first-hides (compileRefusals ns ss) (rangeRefusals ns ss base start end len) nz))
+      go : Dec (0 < firstOf (compileRefusals PLACES ns ss)) → Clear ns ss
+      go (yes h) = absurd (clash (first-hides (compileRefusals PLACES ns ss) (rangeRefusals ns ss base start end len) nz))
         where
-          nz : firstOf (compileRefusals ns ss) ≡ 0 → ⊥
+          nz : firstOf (compileRefusals PLACES ns ss) ≡ 0 → ⊥
           nz k = omega arith
 
-          clash : firstOf (compileRefusals ns ss ++ rangeRefusals ns ss base start end len) ≡ firstOf (compileRefusals ns ss) → ⊥
+          clash : firstOf (compileRefusals PLACES ns ss ++ rangeRefusals ns ss base start end len) ≡ firstOf (compileRefusals PLACES ns ss) → ⊥
           clash q = omega (arith, sym q ∙ e)
       go (no h) = clear ns ss (code-is (omega arith))
 
@@ -175,7 +175,7 @@ module _ (ns : List ℕ) (ss : List ℤ) (base : ℤ) (start end len : ℕ) wher
   unfolding rangeCode rangeRefusals totalIn firstOf
   ranged e =
       let c = cleared e in
-      let t = (compileOf ns ss) .traversal .total in
+      let t = (compileOf PLACES ns ss) .traversal .total in
       let r7 : List Refusal = (7, not (allInside (axesOf ns ss) t base len)) ∷ [] in
       let r6 : List Refusal = (6, ltb t end) ∷ r7 in
       let f : firstOf ((5, leb end start) ∷ r6) ≡ 0 = sym (c .after (rangeRefusals ns ss base start end len)) ∙ e in
@@ -188,32 +188,32 @@ module _ (ns : List ℕ) (ss : List ℤ) (base : ℤ) (start end len : ℕ) wher
         inside = ltb-false t end (b .0);
         within = not-false (allInside (axesOf ns ss) t base len) (d .0);
         after =
-            λ rs. ap firstOf (append-assoc (compileRefusals ns ss) (rangeRefusals ns ss base start end len) rs)
+            λ rs. ap firstOf (append-assoc (compileRefusals PLACES ns ss) (rangeRefusals ns ss base start end len) rs)
             ∙ c .after (rangeRefusals ns ss base start end len ++ rs)
             ∙ rw (a .0, b .0, d .0);
       }
 
   module _ (r : Ranged ns ss base start end len) where
-    pub ranged-accepted : AcceptedLayout ns ss ((compileOf ns ss) .traversal)
+    pub ranged-accepted : AcceptedLayout ns ss ((compileOf PLACES ns ss) .traversal)
     ranged-accepted = clear-accepted ns ss (r .clears) (omega (arith, r .forward, r .inside))
 
     -- the test of refusal 7, over the compiled axes
-    pub ranged-inside : allInside (runOf ((compileOf ns ss) .traversal) ∷ outerOf ((compileOf ns ss) .traversal)) ((compileOf ns ss) .traversal .total) base
+    pub ranged-inside : allInside (runOf ((compileOf PLACES ns ss) .traversal) ∷ outerOf ((compileOf PLACES ns ss) .traversal)) ((compileOf PLACES ns ss) .traversal .total) base
         len
         ≡ true
     ranged-inside = inside-same (axesOf ns ss) _ _ base len (ranged-accepted .same) ∙ r .within
 
-    pub ranged-bounded : Bounded (runOf ((compileOf ns ss) .traversal) ∷ outerOf ((compileOf ns ss) .traversal)) base
+    pub ranged-bounded : Bounded (runOf ((compileOf PLACES ns ss) .traversal) ∷ outerOf ((compileOf PLACES ns ss) .traversal)) base
     ranged-bounded =
         let a = ranged-accepted in
-        let xs = runOf ((compileOf ns ss) .traversal) ∷ outerOf ((compileOf ns ss) .traversal) in
+        let xs = runOf ((compileOf PLACES ns ss) .traversal) ∷ outerOf ((compileOf PLACES ns ss) .traversal) in
         ends-bounded xs (a .traversal .axes) base len
         (sym (ends-exact xs (a .traversal .axes) base len) ∙ ap (λ (n : ℕ). allInside xs n base len) (a .traversal .total) ∙ ranged-inside)
 
     -- refusal 4 does not apply
-    pub ranged-few : (compileOf ns ss) .traversal .total ≤ 2 ^ 40
+    pub ranged-few : (compileOf PLACES ns ss) .traversal .total ≤ 2 ^ 40
     unfolding aboveMost
-    ranged-few = ltb-false (2 ^ 40) ((compileOf ns ss) .traversal .total) (sym (ap aboveMost (ranged-accepted .product)) ∙ r .clears .most)
+    ranged-few = ltb-false (2 ^ 40) ((compileOf PLACES ns ss) .traversal .total) (sym (ap aboveMost (ranged-accepted .product)) ∙ r .clears .most)
 
     pub list-0 : (room : ℕ) → end - start ≤ room → listCode ns ss base start end len room ≡ 0
     unfolding listCode firstOf
@@ -225,7 +225,7 @@ module _ (ns : List ℕ) (ss : List ℤ) (base : ℤ) (start end len : ℕ) wher
 
   pub list-refused : (room : ℕ) → (rangeCode ns ss base start end len ≡ 0 → ⊥) → listCode ns ss base start end len room ≡ rangeCode ns ss base start end len
   unfolding listCode rangeCode
-  list-refused room n = first-hides (compileRefusals ns ss ++ rangeRefusals ns ss base start end len) ((8, ltb room (end - start)) ∷ []) n
+  list-refused room n = first-hides (compileRefusals PLACES ns ss ++ rangeRefusals ns ss base start end len) ((8, ltb room (end - start)) ∷ []) n
 
   -- the buffer after the call
   pub buffer-kept : (out : List ℤ) → (listCode ns ss base start end len (length out) ≡ 0 → ⊥) → out ≡ listBuffer ns ss base start end len out

@@ -5,18 +5,19 @@ use mathlib.Core.List.{List, [], _∷_}
 use lib.ListN.{replicate}
 use lib.IntN.{ℤ, pos, negsuc}
 use Rattle.layout.specs.declared.traversal.Compiled.{Compiled}
+use Rattle.layout.specs.Axes.{PLACES}
 use Rattle.layout.specs.Compile.{emptyLayout, compileOf}
 use Rattle.offsets.specs.Lists.{listCode, listBuffer}
 
 -- compiling is accepted, with this total, run length, run stride and number of outer axes
 abbrev pub Compiles : List ℕ → List ℤ → ℕ → ℕ → ℤ → ℕ → Type 0
 Compiles ns ss total len stride outer =
-    let l = (compileOf ns ss) .traversal in
-    ((compileOf ns ss) .code ≡ 0) × (l .total ≡ total) × (l .«run_len» ≡ len) × (l .«run_stride» ≡ stride) × (l .«axis_count» ≡ outer)
+    let l = (compileOf PLACES ns ss) .traversal in
+    ((compileOf PLACES ns ss) .code ≡ 0) × (l .total ≡ total) × (l .«run_len» ≡ len) × (l .«run_stride» ≡ stride) × (l .«axis_count» ≡ outer)
 
 -- compiling is refused, beside the layout of total 0
 abbrev pub Refuses : List ℕ → List ℤ → ℕ → Type 0
-Refuses ns ss code = compileOf ns ss ≡ record { code = code; traversal = emptyLayout }
+Refuses ns ss code = compileOf PLACES ns ss ≡ record { code = code; traversal = emptyLayout PLACES }
 
 -- listing elements 0 to end - 1 into a buffer of seven places that hold 7 gives this code and this buffer
 abbrev pub Lists : List ℕ → List ℤ → ℤ → ℕ → ℕ → ℕ → List ℤ → Type 0

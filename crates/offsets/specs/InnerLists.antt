@@ -5,6 +5,7 @@ use lib.ListN.{length}
 use lib.IntN.{ℤ, _+ℤ_}
 use mathlib.Core.Option.{some}
 use Rattle.layout.specs.declared.traversal.Compiled.{Compiled}
+use Rattle.layout.specs.Axes.{PLACES}
 use Rattle.layout.specs.Compile.{compileOf, layoutBeside}
 use Rattle.offsets.specs.Lists.{rangeCode}
 
@@ -13,7 +14,7 @@ unfoldable pub rangeOf : List ℕ → List ℤ → ℤ → ℕ → ℕ → ℕ �
 rangeOf sizes strides base start end length =
     record {
       code = rangeCode sizes strides base start end length;
-      traversal = layoutBeside (rangeCode sizes strides base start end length) (some ((compileOf sizes strides) .traversal));
+      traversal = layoutBeside PLACES (rangeCode sizes strides base start end length) (some ((compileOf PLACES sizes strides) .traversal));
     }
 
 -- n numbers from z on, a stride apart

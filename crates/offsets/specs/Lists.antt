@@ -6,6 +6,7 @@ use lib.ListN.{length, drop}
 use lib.Dec.{ltb, leb, eqb}
 use lib.IntN.{ℤ}
 use Rattle.layout.specs.declared.axis.ReduceOuterAxis.{ReduceOuterAxis}
+use Rattle.layout.specs.Axes.{PLACES}
 use Rattle.layout.specs.Order.{axesOf}
 use Rattle.refusals.specs.Refusals.{Refusal, firstOf, EMPTY_RANGE, RANGE_PAST_END, ELEMENT_OUTSIDE, BUFFER_TOO_SHORT}
 use Rattle.layout.specs.Compile.{compileRefusals, compileOf}
@@ -13,7 +14,7 @@ use Rattle.offsets.specs.Elements.{offset, allInside}
 
 -- the total of a layout, 0 where compiling refuses it
 unfoldable pub totalIn : List ℕ → List ℤ → ℕ
-totalIn sizes strides = (compileOf sizes strides) .traversal .total
+totalIn sizes strides = (compileOf PLACES sizes strides) .traversal .total
 
 -- rules R5 to R7, in rank
 unfoldable pub rangeRefusals : List ℕ → List ℤ → ℤ → ℕ → ℕ → ℕ → List Refusal
@@ -24,12 +25,12 @@ rangeRefusals sizes strides base start end length =
 -- the code of a range: 1 to 7, or 0
 unfoldable pub rangeCode : List ℕ → List ℤ → ℤ → ℕ → ℕ → ℕ → ℕ
 rangeCode sizes strides base start end length =
-    firstOf (compileRefusals sizes strides ++ rangeRefusals sizes strides base start end length)
+    firstOf (compileRefusals PLACES sizes strides ++ rangeRefusals sizes strides base start end length)
 
 -- rule C2, the code of a list call: 8 for a buffer of `room` places that is too short
 unfoldable pub listCode : List ℕ → List ℤ → ℤ → ℕ → ℕ → ℕ → ℕ → ℕ
 listCode sizes strides base start end length room =
-    firstOf (compileRefusals sizes strides ++ rangeRefusals sizes strides base start end length ++ (BUFFER_TOO_SHORT, ltb room (end - start)) ∷ [])
+    firstOf (compileRefusals PLACES sizes strides ++ rangeRefusals sizes strides base start end length ++ (BUFFER_TOO_SHORT, ltb room (end - start)) ∷ [])
 
 -- the offsets of n elements from k on
 unfoldable pub offsetsFrom : List ReduceOuterAxis → ℤ → ℕ → ℕ → List ℤ

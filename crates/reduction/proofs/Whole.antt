@@ -9,6 +9,7 @@ use lib.ListN.{length}
 use lib.Dec.{T}
 use lib.IntN.{ℤ}
 use lib.Ieee.{Float, nan, binary64, fits}
+use Rattle.layout.specs.Axes.{PLACES}
 use Rattle.layout.specs.Order.{axesOf}
 use Rattle.layout.specs.Compile.{compileOf}
 use Rattle.floats.specs.Magnitude.{inUnit}
@@ -61,7 +62,7 @@ module _ (ns : List ℕ) (ss : List ℤ) (base : ℤ) (start end : ℕ) (values 
     (e : rangeCode ns ss base start end (length values) ≡ 0) where
   range-rule : RuleD3 ns ss base start end values (rangeProduct ns ss base start end values)
   range-rule =
-      let l = (compileOf ns ss) .traversal in
+      let l = (compileOf PLACES ns ss) .traversal in
       let g = ranged ns ss base start end (length values) e in
       let a = ranged-accepted ns ss base start end (length values) g in
       let b = ranged-bounded ns ss base start end (length values) g in

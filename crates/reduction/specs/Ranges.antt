@@ -10,6 +10,7 @@ use Rattle.integers.specs.Integers.{eqZ}
 use Rattle.layout.specs.declared.traversal.FullTraversal.{FullTraversal}
 use Rattle.offsets.specs.Pieces.{pieceLength}
 use Rattle.offsets.specs.Values.{ratesFrom}
+use Rattle.layout.specs.Axes.{PLACES}
 use Rattle.layout.specs.Compile.{compileOf}
 use Rattle.offsets.specs.Lists.{rangeCode}
 use Rattle.accumulator.specs.declared.StableProductFloatAcc.{StableProductFloatAcc}
@@ -32,7 +33,7 @@ piecesOf l base values start end = piecesFrom l base values end (end - start) st
 
 -- an accepted range's product: the pieces left to right, the first as it is
 abbrev pub rangeProduct : List ℕ → List ℤ → ℤ → ℕ → ℕ → List Float → StableProductFloatAcc
-rangeProduct sizes strides base start end values = joinedPieces (piecesOf ((compileOf sizes strides) .traversal) base values start end)
+rangeProduct sizes strides base start end values = joinedPieces (piecesOf ((compileOf PLACES sizes strides) .traversal) base values start end)
 
 -- rule C3, the full reduction: the number of the refusal, 1 to 7, or the range's product
 unfoldable pub reduceOf : List ℕ → List ℤ → ℤ → ℕ → ℕ → List Float → Answer

@@ -7,6 +7,7 @@ use lib.ListN.{length}
 use lib.Dec.{T}
 use lib.IntN.{ℤ}
 use lib.Ieee.{Float, nan, binary64, fits}
+use Rattle.layout.specs.Axes.{PLACES}
 use Rattle.layout.specs.Compile.{compileOf}
 use Rattle.offsets.specs.Lists.{rangeCode}
 use Rattle.floats.specs.Magnitude.{inUnit}
@@ -28,11 +29,11 @@ pub record RuleD3 (ns : List ℕ) (ss : List ℤ) (base : ℤ) (start end : ℕ)
   -- the call is accepted, and this is its answer
   pub answer : reduceOf ns ss base start end values ≡ answerOf (Acc a)
   -- the pieces hold the visited rates, in order
-  pub rates : ratesOf (piecesOf ((compileOf ns ss) .traversal) base values start end) ≡ visitedRates ns ss base start end values
+  pub rates : ratesOf (piecesOf ((compileOf PLACES ns ss) .traversal) base values start end) ≡ visitedRates ns ss base start end values
   -- the mark is set exactly if a visited rate is zero, subnormal, infinite or NaN
   pub mark : a .bad ≡ some isBad (visitedRates ns ss base start end values)
   -- not bad: m and e are the plain product's over the pieces
-  pub plain : a .bad ≡ false → a ≡ accOf (plainProduct 11 52 (patternsOf (piecesOf ((compileOf ns ss) .traversal) base values start end)))
+  pub plain : a .bad ≡ false → a ≡ accOf (plainProduct 11 52 (patternsOf (piecesOf ((compileOf PLACES ns ss) .traversal) base values start end)))
   -- 1 <= |m| < 2, bad or not
   pub unit : inUnit (a .m) ≡ true
   -- finishing the answer gives m × 2^e rounded once, or the NaN of a bad mark; never a refusal

@@ -6,6 +6,7 @@ use crate::product::RangeCall;
 use crate::product::ReadAnswer;
 use crate::range::Range;
 use crate::range::ReadRange;
+use layout::axis::PLACES;
 use layout::axis::ReduceOuterAxis;
 use layout::traversal::Compiled;
 use layout::traversal::FullTraversal;
@@ -157,12 +158,12 @@ fn put_run(t: FullTraversal, out: &mut [u8], from: usize) -> usize
 }
 
 fn put_axes(t: FullTraversal, out: &mut [u8], from: usize) -> usize
-    requires { ⌜ (from ≤ 1000) × (131072 ≤ length (now out)) ⌝ }
+    requires { ⌜ (from ≤ 200) × (131072 ≤ length (now out)) ⌝ }
     ensures { λ r. ⌜ r ≤ 2000 ⌝ }
 {
     let mut at = from;
     let mut i: usize = 0;
-    while i < 8 {
+    while i < PLACES {
         let a = t.run_axes[i];
         at = put_axis(a, &mut *out, at);
         i += 1;

@@ -7,7 +7,7 @@ use mir.Facts.{toZ-ofZ}
 use borrow.Author.Needs.{needs}
 use borrow.Author.Tests.{not-true, not-false}
 use Rattle.integers.specs.InnerChecked.{keepI}
-use Rattle.layout.specs.Axes.{axisOf, span, resetFits}
+use Rattle.layout.specs.Axes.{PLACES, axisOf, span, resetFits}
 use Rattle.layout.specs.Compile.{layoutOf}
 use Rattle.layout.proofs.Resets.{reset-ok, reset-not-ok}
 use Rattle.layout.proofs.Line.{line-empty, line-one, line-3, line-4, line-run}
@@ -72,7 +72,7 @@ returns-5 c =
     let r = c .before .before .before .before in
     let e = r .before in
     let s = e .before .before in
-    c .one-run2 .ensures ∙ ap (λ (z : ℤ). record { code = 0; traversal = layoutOf (s .args .size) (axisOf (s .args .size) z ∷ []) }) (toZ-ofZ (s .fits .stride))
+    c .one-run2 .ensures ∙ ap (λ (z : ℤ). record { code = 0; traversal = layoutOf PLACES (s .args .size) (axisOf (s .args .size) z ∷ []) }) (toZ-ofZ (s .fits .stride))
     ∙ sym (line-run (s .args .size) (s .args .stride) (s .fits .size .fits) (e .before .if1 .left) (e .if2 .left)
     (reset-ok _ _ _ (reset r) (not-false _ (c .before .before .if3 .left)) .0) (c .before .if4 .left))
 

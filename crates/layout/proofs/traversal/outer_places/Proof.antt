@@ -13,7 +13,7 @@ use Rattle.layout.proofs.Resets.{reset-value}
 use Rattle.layout.proofs.Outer.{no-outer, resets-at, outer-more, outer-all}
 use borrow.Author.Needs.{needs}
 use Rattle.layout.specs.declared.axis.ReduceOuterAxis.{ReduceOuterAxis}
-use Rattle.layout.specs.Axes.{placesOf, axisOf}
+use Rattle.layout.specs.Axes.{PLACES, placesOf, axisOf}
 use Rattle.layout.specs.InnerTables.{held}
 use Rattle.layout.proofs.traversal.outer_places.Statement.{statement}
 use Rattle.layout.proofs.traversal.outer_places.Tie as tie
@@ -23,7 +23,7 @@ use Rattle.layout.proofs.axis.checked_reduce_reset.Reads as checked-red
 use Rattle.layout.proofs.axis.no_axis.Reads as no-axis-reads
 
 abbrev Inv-loop : tie.InvT-loop
-Inv-loop extents steps count places₀ i₀ places i = (1 ≤ i) × (i - 1 ≤ count - 1) × (places ≡ placesOf (drop 1 (held i extents steps)))
+Inv-loop extents steps count places₀ i₀ places i = (1 ≤ i) × (i - 1 ≤ count - 1) × (places ≡ placesOf PLACES (drop 1 (held i extents steps)))
 
 abbrev μ-loop : tie.MeasureT-loop
 μ-loop extents steps count places₀ i₀ places i = count - i
@@ -92,7 +92,7 @@ returns c =
     let k = c .before in
     let s = k .before .before in
     k .loop .inv .2
-    ∙ ap placesOf (outer-all (s .args .extents .now) (s .args .steps .now) (s .pre .1) (s .args .count) (k .loop .i) (k .loop .inv .0) (k .loop .inv .1)
+    ∙ ap (placesOf PLACES) (outer-all (s .args .extents .now) (s .args .steps .now) (s .pre .1) (s .args .count) (k .loop .i) (k .loop .inv .0) (k .loop .inv .1)
     (c .loop-test .left))
 
 pub outer-places-spec : {M : Type 1} → statement M

@@ -6,6 +6,7 @@ use mathlib.Core.List.{_∷_}
 use native.Mathlib.Omega.{arith}
 use mir.Facts.{toZ-ofZ}
 use Rattle.layout.specs.declared.traversal.Compiled.{Compiled}
+use Rattle.layout.specs.Axes.{PLACES}
 use Rattle.layout.specs.Compile.{compileOf}
 use Rattle.offsets.specs.Elements.{allInside}
 use Rattle.offsets.specs.Pieces.{runOf, outerOf}
@@ -63,14 +64,14 @@ returns-3 c =
     (subst (λ (r : Compiled). r .traversal .total < s .args .end) (m .compile .ensures) (c .before .if3 .taken)))
 
 inside-total : (c : tie.Else3) → let s = c .before .before .before .before .before .before .before .before in
-    s .args .end ≤ (compileOf (s .args .sizes .now) (s .args .strides .now)) .traversal .total
+    s .args .end ≤ (compileOf PLACES (s .args .sizes .now) (s .args .strides .now)) .traversal .total
 inside-total c =
     let m = c .before .before .before .before .before .before in
     let s = m .before .before in
     subst (λ (r : Compiled). s .args .end ≤ r .traversal .total) (m .compile .ensures) (c .if3 .left)
 
 accepted-layout : (c : tie.Else3) → let s = c .before .before .before .before .before .before .before .before in
-    Traversal ((compileOf (s .args .sizes .now) (s .args .strides .now)) .traversal)
+    Traversal ((compileOf PLACES (s .args .sizes .now) (s .args .strides .now)) .traversal)
 accepted-layout c =
     let t = c .before .before .before in
     let e = t .before in
@@ -88,9 +89,9 @@ inside-requires c κs =
 -- what the test said, of the compiled layout
 told : (c : tie.After-inside) → let s = c .before .before .before .before .before .before .before .before .before in
     c .inside .result
-    ≡ allInside (runOf ((compileOf (s .args .sizes .now) (s .args .strides .now)) .traversal)
-    ∷ outerOf ((compileOf (s .args .sizes .now) (s .args .strides .now)) .traversal))
-    ((compileOf (s .args .sizes .now) (s .args .strides .now)) .traversal .total) (s .args .base) (s .args .length)
+    ≡ allInside (runOf ((compileOf PLACES (s .args .sizes .now) (s .args .strides .now)) .traversal)
+    ∷ outerOf ((compileOf PLACES (s .args .sizes .now) (s .args .strides .now)) .traversal))
+    ((compileOf PLACES (s .args .sizes .now) (s .args .strides .now)) .traversal .total) (s .args .base) (s .args .length)
 told c =
     let m = c .before .before .before .before .before .before .before in
     let s = m .before .before in
@@ -106,7 +107,7 @@ returns-4 c =
     let m = e .before .before in
     let s = m .before .before in
     m .compile .ensures
-    ∙ same-code (compileOf (s .args .sizes .now) (s .args .strides .now)) (sym (ap (λ (r : Compiled). r .code) (m .compile .ensures)) ∙ e .if1 .left)
+    ∙ same-code (compileOf PLACES (s .args .sizes .now) (s .args .strides .now)) (sym (ap (λ (r : Compiled). r .code) (m .compile .ensures)) ∙ e .if1 .left)
     ∙ sym (range-0 (s .args .sizes .now) (s .args .strides .now) (s .args .base) (s .args .start) (s .args .end) (s .args .length) (cleared e) (t .if2 .left)
     (inside-total k) (sym (told (c .before)) ∙ c .if4 .taken))
 

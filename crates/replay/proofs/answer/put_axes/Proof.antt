@@ -4,14 +4,15 @@ use Prim.Native.Nat.{_+_, _*_, _-_, _≤_}
 use mathlib.Core.Path.{_≡_}
 use lib.ListN.{length}
 use borrow.Author.Needs.{needs}
+use Rattle.layout.specs.Axes.{PLACES}
 use Rattle.replay.proofs.answer.put_axes.Statement.{statement}
 use Rattle.replay.proofs.answer.put_axes.Tie as tie
 
 abbrev Inv-loop : tie.InvT-loop
-Inv-loop out₀ from t at₀ i₀ out at i = (i ≤ 8) × (at ≤ 1000 + 65 * i) × (length out ≡ length out₀)
+Inv-loop out₀ from t at₀ i₀ out at i = (i ≤ PLACES) × (at ≤ 200 + 65 * i) × (length out ≡ length out₀)
 
 abbrev μ-loop : tie.MeasureT-loop
-μ-loop out₀ from t at₀ i₀ out at i = 8 - i
+μ-loop out₀ from t at₀ i₀ out at i = PLACES - i
 
 loop-holds : tie.Need-loop-holds Inv-loop μ-loop
 loop-holds c = search needs

@@ -13,6 +13,7 @@ use mir.Syntax.{w64}
 use mir.Facts.{toZ-ofZ}
 use borrow.Author.Tests.{not-true, not-false}
 use Rattle.layout.specs.declared.traversal.FullTraversal.{FullTraversal}
+use Rattle.layout.specs.Axes.{PLACES}
 use Rattle.layout.specs.InnerTables.{held}
 use Rattle.layout.specs.Order.{resetsFit}
 use Rattle.layout.specs.Compile.{totalOf, layoutOf, emptyLayout, traversalOf, compileOf}
@@ -48,7 +49,7 @@ some-left o = o .before .before .before .if5 .left
 compiled : (c : tie.Else7) → let f = c .before .before in let t = axes-total (f .before .before .before .before .before) in let m = t .before .before in
     let s = m .before .before .before .before .before in
     let xs = held (f .compress-reduce-outer-axes .result .count) (f .compress-reduce-outer-axes .last .0) (f .compress-reduce-outer-axes .last .1 .0) in
-    (traversalOf (s .args .sizes .now) (s .args .strides .now) ≡ some (layoutOf (m .checked-total .result .value) xs)) × (resetsFit xs ≡ true)
+    (traversalOf PLACES (s .args .sizes .now) (s .args .strides .now) ≡ some (layoutOf PLACES (m .checked-total .result .value) xs)) × (resetsFit xs ≡ true)
 compiled c =
     let f = c .before .before in
     let k = f .before .before .before in
@@ -89,8 +90,8 @@ returns-2 c =
     let s = l .before .before .before in
     let f : SFits w64 (getD (s .args .strides .now) 0 (pos 0)) = record { sfits = c .before .compile-line-arg .given } in
     simp (toZ-ofZ f) at (c .compile-line .ensures)
-    ∙ ap (λ (z : List ℕ). compileOf z (getD (s .args .strides .now) 0 (pos 0) ∷ [])) (single 0 (s .args .sizes .now) (l .if2 .taken))
-    ∙ ap (compileOf (s .args .sizes .now)) (single (pos 0) (s .args .strides .now) (sym (l .before .if1 .left) ∙ l .if2 .taken))
+    ∙ ap (λ (z : List ℕ). compileOf PLACES z (getD (s .args .strides .now) 0 (pos 0) ∷ [])) (single 0 (s .args .sizes .now) (l .if2 .taken))
+    ∙ ap (compileOf PLACES (s .args .sizes .now)) (single (pos 0) (s .args .strides .now) (sym (l .before .if1 .left) ∙ l .if2 .taken))
 
 refused-requires-2 : tie.Need-refused-requires-2
 refused-requires-2 c κs = search needs
@@ -126,7 +127,7 @@ returns-5 c =
     let e = m .before .before .before in
     let s = e .before .before in
     c .no-elements .ensures
-    ∙ sym (code-0 (s .args .sizes .now) (s .args .strides .now) (e .if1 .left) (m .before .if3 .left) emptyLayout (m .checked-total .result .value)
+    ∙ sym (code-0 (s .args .sizes .now) (s .args .strides .now) (e .if1 .left) (m .before .if3 .left) (emptyLayout PLACES) (m .checked-total .result .value)
     (no-elements (s .args .sizes .now) (s .args .strides .now) (m .checked-total .result .value) (counted t) (c .before .if5 .taken)) (counted t)
     (omega (arith, c .before .if5 .taken)))
 
