@@ -53,6 +53,14 @@ module _ (es : List ℕ) (ts : List ℤ) (w : Whole es ts) where
       short : length (drop 1 (held i es ts)) ≡ i - 1
       short = length-drop 1 (held i es ts) ∙ ap (λ (n : ℕ). n - 1) all
 
+  -- two axes
+  pub held-two : held 2 es ts ≡ axisOf (getD es 0 0) (getD ts 0 (pos 0)) ∷ axisOf (getD es 1 0) (getD ts 1 (pos 0)) ∷ []
+  unfolding held axesIn
+  held-two =
+      held-more es ts 1 (omega (arith, w .0)) (omega (arith, w .1))
+      ∙ ap (λ (l : List ReduceOuterAxis). l ++ axisOf (getD es 1 0) (getD ts 1 (pos 0)) ∷ [])
+      (held-more es ts 0 (omega (arith, w .0)) (omega (arith, w .1)))
+
   none-past : (n : ℕ) → n ≤ 1 → drop 1 (held n es ts) ≡ []
   none-past n h = drop-of-length-le (held n es ts) {i = 1} (omega (arith, length-held es ts n (omega (arith, w .0)) (omega (arith, w .1))))
 

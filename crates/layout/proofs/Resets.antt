@@ -2,14 +2,16 @@
 -- Assumes nothing.
 use Prim.Native.Nat.{ℕ, _-_, _^_, _≤_, _<_}
 use mathlib.Core.Path.{_≡_, refl, sym, _∙_, ap, subst}
-use mathlib.Core.Bool.{Bool, true, false, _&&_}
+use mathlib.Core.Bool.{Bool, true, false, _&&_, and-eq-true-iff}
 use lib.Dec.{T}
-use lib.IntN.{ℤ, pos, negℤ, _*ℤ_}
+use lib.IntN.{ℤ, pos, negℤ, _*ℤ_, _-ℤ_, +ℤ-idl}
+use mir.Val.{SFits}
+use mir.Syntax.{w64}
 use borrow.Author.Tests.{lt-ltb, le-ltb}
 use Rattle.integers.specs.Integers.{fitsI64}
 use Rattle.integers.specs.InnerChecked.{keepI, narrowI64}
 use Rattle.integers.specs.declared.CheckedI64.{CheckedI64}
-use Rattle.integers.proofs.Machine.{narrowI64-ok, narrowI64-not-ok}
+use Rattle.integers.proofs.Machine.{narrowI64-ok, narrowI64-not-ok, narrowI64-fits}
 use Rattle.layout.specs.Axes.{span, resetFits}
 
 fits-below : (n : ℕ) → n < 2 ^ 63 → fitsI64 (pos n) ≡ true
@@ -64,3 +66,21 @@ reset-not-ok r n s e = go (resetFits n s) refl
 -- the reset of an axis that has one
 pub reset-value : (r : CheckedI64) (n : ℕ) (s : ℤ) → r ≡ keepI (resetFits n s) (negℤ (span n s)) → resetFits n s ≡ true → r .value ≡ negℤ (span n s)
 reset-value r n s e f = ap (λ (r : CheckedI64). r .value) (e ∙ ap (λ (b : Bool). keepI b (negℤ (span n s))) f)
+
+-- the three numbers of rule L3, where it holds
+module _ (n : ℕ) (s : ℤ) (f : resetFits n s ≡ true) where
+  first-two : (fitsI64 (pos (n - 1)) && fitsI64 (span n s) ≡ true) × (fitsI64 (negℤ (span n s)) ≡ true)
+  unfolding resetFits
+  first-two = and-eq-true-iff (fitsI64 (pos (n - 1)) && fitsI64 (span n s)) (fitsI64 (negℤ (span n s))) .0 f
+
+  pub last-fits : SFits w64 (pos (n - 1))
+  last-fits = narrowI64-fits (pos (n - 1)) (and-eq-true-iff (fitsI64 (pos (n - 1))) (fitsI64 (span n s)) .0 (first-two .0) .0)
+
+  pub span-fits : SFits w64 (s *ℤ pos (n - 1))
+  unfolding span
+  span-fits = narrowI64-fits (s *ℤ pos (n - 1)) (and-eq-true-iff (fitsI64 (pos (n - 1))) (fitsI64 (span n s)) .0 (first-two .0) .1)
+
+  pub turned-span-fits : SFits w64 (pos 0 -ℤ (s *ℤ pos (n - 1)))
+  unfolding span
+  turned-span-fits =
+      rw (+ℤ-idl (negℤ (s *ℤ pos (n - 1)))) (narrowI64-fits (negℤ (s *ℤ pos (n - 1))) (first-two .1))

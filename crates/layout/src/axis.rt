@@ -1,10 +1,11 @@
 // An axis of a traversal.
 ghost use mathlib.Core.Path.{_≡_};
+ghost use mathlib.Core.Bool.{true};
 ghost use Prim.Native.Nat.{_-_, _<_};
 ghost use lib.ListN.{getD};
 ghost use lib.IntN.{pos, negℤ};
 ghost use Rattle.integers.specs.InnerChecked.{keepI};
-ghost use Rattle.layout.specs.Axes.{PLACES, noAxis, span, resetFits};
+ghost use Rattle.layout.specs.Axes.{PLACES, noAxis, span, axisOf, resetFits};
 ghost use Rattle.layout.specs.InnerTables.{bareAxis};
 use integers::CheckedI64;
 
@@ -44,6 +45,20 @@ fn last_of(extent: u64) -> u64
     ensures { λ r. ⌜ r ≡ extent - 1 ⌝ }
 {
     if extent == 0 { 0 } else { extent - 1 }
+}
+
+// An axis with its reset, where rule L3 holds: nothing is left to check.
+pub fn with_reset(extent: u64, step: i64) -> ReduceOuterAxis
+    requires { ⌜ resetFits extent step ≡ true ⌝ }
+    ensures { λ r. ⌜ r ≡ axisOf extent step ⌝ }
+{
+    let last = last_of(extent);
+    let span = step * (last as i64);
+    ReduceOuterAxis {
+        extent,
+        source_step: step,
+        source_reset: -span,
+    }
 }
 
 // Rule L3: what brings the offset from the axis's last element back to its first.

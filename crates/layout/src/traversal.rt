@@ -5,7 +5,7 @@ ghost use mathlib.Core.List.{[], _∷_};
 ghost use Prim.Native.Nat.{_≤_};
 ghost use lib.ListN.{drop};
 ghost use Rattle.layout.specs.InnerTables.{Whole, held};
-ghost use Rattle.layout.specs.Axes.{PLACES, axisOf, placesOf};
+ghost use Rattle.layout.specs.Axes.{PLACES, axisOf, placesOf, resetFits};
 ghost use Rattle.layout.specs.Order.{resetsFit};
 ghost use Rattle.layout.specs.Compile.{totalOf, emptyLayout, layoutOf, compileOf};
 ghost use Rattle.layout.specs.InnerAnswers.{checkedOr};
@@ -77,14 +77,8 @@ fn outer_places(
     let mut places = [z; PLACES];
     let mut i: usize = 1;
     while i < count {
-        let extent = extents[i];
-        let step = steps[i];
-        let reset = crate::axis::checked_reduce_reset(extent, step);
-        places[i - 1] = ReduceOuterAxis {
-            extent,
-            source_step: step,
-            source_reset: reset.value,
-        };
+        let a = crate::axis::with_reset(extents[i], steps[i]);
+        places[i - 1] = a;
         i += 1;
     }
     places
@@ -158,6 +152,28 @@ fn one_run(len: u64, stride: i64) -> Compiled
     }
 }
 
+// The layout with one outer axis. Its place is known, so that the record is written where it is wanted: a table that a loop has filled is copied.
+fn one_outer(total: u64, run: u64, stride: i64, extent: u64, step: i64) -> Compiled
+    requires { ⌜ resetFits extent step ≡ true ⌝ }
+    ensures { λ r. ⌜ r ≡ record { code = 0; traversal = layoutOf PLACES total (axisOf run stride ∷ axisOf extent step ∷ []) } ⌝ }
+{
+    let z = crate::axis::no_axis();
+    let mut places = [z; PLACES];
+    let a = crate::axis::with_reset(extent, step);
+    places[0] = a;
+    let accepted = 0;
+    Compiled {
+        code: accepted,
+        traversal: FullTraversal {
+            total,
+            run_len: run,
+            run_stride: stride,
+            axis_count: 1,
+            run_axes: places,
+        },
+    }
+}
+
 // One axis needs no order and no fusing.
 fn compile_line(size: u64, stride: i64) -> Compiled
     ensures { λ r. ⌜ r ≡ compileOf PLACES (size ∷ []) (stride ∷ []) ⌝ }
@@ -215,6 +231,9 @@ impl FullTraversal {
         }
         if MOST_ELEMENTS < t {
             return refused(refusals::TOO_MANY_ELEMENTS);
+        }
+        if fused.count == 2 {
+            return one_outer(t, extents[0], steps[0], extents[1], steps[1]);
         }
         Compiled {
             code: 0,

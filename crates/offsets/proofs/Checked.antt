@@ -1,21 +1,19 @@
--- What `checked_range` answers, for every call that begins with it: the code of the range, and all that is known of an accepted range's layout.
+-- What every call over a range begins with: a layout compiled, and the code of the range. All that is known of an accepted range's layout.
 -- Assumes nothing.
 use Prim.Native.Nat.{ℕ, _^_, _≤_, _<_}
 use mathlib.Core.Path.{_≡_, refl, sym, _∙_, ap, subst}
 use mathlib.Core.Bool.{true}
 use mathlib.Core.List.{List, _∷_}
-use mathlib.Core.Option.{some}
 use lib.IntN.{ℤ}
 use Rattle.layout.specs.declared.traversal.FullTraversal.{FullTraversal}
 use Rattle.layout.specs.declared.traversal.Compiled.{Compiled}
 use Rattle.layout.specs.Axes.{PLACES}
 use Rattle.layout.specs.Order.{axesOf}
-use Rattle.layout.specs.Compile.{compileOf, layoutBeside}
+use Rattle.layout.specs.Compile.{compileOf}
 use Rattle.offsets.specs.Elements.{allInside}
 use Rattle.offsets.specs.InnerCursors.{Bounded, Traversal}
 use Rattle.offsets.specs.Pieces.{runOf, outerOf}
 use Rattle.offsets.specs.Lists.{rangeCode, offsetsFrom}
-use Rattle.offsets.specs.InnerLists.{rangeOf}
 use Rattle.offsets.proofs.Ranges.{Ranged, ranged as all-of, ranged-accepted, ranged-bounded, ranged-inside, ranged-few, offsets-same}
 
 -- an accepted range, with its compiled layout
@@ -49,14 +47,7 @@ module _ (ns : List ℕ) (ss : List ℤ) (base : ℤ) (start end len : ℕ) wher
         offsets = offsets-same (axesOf ns ss) _ base (a .same);
       }
 
-  module _ (r : Compiled) (e : r ≡ rangeOf ns ss base start end len) where
-    pub checked-code : r .code ≡ rangeCode ns ss base start end len
-    unfolding rangeOf
-    checked-code = ap (λ (x : Compiled). x .code) e
-
-    pub checked : r .code ≡ 0 → Checked ns ss base start end len (r .traversal)
-    unfolding rangeOf layoutBeside
-    checked z =
-        let k = sym checked-code ∙ z in
-        subst (Checked ns ss base start end len)
-        (sym (ap (λ (x : Compiled). x .traversal) e ∙ ap (λ (n : ℕ). layoutBeside PLACES n (some ((compileOf PLACES ns ss) .traversal))) k)) (accepted-range k)
+  -- a compiled layout whose range's code is 0
+  pub checked : (r : Compiled) → r ≡ compileOf PLACES ns ss → (c : ℕ) → c ≡ rangeCode ns ss base start end len → c ≡ 0
+      → Checked ns ss base start end len (r .traversal)
+  checked r e c k z = subst (Checked ns ss base start end len) (sym (ap (λ (x : Compiled). x .traversal) e)) (accepted-range (sym k ∙ z))

@@ -6,13 +6,16 @@ use mathlib.Core.Bool.{Bool, true, false, _&&_, and-false, and-true}
 use mathlib.Core.List.{List, [], _∷_}
 use native.Mathlib.Omega.{arith}
 use native.Mathlib.Decide.{decLt}
+use native.Mathlib.Numerals.{unary-clauses}
 use lib.Dec.{T}
+use lib.ListN.{length, drop, getD}
 use lib.IntN.{ℤ, pos, negsuc, negℤ, natAbs, _+ℤ_}
 use lib.Signed.{leZ, ltZ, _≤ℤ_}
 use borrow.Author.Tests.{lt-ltb, le-ltb}
 use Rattle.integers.proofs.Difference.{ints, atoms}
 use Rattle.layout.specs.declared.axis.ReduceOuterAxis.{ReduceOuterAxis}
-use Rattle.layout.specs.Axes.{span}
+use Rattle.layout.specs.Axes.{span, axisOf}
+use Rattle.layout.specs.InnerTables.{axesIn}
 use Rattle.offsets.specs.declared.bounds.Span.{Span}
 use Rattle.offsets.specs.Elements.{allInside}
 use Rattle.offsets.specs.InnerCursors.{elements}
@@ -165,6 +168,15 @@ stays-in lo hi last h = rw (low lo, high hi last h)
     high hi last h = simp ints (simp atoms (omega arith))
 
 -- ---- the loop over the axes
+-- the axis at place i, and those after it
+pub axes-from : (ns : List ℕ) (ss : List ℤ) (i : ℕ) → length ns ≡ length ss → i < length ns
+    → drop i (axesIn ns ss) ≡ axisOf (getD ns i 0) (getD ss i (pos 0)) ∷ drop (i + 1) (axesIn ns ss)
+unfolding axesIn
+axes-from [] ss i e h = absurd (omega arith)
+axes-from (n ∷ ns) [] i e h = absurd (omega arith)
+axes-from (n ∷ ns) (s ∷ ss) zero e h = refl
+axes-from (n ∷ ns) (s ∷ ss) (suc i) e h = simp unary-clauses (simp unary-clauses at (axes-from ns ss i (omega arith) (omega arith)))
+
 pub record Spanning (all xs : List ReduceOuterAxis) (b last : ℕ) (s : Span) : Type 0 where
   pub ok : s .ok ≡ true
   pub high : s .high ≤ last

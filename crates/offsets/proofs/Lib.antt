@@ -2,6 +2,7 @@ pub mod Ends
 pub mod Stepping
 pub mod Cursors
 pub mod Inside
+pub mod Given
 pub mod Fused
 pub mod Accepted
 pub mod Ranges

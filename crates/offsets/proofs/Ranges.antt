@@ -13,18 +13,18 @@ use lib.IntN.{ℤ}
 use borrow.Author.Tests.{lt-ltb, le-ltb, le-leb, lt-leb, eqb-true, eq-eqb, ne-eqb, ltb-false, leb-false, not-false}
 use Rattle.layout.specs.declared.axis.ReduceOuterAxis.{ReduceOuterAxis}
 use Rattle.layout.specs.declared.traversal.FullTraversal.{FullTraversal}
-use Rattle.layout.specs.declared.traversal.Compiled.{Compiled}
 use Rattle.layout.specs.Axes.{PLACES}
 use Rattle.layout.specs.Order.{axesOf}
 use Rattle.refusals.specs.Refusals.{Refusal, firstOf}
-use Rattle.layout.specs.Compile.{compileRefusals, compileOf, layoutBeside, emptyLayout, totalOf, traversalOf, overflows, aboveMost}
+use Rattle.layout.specs.Compile.{compileRefusals, compileOf, layoutBeside, totalOf, traversalOf, overflows, aboveMost}
 use Rattle.offsets.specs.Elements.{offset, insideValues, everyBelow, allInside}
 use Rattle.offsets.specs.Pieces.{runOf, outerOf}
-use Rattle.offsets.specs.InnerCursors.{Bounded}
+use Rattle.offsets.specs.InnerCursors.{Axes, elements, Bounded}
 use Rattle.offsets.specs.Lists.{totalIn, rangeRefusals, rangeCode, listCode, offsetsFrom, listBuffer}
-use Rattle.offsets.specs.InnerLists.{rangeOf}
+use Rattle.layout.specs.InnerTables.{axesIn}
 use Rattle.offsets.proofs.Ends.{ends-exact, ends-bounded}
 use Rattle.offsets.proofs.Fused.{SameElements}
+use Rattle.offsets.proofs.Given.{given-axes, given-inside}
 use Rattle.offsets.proofs.Accepted.{AcceptedLayout, is-accepted, refused-none, not-over}
 
 every-below-same : (n : ℕ) (p q : ℕ → Bool) → ((k : ℕ) → p k ≡ q k) → everyBelow n p ≡ everyBelow n q
@@ -86,63 +86,42 @@ module _ (ns : List ℕ) (ss : List ℤ) where
       (is-accepted ns ss (c .same) (c .few) (c .layout) (c .compiled) (subst (λ (l : FullTraversal). 0 < l .total) (c .is) h))
 
 module _ (ns : List ℕ) (ss : List ℤ) (base : ℤ) (start end len : ℕ) where
-  range-at : (c : ℕ) → rangeCode ns ss base start end len ≡ c
-      → rangeOf ns ss base start end len ≡ record { code = c; traversal = layoutBeside PLACES c (some ((compileOf PLACES ns ss) .traversal)) }
-  unfolding rangeOf
-  range-at c e = ap (λ (n : ℕ). record { code = n; traversal = layoutBeside PLACES n (some ((compileOf PLACES ns ss) .traversal)) }) e
-
   -- refusals 1 to 4 are the compile's
-  pub range-compile : ((compileOf PLACES ns ss) .code ≡ 0 → ⊥) → compileOf PLACES ns ss ≡ rangeOf ns ss base start end len
-  unfolding rangeCode compileOf layoutBeside
-  range-compile n =
-      let q = first-hides (compileRefusals PLACES ns ss) (rangeRefusals ns ss base start end len) n in
-      go (firstOf (compileRefusals PLACES ns ss)) refl q
-    where
-      hidden : (k : ℕ) (o : Option FullTraversal)
-          → _≡_ {A = Compiled} (record { code = suc k; traversal = layoutBeside PLACES (suc k) o })
-          (record { code = suc k; traversal = layoutBeside PLACES (suc k) (some ((compileOf PLACES ns ss) .traversal)) })
-      hidden k o = refl
-
-      go : (k : ℕ) → firstOf (compileRefusals PLACES ns ss) ≡ k
-          → firstOf (compileRefusals PLACES ns ss ++ rangeRefusals ns ss base start end len) ≡ firstOf (compileRefusals PLACES ns ss)
-          → _≡_ {A = Compiled}
-          (record { code = firstOf (compileRefusals PLACES ns ss); traversal = layoutBeside PLACES (firstOf (compileRefusals PLACES ns ss)) (traversalOf PLACES ns ss) })
-          (rangeOf ns ss base start end len)
-      go zero e q = absurd (n e)
-      go (suc k) e q =
-          ap (λ (m : ℕ). record { code = m; traversal = layoutBeside PLACES m (traversalOf PLACES ns ss) }) e ∙ hidden k (traversalOf PLACES ns ss) ∙ sym (range-at (suc k) (q ∙ e))
+  pub range-compile : ((compileOf PLACES ns ss) .code ≡ 0 → ⊥) → (compileOf PLACES ns ss) .code ≡ rangeCode ns ss base start end len
+  unfolding rangeCode compileOf
+  range-compile n = sym (first-hides (compileRefusals PLACES ns ss) (rangeRefusals ns ss base start end len) n)
 
   module _ (c : Clear ns ss) where
-    pub range-5 : end ≤ start → rangeOf ns ss base start end len ≡ record { code = 5; traversal = emptyLayout PLACES }
-    unfolding rangeCode rangeRefusals firstOf layoutBeside
-    range-5 h = range-at 5 (c .after (rangeRefusals ns ss base start end len) ∙ rw (le-leb end start h))
+    pub range-5 : end ≤ start → rangeCode ns ss base start end len ≡ 5
+    unfolding rangeCode rangeRefusals firstOf
+    range-5 h = c .after (rangeRefusals ns ss base start end len) ∙ rw (le-leb end start h)
 
-    pub range-6 : start < end → (compileOf PLACES ns ss) .traversal .total < end → rangeOf ns ss base start end len ≡ record { code = 6; traversal = emptyLayout PLACES }
-    unfolding rangeCode rangeRefusals firstOf layoutBeside totalIn
-    range-6 h k = range-at 6 (c .after (rangeRefusals ns ss base start end len) ∙ rw (lt-leb end start h, lt-ltb ((compileOf PLACES ns ss) .traversal .total) end k))
+    pub range-6 : start < end → (compileOf PLACES ns ss) .traversal .total < end → rangeCode ns ss base start end len ≡ 6
+    unfolding rangeCode rangeRefusals firstOf totalIn
+    range-6 h k = c .after (rangeRefusals ns ss base start end len) ∙ rw (lt-leb end start h, lt-ltb ((compileOf PLACES ns ss) .traversal .total) end k)
 
     module _ (h : start < end) (k : end ≤ (compileOf PLACES ns ss) .traversal .total) where
-      -- the test over the compiled layout is the test over rule L2's axes
-      tested : (b : Bool)
-          → allInside (runOf ((compileOf PLACES ns ss) .traversal) ∷ outerOf ((compileOf PLACES ns ss) .traversal)) ((compileOf PLACES ns ss) .traversal .total) base len ≡ b
+      accepted : AcceptedLayout ns ss ((compileOf PLACES ns ss) .traversal)
+      accepted = clear-accepted ns ss c (omega arith)
+
+      pub range-axes : Axes (axesIn ns ss)
+      range-axes = given-axes ns ss (accepted .axes)
+
+      -- the test over the axes as they are given is the test over rule L2's
+      tested : (b : Bool) → allInside (axesIn ns ss) (elements (axesIn ns ss)) base len ≡ b
           → allInside (axesOf ns ss) ((compileOf PLACES ns ss) .traversal .total) base len ≡ b
-      tested b e = sym (inside-same (axesOf ns ss) _ _ base len (clear-accepted ns ss c (omega arith) .same)) ∙ e
+      tested b e =
+          ap (λ (n : ℕ). allInside (axesOf ns ss) n base len) (sym (accepted .total)) ∙ sym (given-inside ns ss base len range-axes (accepted .axes)) ∙ e
 
-      pub range-7 : allInside (runOf ((compileOf PLACES ns ss) .traversal) ∷ outerOf ((compileOf PLACES ns ss) .traversal)) ((compileOf PLACES ns ss) .traversal .total) base len
-          ≡ false
-          → rangeOf ns ss base start end len ≡ record { code = 7; traversal = emptyLayout PLACES }
-      unfolding rangeCode rangeRefusals firstOf layoutBeside totalIn
+      pub range-7 : allInside (axesIn ns ss) (elements (axesIn ns ss)) base len ≡ false → rangeCode ns ss base start end len ≡ 7
+      unfolding rangeCode rangeRefusals firstOf totalIn
       range-7 e =
-          range-at 7
-          (c .after (rangeRefusals ns ss base start end len) ∙ rw (lt-leb end start h, le-ltb ((compileOf PLACES ns ss) .traversal .total) end k, tested false e))
+          c .after (rangeRefusals ns ss base start end len) ∙ rw (lt-leb end start h, le-ltb ((compileOf PLACES ns ss) .traversal .total) end k, tested false e)
 
-      pub range-0 : allInside (runOf ((compileOf PLACES ns ss) .traversal) ∷ outerOf ((compileOf PLACES ns ss) .traversal)) ((compileOf PLACES ns ss) .traversal .total) base len
-          ≡ true
-          → rangeOf ns ss base start end len ≡ record { code = 0; traversal = (compileOf PLACES ns ss) .traversal }
-      unfolding rangeCode rangeRefusals firstOf layoutBeside totalIn
+      pub range-0 : allInside (axesIn ns ss) (elements (axesIn ns ss)) base len ≡ true → rangeCode ns ss base start end len ≡ 0
+      unfolding rangeCode rangeRefusals firstOf totalIn
       range-0 e =
-          range-at 0
-          (c .after (rangeRefusals ns ss base start end len) ∙ rw (lt-leb end start h, le-ltb ((compileOf PLACES ns ss) .traversal .total) end k, tested true e))
+          c .after (rangeRefusals ns ss base start end len) ∙ rw (lt-leb end start h, le-ltb ((compileOf PLACES ns ss) .traversal .total) end k, tested true e)
 
 -- ---- an accepted range
 pub record Ranged (ns : List ℕ) (ss : List ℤ) (base : ℤ) (start end len : ℕ) : Type 0 where

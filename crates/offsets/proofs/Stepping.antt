@@ -231,7 +231,3 @@ axis-small a w = go (decLt (a .extent - 1) (2 ^ 63))
     go : Dec (a .extent - 1 < 2 ^ 63) → a .extent ≤ 2 ^ 63
     go (yes h) = let k = w .1 in omega arith
     go (no h) = absurd (subst T (sym (w .2) ∙ reset-large (a .extent) (a .«source_step») (omega arith)) tt)
-
-pub axis-reset : (a : ReduceOuterAxis) → Axis a → a .«source_reset» ≡ negℤ (span (a .extent) (a .«source_step»))
-unfolding axisOf
-axis-reset a w = ap (λ (b : ReduceOuterAxis). b .«source_reset») (w .0)

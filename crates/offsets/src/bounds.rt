@@ -1,12 +1,11 @@
 // Refusal 7: whether every element of a layout lies inside the values.
 ghost use mathlib.Core.Path.{_≡_};
-ghost use mathlib.Core.List.{_∷_};
 ghost use Prim.Native.Nat.{_≤_, _<_, _^_};
+ghost use lib.ListN.{length as size};
+ghost use Rattle.layout.specs.InnerTables.{axesIn};
 ghost use Rattle.offsets.specs.Elements.{allInside};
 ghost use Rattle.offsets.specs.InnerBounds.{nowhere, widened, stayInside};
-ghost use Rattle.offsets.specs.Pieces.{runOf, outerOf};
-ghost use Rattle.offsets.specs.InnerCursors.{Traversal};
-use layout::traversal::FullTraversal;
+ghost use Rattle.offsets.specs.InnerCursors.{Axes, elements};
 
 // The smallest and the largest offset so far, while both are inside.
 pub struct Span {
@@ -51,25 +50,19 @@ fn widen(s: Span, reset: i64, last: u64) -> Span
     }
 }
 
-fn inside_from(l: FullTraversal, base: u64, last: u64) -> bool
-    requires { ⌜ Traversal l × (base ≤ last) × (last < 2 ^ 63) ⌝ }
-    ensures { λ r. ⌜ r ≡ stayInside (runOf l ∷ outerOf l) base base last ⌝ }
+fn inside_from(sizes: &[u64], strides: &[i64], base: u64, last: u64) -> bool
+    requires { ⌜ (size (now sizes) ≡ size (now strides)) × Axes (axesIn (now sizes) (now strides)) × (base ≤ last) × (last < 2 ^ 63) ⌝ }
+    ensures { λ r. ⌜ r ≡ stayInside (axesIn (now (sizes .entry)) (now (strides .entry))) base base last ⌝ }
 {
-    let reset = layout::axis::checked_reduce_reset(l.run_len, l.run_stride);
-    let first = Span {
+    let mut s = Span {
         ok: true,
         low: base,
         high: base,
     };
-    let mut s = widen(first, reset.value, last);
-    if !s.ok {
-        return false;
-    }
-    let count = l.axis_count;
     let mut i: usize = 0;
-    while i < count {
-        let a = l.run_axes[i];
-        s = widen(s, a.source_reset, last);
+    while i < sizes.len() {
+        let reset = layout::axis::checked_reduce_reset(sizes[i], strides[i]);
+        s = widen(s, reset.value, last);
         if !s.ok {
             return false;
         }
@@ -79,9 +72,10 @@ fn inside_from(l: FullTraversal, base: u64, last: u64) -> bool
 }
 
 // Whether every element lies from 0 on, before 2^63 and inside the length.
-pub fn inside(l: FullTraversal, base: i64, length: u64) -> bool
-    requires { ⌜ Traversal l ⌝ }
-    ensures { λ r. ⌜ r ≡ allInside (runOf l ∷ outerOf l) (l .total) base length ⌝ }
+pub fn inside(sizes: &[u64], strides: &[i64], base: i64, length: u64) -> bool
+    requires { ⌜ (size (now sizes) ≡ size (now strides)) × Axes (axesIn (now sizes) (now strides)) ⌝ }
+    ensures { λ r. ⌜ r ≡ allInside (axesIn (now (sizes .entry)) (now (strides .entry)))
+        (elements (axesIn (now (sizes .entry)) (now (strides .entry)))) base length ⌝ }
 {
     if base < 0 {
         return false;
@@ -91,7 +85,7 @@ pub fn inside(l: FullTraversal, base: i64, length: u64) -> bool
         return false;
     }
     if length <= integers::I64_MAX {
-        return inside_from(l, b, length - 1);
+        return inside_from(sizes, strides, b, length - 1);
     }
-    inside_from(l, b, integers::I64_MAX)
+    inside_from(sizes, strides, b, integers::I64_MAX)
 }

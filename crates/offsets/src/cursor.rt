@@ -55,4 +55,33 @@ impl ReduceOuterCursor {
         }
         c
     }
+
+    // The same, with the first two axes by themselves: to go through the table place by place it is copied, and most steps end before that.
+    pub fn next_run(self, count: usize, axes: [ReduceOuterAxis; PLACES]) -> Self
+        requires { ⌜ (length axes ≡ PLACES) × (count ≤ PLACES) × AtElement (take count axes) self ⌝ }
+        ensures { λ r. ⌜ r ≡ advanced (take count axes) self ⌝ }
+    {
+        if 0 < count {
+            let mut c = self;
+            let first = axes[0];
+            let d = c.digits[0] + 1;
+            if d < first.extent {
+                c.digits[0] = d;
+                c.source_offset = c.source_offset + first.source_step;
+                return c;
+            }
+            if 1 < count {
+                c.digits[0] = 0;
+                c.source_offset = c.source_offset + first.source_reset;
+                let second = axes[1];
+                let e = c.digits[1] + 1;
+                if e < second.extent {
+                    c.digits[1] = e;
+                    c.source_offset = c.source_offset + second.source_step;
+                    return c;
+                }
+            }
+        }
+        self.advance(count, axes)
+    }
 }

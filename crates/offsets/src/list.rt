@@ -6,39 +6,42 @@ ghost use lib.ListN.{length, take, drop};
 ghost use lib.IntN.{pos, _+ℤ_, _*ℤ_};
 ghost use mir.Val.{SFits};
 ghost use mir.Syntax.{w64};
+ghost use Rattle.layout.specs.Axes.{PLACES};
+ghost use Rattle.layout.specs.Compile.{compileOf};
 ghost use Rattle.offsets.specs.InnerCursors.{Bounded, Traversal};
 ghost use Rattle.offsets.specs.Pieces.{runOf, outerOf};
-ghost use Rattle.offsets.specs.InnerLists.{rangeOf, steps};
-ghost use Rattle.offsets.specs.Lists.{offsetsFrom, listCode, listBuffer};
-use layout::traversal::Compiled;
+ghost use Rattle.offsets.specs.InnerLists.{steps};
+ghost use Rattle.offsets.specs.Lists.{rangeCode, offsetsFrom, listCode, listBuffer};
 use layout::traversal::FullTraversal;
 
-// Refusals 1 to 7 of a range, or its compiled layout: what every call over a range begins with.
-pub fn checked_range(
+// Refusals 1 to 7 of a range, after its layout is compiled: what every call over a range goes on with. The layout is not handed in and out, since that
+// would copy its table.
+pub fn range_code(
+    compiled: u32,
+    total: u64,
     sizes: &[u64],
     strides: &[i64],
     base: i64,
     start: u64,
     end: u64,
     length: u64,
-) -> Compiled
-    ensures { λ r. ⌜ r ≡ rangeOf (now (sizes .entry)) (now (strides .entry)) base start end length ⌝ }
+) -> u32
+    requires { ⌜ (compiled ≡ (compileOf PLACES (now sizes) (now strides)) .code) × (total ≡ (compileOf PLACES (now sizes) (now strides)) .traversal .total) ⌝ }
+    ensures { λ r. ⌜ r ≡ rangeCode (now (sizes .entry)) (now (strides .entry)) base start end length ⌝ }
 {
-    let c = FullTraversal::compile(sizes, strides);
-    if c.code != 0 {
-        return c;
+    if compiled != 0 {
+        return compiled;
     }
     if end <= start {
-        return layout::traversal::refused(refusals::EMPTY_RANGE);
+        return refusals::EMPTY_RANGE;
     }
-    let l = c.traversal;
-    if l.total < end {
-        return layout::traversal::refused(refusals::RANGE_PAST_END);
+    if total < end {
+        return refusals::RANGE_PAST_END;
     }
-    if crate::bounds::inside(l, base, length) {
-        return c;
+    if crate::bounds::inside(sizes, strides, base, length) {
+        return 0;
     }
-    layout::traversal::refused(refusals::ELEMENT_OUTSIDE)
+    refusals::ELEMENT_OUTSIDE
 }
 
 // Writes count offsets from `first` on, a stride apart, into out from `at` on. The stride is not added after the last: that sum may not fit.
@@ -87,14 +90,23 @@ pub fn offset_list(
     ensures { λ r. do ⌜ r ≡ listCode (now (sizes .entry)) (now (strides .entry)) base start end length (← ⟦out.len()⟧ .entry) ⌝ }
     ensures { λ _. ⌜ now (out .exit) ≡ listBuffer (now (sizes .entry)) (now (strides .entry)) base start end length (now (out .entry)) ⌝ }
 {
-    let range = checked_range(sizes, strides, base, start, end, length);
-    if range.code != 0 {
-        return range.code;
+    let compiled = FullTraversal::compile(sizes, strides);
+    let code = range_code(
+        compiled.code,
+        compiled.traversal.total,
+        sizes,
+        strides,
+        base,
+        start,
+        end,
+        length,
+    );
+    if code != 0 {
+        return code;
     }
     if (out.len() as u64) < end - start {
         return refusals::BUFFER_TOO_SHORT;
     }
-    let l = range.traversal;
-    write_offsets(l, base, start, end, &mut *out);
+    write_offsets(compiled.traversal, base, start, end, &mut *out);
     0
 }

@@ -110,10 +110,20 @@ pub fn ordered_product(
     ensures { λ r. ⌜ finalAnswerOf r ≡ orderedOf (now (sizes .entry)) (now (strides .entry)) base start end (now (values .entry)) ⌝ }
 {
     let length = values.len() as u64;
-    let range = offsets::list::checked_range(sizes, strides, base, start, end, length);
-    if range.code != 0 {
-        return Finished::Refused(range.code);
+    let compiled = FullTraversal::compile(sizes, strides);
+    let code = offsets::list::range_code(
+        compiled.code,
+        compiled.traversal.total,
+        sizes,
+        strides,
+        base,
+        start,
+        end,
+        length,
+    );
+    if code != 0 {
+        return Finished::Refused(code);
     }
-    let number = ordered_full_range(range.traversal, base, start, end, values);
+    let number = ordered_full_range(compiled.traversal, base, start, end, values);
     Finished::Number(number)
 }

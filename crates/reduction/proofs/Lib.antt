@@ -1,6 +1,7 @@
 -- Laws of a range's pieces.
 pub mod Pieces
 pub mod Ranges
+pub mod Lines
 pub mod Strips
 pub mod Calls
 pub mod Demand

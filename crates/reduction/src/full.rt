@@ -2,7 +2,7 @@
 ghost use mathlib.Core.Path.{_≡_};
 ghost use mathlib.Core.Bool.{true, false};
 ghost use mathlib.Core.List.{_∷_};
-ghost use Prim.Native.Nat.{ℕ, _*_, _^_, _≤_, _<_};
+ghost use Prim.Native.Nat.{ℕ, _-_, _*_, _^_, _≤_, _<_};
 ghost use lib.ListN.{length};
 ghost use lib.IntN.{pos, natAbs, _+ℤ_, _*ℤ_};
 ghost use Rattle.integers.specs.Integers.{eqZ};
@@ -154,8 +154,23 @@ fn reduce_strip(
     a
 }
 
+// A range of a layout that is one run: one piece. Every place up to its end lies inside the values, so no product or sum is too large.
+fn reduce_line(
+    values: &[f64],
+    base: i64,
+    stride: i64,
+    start: u64,
+    end: u64,
+) -> StableProductFloatAcc
+    requires { ⌜ (start < end) × PlacesInside (length (now values)) base stride end × (end ≤ 2 ^ 40) ⌝ }
+    ensures { λ r. ⌜ r ≡ worked (eqZ stride (pos 1)) (strided (now (values .entry)) (base +ℤ stride *ℤ pos start) stride (end - start)) ⌝ }
+{
+    let first = base + stride * (start as i64);
+    reduce_piece(values, first, stride, (end - start) as usize)
+}
+
 // The pieces from start to end - 1: the first as it is, each later one joined from the right. Whole runs along the first outer axis go in a strip.
-pub fn reduce_full_range(
+fn reduce_runs(
     l: FullTraversal,
     base: i64,
     start: u64,
@@ -191,6 +206,24 @@ pub fn reduce_full_range(
     acc
 }
 
+// The product of elements start to end - 1. A layout without outer axes is one run, and needs no cursor.
+pub fn reduce_full_range(
+    l: FullTraversal,
+    base: i64,
+    start: u64,
+    end: u64,
+    values: &[f64],
+) -> StableProductFloatAcc
+    requires { ⌜ Traversal l × Bounded (runOf l ∷ outerOf l) base × (start < end) × (end ≤ l .total) × (l .total ≤ 2 ^ 40)
+        × (allInside (runOf l ∷ outerOf l) (l .total) base (length (now values)) ≡ true) ⌝ }
+    ensures { λ r. ⌜ r ≡ joinedPieces (piecesOf l base (now (values .entry)) start end) ⌝ }
+{
+    if l.axis_count == 0 {
+        return reduce_line(values, base, l.run_stride, start, end);
+    }
+    reduce_runs(l, base, start, end, values)
+}
+
 // The product of elements start to end - 1 of a layout over the lent values, or one of refusals 1 to 7.
 pub fn reduce(
     sizes: &[u64],
@@ -203,10 +236,20 @@ pub fn reduce(
     ensures { λ r. ⌜ answerOf r ≡ reduceOf (now (sizes .entry)) (now (strides .entry)) base start end (now (values .entry)) ⌝ }
 {
     let length = values.len() as u64;
-    let range = offsets::list::checked_range(sizes, strides, base, start, end, length);
-    if range.code != 0 {
-        return Reduced::Refused(range.code);
+    let compiled = FullTraversal::compile(sizes, strides);
+    let code = offsets::list::range_code(
+        compiled.code,
+        compiled.traversal.total,
+        sizes,
+        strides,
+        base,
+        start,
+        end,
+        length,
+    );
+    if code != 0 {
+        return Reduced::Refused(code);
     }
-    let acc = reduce_full_range(range.traversal, base, start, end, values);
+    let acc = reduce_full_range(compiled.traversal, base, start, end, values);
     Reduced::Acc(acc)
 }

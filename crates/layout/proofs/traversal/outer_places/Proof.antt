@@ -5,11 +5,10 @@ use mathlib.Core.Path.{_≡_, _∙_, ap}
 use native.Mathlib.Omega.{arith}
 use mathlib.Core.List.{List}
 use lib.ListN.{drop, getD, set}
-use lib.IntN.{ℤ, pos}
+use lib.IntN.{pos}
 use mir.Val.{SFits}
 use mir.Facts.{toZ-ofZ}
 use mir.Syntax.{w64}
-use Rattle.layout.proofs.Resets.{reset-value}
 use Rattle.layout.proofs.Outer.{no-outer, resets-at, outer-more, outer-all}
 use borrow.Author.Needs.{needs}
 use Rattle.layout.specs.declared.axis.ReduceOuterAxis.{ReduceOuterAxis}
@@ -19,7 +18,7 @@ use Rattle.layout.proofs.traversal.outer_places.Statement.{statement}
 use Rattle.layout.proofs.traversal.outer_places.Tie as tie
 use Rattle.layout.proofs.traversal.outer_places.Reads as reads
 use Rattle.layout.proofs.traversal.outer_places.Lts as lts
-use Rattle.layout.proofs.axis.checked_reduce_reset.Reads as checked-reduce-reset-reads
+use Rattle.layout.proofs.axis.with_reset.Reads as with-reset-reads
 use Rattle.layout.proofs.axis.no_axis.Reads as no-axis-reads
 
 abbrev Inv-loop : tie.InvT-loop
@@ -36,20 +35,26 @@ loop-holds c =
     let s = c .before in
     (omega arith, omega arith, no-outer (s .args .extents .now) (s .args .steps .now) (s .pre .1) (c .no-axis .result) (c .no-axis .ensures))
 
-mul-extent : tie.Need-mul-extent Inv-loop μ-loop
-mul-extent c = omega arith
+mul-with-reset : tie.Need-mul-with-reset Inv-loop μ-loop
+mul-with-reset c = omega arith
 
-element-copy-out-extent : tie.Need-element-copy-out-extent Inv-loop μ-loop
-element-copy-out-extent c = omega arith
+element-copy-out-with-reset : tie.Need-element-copy-out-with-reset Inv-loop μ-loop
+element-copy-out-with-reset c = omega arith
 
-mul-step : tie.Need-mul-step Inv-loop μ-loop
-mul-step c = omega arith
+mul-with-reset-2 : tie.Need-mul-with-reset-2 Inv-loop μ-loop
+mul-with-reset-2 c = omega arith
 
-element-copy-out-step : tie.Need-element-copy-out-step Inv-loop μ-loop
-element-copy-out-step c = omega arith
+element-copy-out-with-reset-2 : tie.Need-element-copy-out-with-reset-2 Inv-loop μ-loop
+element-copy-out-with-reset-2 c = omega arith
 
-checked-reduce-reset-requires : tie.Need-checked-reduce-reset-requires Inv-loop μ-loop
-checked-reduce-reset-requires c κs = search needs
+with-reset-requires : tie.Need-with-reset-requires Inv-loop μ-loop
+with-reset-requires c κs =
+    let k = c .before .before .before in
+    let s = k .before .before in
+    let f : SFits w64 (getD (s .args .steps .now) (k .loop .i) (pos 0)) = record { sfits = c .with-reset-arg2 .given } in
+    simp (toZ-ofZ f)
+    (resets-at (s .args .extents .now) (s .args .steps .now) (s .pre .1) (s .args .count) (k .loop .i) (c .before .before .loop-test .taken) (s .pre .0)
+    (s .pre .2))
 
 sub-places : tie.Need-sub-places Inv-loop μ-loop
 sub-places c = omega arith
@@ -67,24 +72,17 @@ loop-less : tie.Need-loop-less Inv-loop μ-loop
 loop-less c = omega arith
 
 loop-again : tie.Need-loop-again Inv-loop μ-loop
-unfolding axisOf
 loop-again c =
-    let k = c .before .before .before .before .before in
+    let k = c .before .before .before .before in
     let s = k .before .before in
     let n = getD (s .args .extents .now) (k .loop .i) 0 in
     let d = getD (s .args .steps .now) (k .loop .i) (pos 0) in
-    let f : SFits w64 d = record { sfits = c .before .before .step .given } in
-    let g : SFits w64 (c .before .checked-reduce-reset .result .value) = record { sfits = c .struct-told .given .1 .0 .1 } in
-    let h = resets-at (s .args .extents .now) (s .args .steps .now) (s .pre .1) (s .args .count) (k .loop .i)
-    (c .before .before .before .before .loop-test .taken)
-    (s .pre .0) (s .pre .2) in
-    let r = reset-value (c .before .checked-reduce-reset .result) n d (simp (toZ-ofZ f) at (c .before .checked-reduce-reset .ensures)) h in (
+    let f : SFits w64 d = record { sfits = c .before .with-reset-arg2 .given } in (
       omega arith,
       omega arith,
-      simp (toZ-ofZ f, toZ-ofZ g)
-          (ap (λ (z : ℤ). set (k .loop .places) (k .loop .i - 1) (record { extent = n; «source_step» = d; «source_reset» = z })) r
+      ap (set (k .loop .places) (k .loop .i - 1)) (simp (toZ-ofZ f) at (c .with-reset .ensures))
           ∙ ap (λ (l : List ReduceOuterAxis). set l (k .loop .i - 1) (axisOf n d)) (k .loop .inv .2)
-          ∙ outer-more (s .args .extents .now) (s .args .steps .now) (s .pre .1) (k .loop .i) (k .loop .inv .0) (omega arith)),
+          ∙ outer-more (s .args .extents .now) (s .args .steps .now) (s .pre .1) (k .loop .i) (k .loop .inv .0) (omega arith),
     )
 
 returns : tie.Need-returns Inv-loop μ-loop
@@ -103,11 +101,11 @@ outer-places-spec =
     μ-loop
     no-axis-requires
     loop-holds
-    mul-extent
-    element-copy-out-extent
-    mul-step
-    element-copy-out-step
-    checked-reduce-reset-requires
+    mul-with-reset
+    element-copy-out-with-reset
+    mul-with-reset-2
+    element-copy-out-with-reset-2
+    with-reset-requires
     sub-places
     mul-places
     array-set-from-places

@@ -8,8 +8,9 @@ use Rattle.accumulator.specs.declared.StableProductFloatAcc.{StableProductFloat
 use Rattle.accumulator.specs.declared.Reduced.the-variants.{Acc}
 use Rattle.accumulator.specs.Joining.{answerOf, refusal}
 use Rattle.kernels.specs.Pieces.{joinedPieces}
-use Rattle.offsets.specs.InnerLists.{rangeOf}
-use Rattle.offsets.proofs.Checked.{Checked, checked, checked-code}
+use Rattle.layout.specs.declared.traversal.Compiled.{Compiled}
+use Rattle.offsets.specs.Lists.{rangeCode}
+use Rattle.offsets.proofs.Checked.{Checked, checked}
 use Rattle.reduction.specs.Ranges.{piecesOf}
 use Rattle.reduction.proofs.Calls.{reduce-refused, reduce-accepted}
 use borrow.Author.Needs.{needs}
@@ -17,31 +18,38 @@ use Rattle.reduction.proofs.full.reduce.Statement.{statement}
 use Rattle.reduction.proofs.full.reduce.Tie as tie
 use Rattle.reduction.proofs.full.reduce.Reads as reads
 use Rattle.reduction.proofs.full.reduce.Lts as lts
-use Rattle.offsets.proofs.list.checked_range.Reads as checked-range-reads
+use Rattle.layout.proofs.traversal.FullTraversal.compile.Reads as compile-reads
+use Rattle.offsets.proofs.list.range_code.Reads as range-code-reads
 use Rattle.reduction.proofs.full.reduce_full_range.Reads as reduce-full-range-reads
 
--- the range's answer, over the arguments themselves
-answered : (c : tie.After-checked-range) → let s = c .before .before .before in
-    c .checked-range .result
-    ≡ rangeOf (s .args .sizes .now) (s .args .strides .now) (s .args .base) (s .args .start) (s .args .end) (length (s .args .values .now))
-answered c = simp (toZ-ofZ (c .before .before .before .fits .base)) at (c .checked-range .ensures)
+compile-requires : tie.Need-compile-requires
+compile-requires c κs = search needs
 
+range-code-requires : tie.Need-range-code-requires
+range-code-requires c κs =
+    let e = c .compile .ensures in (ap (λ (r : Compiled). r .code) e, ap (λ (r : Compiled). r .traversal .total) e)
+
+-- the range's code, over the arguments themselves
+code-of : (c : tie.After-range-code) → let s = c .before .before .before .before in
+    c .range-code .result ≡ rangeCode (s .args .sizes .now) (s .args .strides .now) (s .args .base) (s .args .start) (s .args .end) (length (s .args .values .now))
+code-of c = simp (toZ-ofZ (c .before .before .before .before .fits .base)) at (c .range-code .ensures)
+
+-- an accepted range
 accepted : (c : tie.Else1) → let s = c .before .before .before .before .before in
     Checked (s .args .sizes .now) (s .args .strides .now) (s .args .base) (s .args .start) (s .args .end) (length (s .args .values .now))
-    (c .before .before .checked-range .result .traversal)
-accepted c = checked _ _ _ _ _ _ (c .before .before .checked-range .result) (answered (c .before .before)) (c .if1 .left)
-
-checked-range-requires : tie.Need-checked-range-requires
-checked-range-requires c κs = search needs
+    (c .before .before .compile .result .traversal)
+accepted c =
+    let m = c .before in
+    let k = m .before in
+    checked _ _ _ _ _ _ (k .compile .result) (k .compile .ensures) (m .range-code .result) (code-of m) (c .if1 .left)
 
 returns : tie.Need-returns
 returns c =
-    let m = c .before .before in
-    let s = m .before .before .before in
-    let code = checked-code _ _ _ _ _ _ (m .checked-range .result) (answered m) in
-    ap refusal code
+    let m = c .before in
+    let s = m .before .before .before .before in
+    ap refusal (code-of m)
     ∙ sym (reduce-refused (s .args .sizes .now) (s .args .strides .now) (s .args .base) (s .args .start) (s .args .end) (s .args .values .now)
-    (λ e. c .if1 .taken (code ∙ e)))
+    (λ e. c .if1 .taken (code-of m ∙ e)))
 
 reduce-full-range-requires : tie.Need-reduce-full-range-requires
 reduce-full-range-requires c κs =
@@ -61,4 +69,4 @@ returns-2 c =
 
 pub reduce-spec : {M : Type 1} → statement M
 reduce-spec =
-    tie.close (tie.spec checked-range-requires returns reduce-full-range-requires returns-2)
+    tie.close (tie.spec compile-requires range-code-requires returns reduce-full-range-requires returns-2)

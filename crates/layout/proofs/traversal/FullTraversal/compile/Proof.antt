@@ -12,6 +12,7 @@ use mir.Val.{SFits}
 use mir.Syntax.{w64}
 use mir.Facts.{toZ-ofZ}
 use borrow.Author.Tests.{not-true, not-false}
+use Rattle.layout.specs.declared.axis.ReduceOuterAxis.{ReduceOuterAxis}
 use Rattle.layout.specs.declared.traversal.FullTraversal.{FullTraversal}
 use Rattle.layout.specs.Axes.{PLACES}
 use Rattle.layout.specs.InnerTables.{held}
@@ -20,6 +21,7 @@ use Rattle.layout.specs.Compile.{totalOf, layoutOf, emptyLayout, travers
 use Rattle.layout.proofs.Compiling.{total-yes, total-no, no-elements, no-resets, no-fusing, is-layout, fused-fit, code-1, code-2}
 use Rattle.layout.proofs.Compiling.{code-3, code-4, code-0}
 use Rattle.layout.proofs.Line.{single}
+use Rattle.layout.proofs.Outer.{resets-at, held-two}
 use borrow.Author.Needs.{needs}
 use Rattle.layout.proofs.traversal.FullTraversal.compile.Statement.{statement}
 use Rattle.layout.proofs.traversal.FullTraversal.compile.Tie as tie
@@ -29,6 +31,7 @@ use Rattle.layout.proofs.fuse.compress_reduce_outer_axes.Reads as compr
 use Rattle.layout.proofs.order.ordered_axes.Reads as ordered-axes-reads
 use Rattle.layout.proofs.traversal.checked_total.Reads as checked-total-reads
 use Rattle.layout.proofs.traversal.refused.Reads as refused-reads
+use Rattle.layout.proofs.traversal.one_outer.Reads as one-outer-reads
 use Rattle.layout.proofs.traversal.with_run.Reads as with-run-reads
 
 -- the total, where it fits
@@ -192,15 +195,54 @@ returns-8 c =
     (code-4 (s .args .sizes .now) (s .args .strides .now) (e .if1 .left) (m .before .if3 .left) _ (m .checked-total .result .value) (compiled k .0) (counted t)
     (c .before .if8 .taken))
 
-with-run-requires : tie.Need-with-run-requires
-with-run-requires c κs =
-    let k = c .before .before .before in
+array-read-one-outer : tie.Need-array-read-one-outer
+array-read-one-outer c = search needs
+
+array-copy-out-one-outer : tie.Need-array-copy-out-one-outer
+array-copy-out-one-outer c = search needs
+
+array-read-one-outer-2 : tie.Need-array-read-one-outer-2
+array-read-one-outer-2 c = search needs
+
+array-copy-out-one-outer-2 : tie.Need-array-copy-out-one-outer-2
+array-copy-out-one-outer-2 c = search needs
+
+one-outer-requires : tie.Need-one-outer-requires
+one-outer-requires c κs =
+    let k = c .before .before .before .before .before in
     let f = k .before .before in
-    (f .compress-reduce-outer-axes .ensures .1 .1, f .compress-reduce-outer-axes .ensures .0, compiled k .1)
+    let d : SFits w64 (getD (f .compress-reduce-outer-axes .last .1 .0) 1 (pos 0)) = record { sfits = c .one-outer-arg2 .given } in
+    simp (toZ-ofZ d)
+    (resets-at _ _ (f .compress-reduce-outer-axes .ensures .0) (f .compress-reduce-outer-axes .result .count) 1 (omega (arith, c .before .before .if9 .taken))
+    (f .compress-reduce-outer-axes .ensures .1 .1) (compiled k .1))
 
 returns-9 : tie.Need-returns-9
 returns-9 c =
-    let k = c .before .before .before .before in
+    let k = c .before .before .before .before .before .before in
+    let f = k .before .before in
+    let t = axes-total (k .before .before .before .before .before .before .before) in
+    let m = t .before .before in
+    let e = m .before .before .before in
+    let s = e .before .before in
+    let d : SFits w64 (getD (f .compress-reduce-outer-axes .last .1 .0) 0 (pos 0)) = record { sfits = c .before .before .one-outer-arg .given } in
+    let g : SFits w64 (getD (f .compress-reduce-outer-axes .last .1 .0) 1 (pos 0)) = record { sfits = c .before .one-outer-arg2 .given } in
+    simp (toZ-ofZ d, toZ-ofZ g) at (c .one-outer .ensures)
+    ∙ ap (λ (xs : List ReduceOuterAxis). record { code = 0; traversal = layoutOf PLACES (m .checked-total .result .value) xs })
+    (sym (ap (λ (n : ℕ). held n (f .compress-reduce-outer-axes .last .0) (f .compress-reduce-outer-axes .last .1 .0)) (c .before .before .before .if9 .taken)
+    ∙ held-two _ _ (f .compress-reduce-outer-axes .ensures .0)))
+    ∙ sym
+    (code-0 (s .args .sizes .now) (s .args .strides .now) (e .if1 .left) (m .before .if3 .left) _ (m .checked-total .result .value) (compiled k .0) (counted t)
+    (c .before .before .before .before .before .if8 .left))
+
+with-run-requires : tie.Need-with-run-requires
+with-run-requires c κs =
+    let k = c .before .before .before .before .before in
+    let f = k .before .before in
+    (f .compress-reduce-outer-axes .ensures .1 .1, f .compress-reduce-outer-axes .ensures .0, compiled k .1)
+
+returns-10 : tie.Need-returns-10
+returns-10 c =
+    let k = c .before .before .before .before .before .before in
     let t = axes-total (k .before .before .before .before .before .before .before) in
     let m = t .before .before in
     let e = m .before .before .before in
@@ -208,7 +250,7 @@ returns-9 c =
     ap (λ (l : FullTraversal). record { code = 0; traversal = l }) (c .with-run .ensures)
     ∙ sym
     (code-0 (s .args .sizes .now) (s .args .strides .now) (e .if1 .left) (m .before .if3 .left) _ (m .checked-total .result .value) (compiled k .0) (counted t)
-    (c .before .before .before .if8 .left))
+    (c .before .before .before .before .before .if8 .left))
 
 pub compile-spec : {M : Type 1} → statement M
 compile-spec =
@@ -235,5 +277,11 @@ compile-spec =
     returns-7
     refused-requires-6
     returns-8
+    array-read-one-outer
+    array-copy-out-one-outer
+    array-read-one-outer-2
+    array-copy-out-one-outer-2
+    one-outer-requires
+    returns-9
     with-run-requires
-    returns-9)
+    returns-10)
