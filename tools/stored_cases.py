@@ -6,11 +6,12 @@ in stored_products.py reductions, products and finishes, in stored_figures.py or
 The answers are the oracle's: crates/replay/stdout.
 """
 
+import math
 import sys
 
 import stored_figures
 import stored_products
-from case_lines import BAD, INFINITE, LEAST, LIMIT, MANY, MOST, ONE, OUT, SIGN, THREE_HALVES, TWO
+from case_lines import BAD, GAPS, INFINITE, LEAST, LIMIT, MANY, MOST, ONE, OUT, PLAN, SIGN, THREE_HALVES, TWO
 from case_lines import WRONG_FLOATS, WRONG_MARKS, WRONG_SIGNED
 from case_lines import between_good_lines, compile_, join, list_, patterns_of_m, spoiled, unit
 
@@ -60,8 +61,8 @@ def refusal_1():
     compile_([2], [1, 2])
     compile_([], [1])
     compile_([2], [])
-    compile_([2] * 9, [1] * 8)
-    compile_([2] * 8, [1] * 9)
+    compile_([2] * 17, [1] * 16)
+    compile_([2] * 16, [1] * 17)
     compile_([2**63, 2], [1])
     compile_([MANY + 1], [])
     list_([2, 3], [1], 0, 0, 1, 6, marks(6))
@@ -69,21 +70,49 @@ def refusal_1():
 
 
 def refusal_2():
-    """Nine axes and more, of which those of size 1 count."""
+    """Seventeen axes and more, of which those of size 1 count."""
     powers = [2**i for i in range(32)]
-    compile_([2] * 8, powers[:8])
-    compile_([2] * 9, powers[:9])
-    compile_([1] * 8, [1] * 8)
-    compile_([1] * 9, [1] * 9)
+    for count in [8, 9, 15, 16, 17]:
+        compile_([2] * count, powers[:count])
+        compile_([1] * count, [1] * count)
+        compile_([0] * count, [1] * count)
+        compile_([2**63] * count, [1] * count)
+        list_([2] * count, powers[:count], 0, 250, 256, 2**count, marks(6))
+        list_([2] * count, powers[:count], 0, 6, 6, 0, [])
     compile_([1] * 32, [0] * 32)
-    compile_([2] * 10, powers[:10])
-    compile_([0] * 8, [1] * 8)
-    compile_([0] * 9, [1] * 9)
-    compile_([2**63] * 9, [1] * 9)
+    compile_([2] * 18, powers[:18])
     compile_([2] * 32, powers)
-    list_([2] * 8, powers[:8], 0, 250, 256, 256, marks(6))
-    list_([2] * 9, powers[:9], 0, 250, 256, 512, marks(6))
-    list_([2] * 9, powers[:9], 0, 6, 6, 0, [])
+    # All but one have size 1: still too many, wherever the other stands.
+    for place in [0, 8, 16]:
+        sizes = [1] * 17
+        sizes[place] = 5
+        compile_(sizes, [1] * 17)
+        list_(sizes, [1] * 17, 0, 0, 5, 5, marks(5))
+
+
+def sixteen_axes():
+    """Nine axes: house, level, block, row, seat, day, hour, channel and class; sixteen; sixteen of which nine have size 1.
+    The ranges carry into each place of the cursor: the ninth digit, and the last."""
+    side_by_side = [768, 384, 192, 64, 16, 8, 4, 2, 1]
+    steps = list(range(3, 19))
+    for sizes, strides, base in [
+        (PLAN, side_by_side, 0),
+        (PLAN, GAPS, 0),
+        (PLAN, [-stride for stride in GAPS], 2500),
+        ([2] * 9, steps[:9], 0),
+        ([2] * 16, steps, 0),
+        ([2] * 16, [-step for step in steps], 168),
+        ([2, 1] * 7 + [1, 1], steps, 0),
+        ([1, 3] * 7 + [1, 1], [5] * 16, 0),
+    ]:
+        total = math.prod(sizes)
+        length = base + 1 + sum((size - 1) * max(stride, 0) for size, stride in zip(sizes, strides))
+        compile_(sizes, strides)
+        for carried in [1, 2, 8, 128, 256, 512, 768, 1024, 2**14, 2**15]:
+            if carried < total:
+                list_(sizes, strides, base, max(carried - 3, 0), min(carried + 4, total), length, marks(7))
+        list_(sizes, strides, base, max(total - 6, 0), total, length, marks(6))
+        list_(sizes, strides, base, 0, total, length - 1, marks(1))
 
 
 def refusal_3():
@@ -525,6 +554,7 @@ def main():
         named_layouts,
         refusal_1,
         refusal_2,
+        sixteen_axes,
         refusal_3,
         refusal_4,
         refusal_5,

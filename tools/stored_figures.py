@@ -4,7 +4,7 @@ from case_lines import INFINITE, LISTED, MANY, ONE, SIGN, THREE_HALVES, TWO
 from case_lines import between_good_lines, in_words, rate, reduce, unit
 from stored_products import BAD_RATES, NAMED, NAN, STRIDES
 from stored_products import about_the_ends, backwards, cuts, equal_strides, exchanged, five_axes, laid, malformed_ranges
-from stored_products import mixed, rates, refused, run, with_rate
+from stored_products import mixed, nine_axes, rates, refused, run, with_rate
 
 WORDS = ["ordered", "figure"]
 HALF, QUARTER = rate(ONE, -1), rate(ONE, -2)
@@ -148,6 +148,10 @@ def the_listed_layouts():
             reduce(sizes, strides, base, start, end, values, "ordered")
             spoiled = with_rate(values, base, 2**30) if 0 <= base < length else values
             reduce(sizes, strides, base, start, end, spoiled, "figure")
+
+
+def plan_of_nine_axes():
+    nine_axes(WORDS)
 
 
 # ---- zeros, infinities, NaNs
@@ -397,7 +401,7 @@ def refusals():
     refused(WORDS)
     for bad in [0, NAN]:
         both([2], [], 0, 0, 2, [bad] * 2)
-        both([1] * 9, [0] * 9, 0, 0, 1, [bad] * 2)
+        both([1] * 17, [0] * 17, 0, 0, 1, [bad] * 2)
         both([2, 2], [2**62, 0], 0, 0, 1, [bad] * 2)
         both([MANY + 1], [0], 0, 0, 1, [bad] * 2)
         both([2], [1], 0, 1, 1, [bad] * 2)
@@ -422,6 +426,7 @@ GROUPS = [
     visited_again,
     layouts,
     the_listed_layouts,
+    plan_of_nine_axes,
     signs_of_zero,
     signs_of_small_and_large,
     infinities,

@@ -2,7 +2,7 @@
 
 from math import isqrt
 
-from case_lines import INFINITE, LEAST, LIMIT, LISTED, MANY, MOST, ONE, SIGN, THREE_HALVES, TWO
+from case_lines import GAPS, INFINITE, LEAST, LIMIT, LISTED, MANY, MOST, ONE, PLAN, SIGN, THREE_HALVES, TWO
 from case_lines import WRONG_FLOATS, WRONG_MARKS, WRONG_SIGNED, WRONG_UNSIGNED
 from case_lines import finish, floats, in_words, patterns_of_m, rate, reduce, say, spoiled, unit
 
@@ -295,9 +295,10 @@ def refused(words):
         reduce([2**63, 2] * 5, [1], -1, 5, 4, [], word)
         reduce([2], [], 0, 0, 2, two, word)
         reduce([], [1], 0, 0, 1, two, word)
-        reduce([2**63, 2, *[1] * 7], [LEAST] * 9, -1, 5, 4, [], word)
-        reduce([1] * 9, [0] * 9, 0, 0, 1, two, word)
-        reduce([1] * 8, [0] * 8, 0, 0, 1, two, word)
+        reduce([2**63, 2, *[1] * 15], [LEAST] * 17, -1, 5, 4, [], word)
+        reduce([1] * 17, [0] * 17, 0, 0, 1, two, word)
+        reduce([1] * 16, [0] * 16, 0, 0, 1, two, word)
+        reduce([2, *[1] * 16], [1] * 17, 0, 0, 2, two, word)
         reduce([MANY + 1, 2**30], [0, 0], -1, 5, 4, [], word)
         reduce([2**32, 2**32 - 1], [0, 0], -1, 5, 4, [], word)
         reduce([2**32, 2**32 - 1], [0, 1], -1, 5, 4, [], word)
@@ -334,6 +335,17 @@ def the_listed_layouts():
     for sizes, strides, base, start, end, length in LISTED:
         if length <= 256 and end - start <= 4096:
             reduce(sizes, strides, base, start, end, rates(91, length))
+
+
+def nine_axes(words):
+    """House, level, block, row, seat, day, hour, channel and class: the whole plan, and ranges that carry into the last axis."""
+    values = rates(2026, 1 + sum((size - 1) * stride for size, stride in zip(PLAN, GAPS)))
+    for start, end in [(0, 1536), (767, 769), (700, 1500)]:
+        in_words(words, PLAN, GAPS, 0, start, end, values)
+
+
+def plan_of_nine_axes():
+    nine_axes(["reduce", "product"])
 
 
 def most_values():
@@ -558,6 +570,7 @@ GROUPS = [
     numbers,
     refused_reductions,
     the_listed_layouts,
+    plan_of_nine_axes,
     most_values,
     named_finishes,
     ends_of_the_exponent,

@@ -138,7 +138,7 @@ stand_in() {
 }
 
 programs() {
-    local line='compile 0 2 2 1 0 0 0 0 0 0 0 0 0 0 0 0 0 0 0 0 0 0 0 0 0 0 0 0 0'
+    local line='compile 0 2 2 1 0 0 0 0 0 0 0 0 0 0 0 0 0 0 0 0 0 0 0 0 0 0 0 0 0 0 0 0 0 0 0 0 0 0 0 0 0 0 0 0 0 0 0 0 0 0 0 0 0'
     printf '%s\n%s\n' "$good" "$good" >"$work/two"
     stand_in "echo '$line'"
     check 'fewer answers' 1 "$answer" 'fewer answers than cases: line 2 has none' run_sh "'$work/two'"

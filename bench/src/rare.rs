@@ -76,7 +76,7 @@ fn many_axes() -> Vec<Row> {
         let name = format!("a call of 2^{count} values, {count} axes of size 2");
         row(&name, KEEP, &axes, &[0], KEEP.draw(3usize.pow(count)))
     };
-    vec![call(2), call(4), call(8)]
+    vec![call(2), call(4), call(8), call(9), call(12)]
 }
 
 /// Rows of eight with a gap, of which a call takes the first values: one row, and one of several.

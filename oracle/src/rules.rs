@@ -4,7 +4,7 @@
 use crate::erased::calls::{self, Acc, Layout};
 use crate::StridedError;
 
-pub const MOST_AXES: usize = 8;
+pub const MOST_AXES: usize = 16;
 const MOST_ELEMENTS: u64 = 1 << 40;
 const MOST_EXPONENT: u64 = 1 << 52;
 

@@ -9,7 +9,7 @@ use Rattle.layout.specs.declared.axis.ReduceOuterAxis.{ReduceOuterAxis}
 
 -- how many axes a layout may have, and a table holds
 abbrev pub PLACES : ℕ
-PLACES = 8
+PLACES = 16
 
 -- (size - 1) × stride: from an axis's first element to its last
 unfoldable pub span : ℕ → ℤ → ℤ

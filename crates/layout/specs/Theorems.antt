@@ -18,9 +18,9 @@ SortedAxes =
     (ns : List ℕ) (ss : List ℤ) → ((p : ReduceOuterAxis → Bool) → count p (axesOf ns ss) ≡ count p (keptAxes ns ss)) × Sorted (axesOf ns ss)
     × ((r : ℕ) → keyed r (axesOf ns ss) ≡ keyed r (keptAxes ns ss))
 
--- Rule L5, a record whole: a run of 2 by 1, one outer axis, and zeros in the seven places that are left.
+-- Rule L5, a record whole: a run of 2 by 1, one outer axis, and zeros in the fifteen places that are left.
 abbrev pub outerBy3 : FullTraversal
-outerBy3 = record { total = 4; «run_len» = 2; «run_stride» = pos 1; «axis_count» = 1; «run_axes» = axisOf 2 (pos 3) ∷ replicate 7 noAxis }
+outerBy3 = record { total = 4; «run_len» = 2; «run_stride» = pos 1; «axis_count» = 1; «run_axes» = axisOf 2 (pos 3) ∷ replicate 15 noAxis }
 
 abbrev pub WholeRecord : Type 0
 WholeRecord = compileOf PLACES (2 ∷ 2 ∷ []) (pos 1 ∷ pos 3 ∷ []) ≡ record { code = 0; traversal = outerBy3 }
@@ -42,3 +42,9 @@ abbrev pub MorePlaces : Type 0
 MorePlaces =
     (p n : ℕ) (ns : List ℕ) (ss : List ℤ) → length ns ≤ p
     → compileOf (p + n) ns ss ≡ record { code = (compileOf p ns ss) .code; traversal = withPlaces n ((compileOf p ns ss) .traversal) }
+
+-- The engine had eight places before: a layout of at most eight axes compiles as it did then.
+abbrev pub EightAsBefore : Type 0
+EightAsBefore =
+    (ns : List ℕ) (ss : List ℤ) → length ns ≤ 8
+    → compileOf PLACES ns ss ≡ record { code = (compileOf 8 ns ss) .code; traversal = withPlaces 8 ((compileOf 8 ns ss) .traversal) }

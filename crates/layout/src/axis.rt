@@ -10,7 +10,7 @@ ghost use Rattle.layout.specs.InnerTables.{bareAxis};
 use integers::CheckedI64;
 
 // How many axes a layout may have, and a table holds.
-pub const PLACES: usize = 8;
+pub const PLACES: usize = 16;
 
 pub struct ReduceOuterAxis {
     pub extent: u64,

@@ -40,6 +40,8 @@ unfolding fitsI64 eqZ span axisOf resetFits placesOf keptAxes rank precedes inse
 layout-deciding = (
   refl,
   refl,
+  refl,
+  (refl, refl, refl, refl, refl),
   (refl, refl, refl, refl, refl),
   (refl, refl, refl, refl, refl),
   (refl, refl),

@@ -1,7 +1,7 @@
 -- Two tables of layout cases. Each row is an equation that holds by computing.
 use Prim.Native.Nat.{ℕ, _^_, _+_, _*_}
 use mathlib.Core.Path.{_≡_}
-use mathlib.Core.List.{List, [], _∷_}
+use mathlib.Core.List.{List, [], _∷_, map}
 use lib.ListN.{replicate}
 use lib.IntN.{ℤ, pos, negsuc}
 use Rattle.layout.specs.declared.traversal.Compiled.{Compiled}
@@ -40,10 +40,12 @@ LayoutTable =
 abbrev pub Codes : ℕ → ℕ → ℕ → ℕ → ℕ → Type 0
 Codes start end len room code = listCode (3 ∷ []) (pos 1 ∷ []) (pos 0) start end len room ≡ code
 
--- What no theorem decides: L4's second check of L3; nine axes, and eight (R2); the order by |stride| itself (L2); R5, R6 and R8, and their rank.
+-- What no theorem decides: L4's second check of L3; seventeen axes, seventeen of which one is longer than 1, sixteen, and nine that do not fuse (R2); the order by |stride| itself (L2); R5, R6 and R8, and their rank.
 abbrev pub LayoutDeciding : Type 0
 LayoutDeciding =
-    Refuses (3 ∷ 2 ∷ []) (pos (2 ^ 61) ∷ pos (3 * 2 ^ 61) ∷ []) 3 × Refuses (replicate 9 1) (replicate 9 (pos 1)) 2
-    × Compiles (replicate 8 1) (replicate 8 (pos 1)) 1 1 (pos 1) 0 × Compiles (2 ∷ 2 ∷ []) (pos 3 ∷ negsuc 1 ∷ []) 4 2 (negsuc 1) 1
+    Refuses (3 ∷ 2 ∷ []) (pos (2 ^ 61) ∷ pos (3 * 2 ^ 61) ∷ []) 3 × Refuses (replicate 17 1) (replicate 17 (pos 1)) 2
+    × Refuses (2 ∷ replicate 16 1) (replicate 17 (pos 1)) 2 × Compiles (replicate 16 1) (replicate 16 (pos 1)) 1 1 (pos 1) 0
+    × Compiles (replicate 9 2) (map pos (3 ∷ 4 ∷ 5 ∷ 6 ∷ 7 ∷ 8 ∷ 9 ∷ 10 ∷ 11 ∷ [])) 512 2 (pos 3) 8
+    × Compiles (2 ∷ 2 ∷ []) (pos 3 ∷ negsuc 1 ∷ []) 4 2 (negsuc 1) 1
     × Lists (2 ∷ 2 ∷ []) (pos 3 ∷ pos 2 ∷ []) (pos 0) 4 6 0 (pos 0 ∷ pos 2 ∷ pos 3 ∷ pos 5 ∷ replicate 3 (pos 7))
     × Codes 2 2 3 7 5 × Codes 3 2 3 7 5 × Codes 0 4 3 7 6 × Codes 0 3 3 2 8 × Codes 0 3 3 3 0 × Codes 5 5 0 0 5 × Codes 0 4 0 0 6 × Codes 0 3 2 2 7

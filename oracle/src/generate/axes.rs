@@ -29,7 +29,7 @@ impl Axes {
 }
 
 fn axis_count(dice: &mut Dice) -> usize {
-    dice.of(&[0, 1, 1, 2, 2, 2, 3, 3, 3, 3, 4, 4, 4, 5, 5, 6, 7, 8, 8, 9, 10])
+    dice.of(&[0, 1, 1, 2, 2, 2, 3, 3, 3, 3, 4, 4, 4, 5, 5, 6, 7, 8, 8, 9, 9, 12, 15, 16, 17, 18])
 }
 
 /// Sizes of a table that a program can hold.
@@ -37,7 +37,7 @@ fn small_sizes(dice: &mut Dice, count: usize) -> Vec<u64> {
     let mut total = 1;
     let mut sizes = Vec::new();
     for _ in 0..count {
-        let size = dice.of(&[1, 2, 2, 2, 3, 3, 4, 5, 7, 8, 16, 40]);
+        let size = if count > 8 { dice.of(&[1, 2, 2, 2]) } else { dice.of(&[1, 2, 2, 2, 3, 3, 4, 5, 7, 8, 16, 40]) };
         let size = if total * size > 4096 { 1 } else { size };
         total *= size;
         sizes.push(size);
@@ -50,7 +50,7 @@ fn small_sizes(dice: &mut Dice, count: usize) -> Vec<u64> {
 fn contiguous(dice: &mut Dice, sizes: &[u64], first: i64) -> Vec<i64> {
     let mut order: Vec<usize> = (0..sizes.len()).collect();
     dice.shuffle(&mut order);
-    let gap_at = if dice.once_in(2) { dice.below(9) as usize } else { 99 };
+    let gap_at = if dice.once_in(2) { dice.below(sizes.len() as u64 + 1) as usize } else { 99 };
     let mut strides = vec![0; sizes.len()];
     let mut step = first;
     for (at, &place) in order.iter().enumerate() {
@@ -81,13 +81,22 @@ fn bend(dice: &mut Dice, strides: &mut [i64]) {
 }
 
 pub fn small(dice: &mut Dice) -> Axes {
-    let count = axis_count(dice).min(8);
+    let count = axis_count(dice).min(rules::MOST_AXES);
     let sizes = small_sizes(dice, count);
     let first = dice.of(&[1, 1, 1, 1, 2, 3, -1, -1, -3, 1 << 20, 1 << 40]);
     let mut strides = contiguous(dice, &sizes, first);
     for _ in 0..dice.of(&[0, 0, 0, 1, 1, 2, 3]) {
         bend(dice, &mut strides);
     }
+    Axes { sizes, strides }
+}
+
+/// As many axes as there are places, or nearly so, most of them of size 2, a few steps apart: few of them fuse, and the digits carry
+/// from place to place.
+pub fn crowded(dice: &mut Dice) -> Axes {
+    let count = rules::MOST_AXES - dice.of(&[0, 0, 0, 1, 2, 4, 7]);
+    let sizes = (0..count).map(|_| dice.of(&[1, 2, 2, 2, 2, 2, 2, 3])).collect();
+    let strides = (0..count).map(|_| dice.below(15) as i64 - dice.of(&[0, 0, 0, 7])).collect();
     Axes { sizes, strides }
 }
 

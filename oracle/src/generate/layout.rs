@@ -13,8 +13,9 @@ pub fn line(dice: &mut Dice) -> String {
 }
 
 fn compile_line(dice: &mut Dice) -> String {
-    let mut axes = match dice.below(7) {
+    let mut axes = match dice.below(8) {
         0 | 1 => axes::small(dice),
+        7 => axes::crowded(dice),
         2 => axes::mixed(dice),
         3 | 4 => axes::edge(dice),
         _ => axes::wild(dice),
@@ -30,6 +31,7 @@ fn list_line(dice: &mut Dice) -> String {
         0 => axes::wild(dice),
         1 => axes::edge(dice),
         2 | 3 => axes::mixed(dice),
+        4 => axes::crowded(dice),
         _ => axes::small(dice),
     };
     if dice.once_in(60) {

@@ -22,7 +22,8 @@ pub fn drawn_axes(dice: &mut Dice) -> Axes {
     let mut axes = match dice.below(24) {
         0 => dice.of(&[axes::wild, axes::edge, axes::mixed])(dice),
         1..=8 => one_run(dice, room),
-        9..=17 => rows(dice, room),
+        9..=16 => rows(dice, room),
+        17 => axes::crowded(dice),
         _ => compact(dice, room),
     };
     if dice.once_in(4) {
@@ -84,9 +85,9 @@ fn repeat(dice: &mut Dice, axes: &mut Axes) {
     axes.strides.insert(place, 0);
 }
 
-/// Axes of size 1 until there are nine.
+/// Axes of size 1 until there is one too many.
 fn crowd(dice: &mut Dice, axes: &mut Axes) {
-    while axes.sizes.len() < 9 {
+    while axes.sizes.len() <= rules::MOST_AXES {
         axes.sizes.push(1);
         axes.strides.push(dice.below(9) as i64);
     }
