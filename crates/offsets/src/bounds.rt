@@ -1,7 +1,7 @@
 // Refusal 7: whether every element of a layout lies inside the values.
 ghost use mathlib.Core.Path.{_≡_};
 ghost use Prim.Native.Nat.{_≤_, _<_, _^_};
-ghost use lib.ListN.{length as size};
+ghost use lib.ListN.{length};
 ghost use Rattle.layout.specs.InnerTables.{axesIn};
 ghost use Rattle.offsets.specs.Elements.{allInside};
 ghost use Rattle.offsets.specs.InnerBounds.{nowhere, widened, stayInside};
@@ -51,7 +51,7 @@ fn widen(s: Span, reset: i64, last: u64) -> Span
 }
 
 fn inside_from(sizes: &[u64], strides: &[i64], base: u64, last: u64) -> bool
-    requires { ⌜ (size (now sizes) ≡ size (now strides)) × Axes (axesIn (now sizes) (now strides)) × (base ≤ last) × (last < 2 ^ 63) ⌝ }
+    requires { ⌜ (length (now sizes) ≡ length (now strides)) × Axes (axesIn (now sizes) (now strides)) × (base ≤ last) × (last < 2 ^ 63) ⌝ }
     ensures { λ r. ⌜ r ≡ stayInside (axesIn (now (sizes .entry)) (now (strides .entry))) base base last ⌝ }
 {
     let mut s = Span {
@@ -72,20 +72,20 @@ fn inside_from(sizes: &[u64], strides: &[i64], base: u64, last: u64) -> bool
 }
 
 // Whether every element lies from 0 on, before 2^63 and inside the length.
-pub fn inside(sizes: &[u64], strides: &[i64], base: i64, length: u64) -> bool
-    requires { ⌜ (size (now sizes) ≡ size (now strides)) × Axes (axesIn (now sizes) (now strides)) ⌝ }
+pub fn inside(sizes: &[u64], strides: &[i64], base: i64, len: u64) -> bool
+    requires { ⌜ (length (now sizes) ≡ length (now strides)) × Axes (axesIn (now sizes) (now strides)) ⌝ }
     ensures { λ r. ⌜ r ≡ allInside (axesIn (now (sizes .entry)) (now (strides .entry)))
-        (elements (axesIn (now (sizes .entry)) (now (strides .entry)))) base length ⌝ }
+        (elements (axesIn (now (sizes .entry)) (now (strides .entry)))) base len ⌝ }
 {
     if base < 0 {
         return false;
     }
     let b = base as u64;
-    if length <= b {
+    if len <= b {
         return false;
     }
-    if length <= integers::I64_MAX {
-        return inside_from(sizes, strides, b, length - 1);
+    if len <= integers::I64_MAX {
+        return inside_from(sizes, strides, b, len - 1);
     }
     inside_from(sizes, strides, b, integers::I64_MAX)
 }

@@ -56,8 +56,8 @@ impl ReduceOuterCursor {
         c
     }
 
-    // The same, with the first two axes by themselves: to go through the table place by place it is copied, and most steps end before that.
-    pub fn next_run(self, count: usize, axes: [ReduceOuterAxis; PLACES]) -> Self
+    // The same, with the first two axes by themselves: where the table is gone through place by place it is copied, and most advances end before that.
+    pub fn to_next_run(self, count: usize, axes: [ReduceOuterAxis; PLACES]) -> Self
         requires { ⌜ (length axes ≡ PLACES) × (count ≤ PLACES) × AtElement (take count axes) self ⌝ }
         ensures { λ r. ⌜ r ≡ advanced (take count axes) self ⌝ }
     {

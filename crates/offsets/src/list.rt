@@ -14,10 +14,10 @@ ghost use Rattle.offsets.specs.InnerLists.{steps};
 ghost use Rattle.offsets.specs.Lists.{rangeCode, offsetsFrom, listCode, listBuffer};
 use layout::traversal::FullTraversal;
 
-// Refusals 1 to 7 of a range, after its layout is compiled: what every call over a range goes on with. The layout is not handed in and out, since that
-// would copy its table.
+// Refusals 1 to 7 of a range. Compiling its layout gave the total, and a refusal or 0. The layout itself is not handed in and out, since that would copy
+// its table.
 pub fn range_code(
-    compiled: u32,
+    refusal: u32,
     total: u64,
     sizes: &[u64],
     strides: &[i64],
@@ -26,11 +26,11 @@ pub fn range_code(
     end: u64,
     length: u64,
 ) -> u32
-    requires { ⌜ (compiled ≡ (compileOf PLACES (now sizes) (now strides)) .code) × (total ≡ (compileOf PLACES (now sizes) (now strides)) .traversal .total) ⌝ }
+    requires { ⌜ (refusal ≡ (compileOf PLACES (now sizes) (now strides)) .code) × (total ≡ (compileOf PLACES (now sizes) (now strides)) .traversal .total) ⌝ }
     ensures { λ r. ⌜ r ≡ rangeCode (now (sizes .entry)) (now (strides .entry)) base start end length ⌝ }
 {
-    if compiled != 0 {
-        return compiled;
+    if refusal != 0 {
+        return refusal;
     }
     if end <= start {
         return refusals::EMPTY_RANGE;

@@ -96,7 +96,7 @@ pub fn next_piece(l: FullTraversal, end: u64, c: RangeCursor) -> RangePiece
         let next = RangeCursor {
             at: k,
             col: 0,
-            runs: runs.next_run(count, axes),
+            runs: runs.to_next_run(count, axes),
         };
         return RangePiece { first, len, next };
     }

@@ -33,7 +33,7 @@ returns : tie.Need-returns
 returns c =
     let s = c .before .before in
     let xs = axesIn (s .args .sizes .now) (s .args .strides .now) in
-    base-below xs (s .pre .1) (s .args .length) (s .args .base) (simp (toZ-ofZ (s .fits .base)) at (c .if1 .taken))
+    base-below xs (s .pre .1) (s .args .len) (s .args .base) (simp (toZ-ofZ (s .fits .base)) at (c .if1 .taken))
 
 cast-b : tie.Need-cast-b
 cast-b c =
@@ -47,8 +47,8 @@ returns-2 c =
     let x = s .args .base in
     let xs = axesIn (s .args .sizes .now) (s .args .strides .now) in
     let b : natAbs (toZ w64 (ofZ w64 x)) ≡ natAbs x = ap natAbs (toZ-ofZ (s .fits .base)) in
-    base-past xs (s .pre .1) (s .args .length) (natAbs x) (omega (arith, c .if2 .taken, b))
-    ∙ ap (λ (z : ℤ). allInside xs (elements xs) z (s .args .length)) (sym (whole (c .before)))
+    base-past xs (s .pre .1) (s .args .len) (natAbs x) (omega (arith, c .if2 .taken, b))
+    ∙ ap (λ (z : ℤ). allInside xs (elements xs) z (s .args .len)) (sym (whole (c .before)))
 
 sub-inside-from : tie.Need-sub-inside-from
 sub-inside-from c = search needs
@@ -62,8 +62,8 @@ returns-3 c =
     let x = s .args .base in
     let xs = axesIn (s .args .sizes .now) (s .args .strides .now) in
     simp (toZ-ofZ (s .fits .base)) at (c .inside-from .ensures)
-    ∙ last-short xs (s .pre .1) (s .args .length) (natAbs x) (omega (arith, c .before .before .if2 .left)) (omega (arith, c .before .if3 .taken))
-    ∙ ap (λ (z : ℤ). allInside xs (elements xs) z (s .args .length)) (sym (whole (c .before .before .before)))
+    ∙ last-short xs (s .pre .1) (s .args .len) (natAbs x) (omega (arith, c .before .before .if2 .left)) (omega (arith, c .before .if3 .taken))
+    ∙ ap (λ (z : ℤ). allInside xs (elements xs) z (s .args .len)) (sym (whole (c .before .before .before)))
 
 inside-from-requires-2 : tie.Need-inside-from-requires-2
 inside-from-requires-2 c κs =
@@ -78,8 +78,8 @@ returns-4 c =
     let x = s .args .base in
     let xs = axesIn (s .args .sizes .now) (s .args .strides .now) in
     simp (toZ-ofZ (s .fits .base)) at (c .inside-from2 .ensures)
-    ∙ last-long xs (s .pre .1) (s .args .length) (natAbs x) (omega (arith, c .before .if3 .left))
-    ∙ ap (λ (z : ℤ). allInside xs (elements xs) z (s .args .length)) (sym (whole (c .before .before .before)))
+    ∙ last-long xs (s .pre .1) (s .args .len) (natAbs x) (omega (arith, c .before .if3 .left))
+    ∙ ap (λ (z : ℤ). allInside xs (elements xs) z (s .args .len)) (sym (whole (c .before .before .before)))
 
 pub inside-spec : {M : Type 1} → statement M
 inside-spec =

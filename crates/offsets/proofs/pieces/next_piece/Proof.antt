@@ -22,7 +22,7 @@ use Rattle.offsets.proofs.pieces.next_piece.Statement.{statement}
 use Rattle.offsets.proofs.pieces.next_piece.Tie as tie
 use Rattle.offsets.proofs.pieces.next_piece.Reads as reads
 use Rattle.offsets.proofs.pieces.next_piece.Lts as lts
-use Rattle.offsets.proofs.cursor.ReduceOuterCursor.next_run.Reads as next-run-reads
+use Rattle.offsets.proofs.cursor.ReduceOuterCursor.to_next_run.Reads as to-next-run-reads
 use Rattle.integers.proofs.min_u64.Reads as min-u64-reads
 
 sub-min-u64 : tie.Need-sub-min-u64
@@ -79,9 +79,9 @@ add-first c = subst (SFits w64) (sym (first-is c)) (first-fits c)
 add-k : tie.Need-add-k
 add-k c = search needs
 
-next-run-requires : tie.Need-next-run-requires
+to-next-run-requires : tie.Need-to-next-run-requires
 unfolding outerOf
-next-run-requires c κs =
+to-next-run-requires c κs =
     let s = c .before .before .before .before .before .before .before .before .before in
     (s .pre .0 .places, s .pre .0 .few, on-element (s .args .l) (s .pre .0) (s .args .c) (s .pre .2))
 
@@ -92,12 +92,12 @@ returns c =
     let s = t .before .before .before .before .before .before .before in
     let n = t .before .before .before .before .min-u64 .result in
     let e = t .before .before .before .before .min-u64 .ensures in
-    ap (λ (z : ℤ). record { first = z; len = n; next = record { at = s .args .c .at + n; col = 0; runs = c .next-run .result } }) (first-told t)
+    ap (λ (z : ℤ). record { first = z; len = n; next = record { at = s .args .c .at + n; col = 0; runs = c .to-next-run .result } }) (first-told t)
     ∙ ap (λ (r : ReduceOuterCursor). record {
       first = s .args .c .runs .«source_offset» +ℤ s .args .l .«run_stride» *ℤ pos (s .args .c .col);
       len = n;
       next = record { at = s .args .c .at + n; col = 0; runs = r };
-    }) (c .next-run .ensures)
+    }) (c .to-next-run .ensures)
     ∙ ap (λ (x : Bool). record {
       first = s .args .c .runs .«source_offset» +ℤ s .args .l .«run_stride» *ℤ pos (s .args .c .col);
       len = n;
@@ -149,6 +149,6 @@ next-piece-spec =
     mul-first
     add-first
     add-k
-    next-run-requires
+    to-next-run-requires
     returns
     returns-2)

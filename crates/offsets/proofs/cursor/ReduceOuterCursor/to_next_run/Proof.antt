@@ -1,4 +1,4 @@
--- `offsets::cursor::ReduceOuterCursor::next_run` meets its contract: one turn of `advance` for the first axis, one for the second, or all of it.
+-- `offsets::cursor::ReduceOuterCursor::to_next_run` meets its contract: one turn of `advance` for the first axis, one for the second, or all of it.
 -- Assumes nothing.
 use Prim.Native.Nat.{ℕ, _+_, _%_, _<_, _≤_}
 use mathlib.Core.Path.{_≡_, refl, ap}
@@ -19,10 +19,10 @@ use Rattle.offsets.proofs.Stepping.{small-fits, axis-small}
 use Rattle.offsets.proofs.Cursors.{Advancing, advancing-none, advance-axis, advance-digit, advance-here, step-in-bounds, advanced-step, reset-in-bounds}
 use Rattle.offsets.proofs.Cursors.{advancing-more}
 use borrow.Author.Needs.{needs}
-use Rattle.offsets.proofs.cursor.ReduceOuterCursor.next_run.Statement.{statement}
-use Rattle.offsets.proofs.cursor.ReduceOuterCursor.next_run.Tie as tie
-use Rattle.offsets.proofs.cursor.ReduceOuterCursor.next_run.Reads as reads
-use Rattle.offsets.proofs.cursor.ReduceOuterCursor.next_run.Lts as lts
+use Rattle.offsets.proofs.cursor.ReduceOuterCursor.to_next_run.Statement.{statement}
+use Rattle.offsets.proofs.cursor.ReduceOuterCursor.to_next_run.Tie as tie
+use Rattle.offsets.proofs.cursor.ReduceOuterCursor.to_next_run.Reads as reads
+use Rattle.offsets.proofs.cursor.ReduceOuterCursor.to_next_run.Lts as lts
 use Rattle.offsets.proofs.cursor.ReduceOuterCursor.advance.Reads as advance-reads
 
 -- the outer axes, and the one in a place
@@ -178,8 +178,8 @@ advance-requires c κs = search needs
 returns-3 : tie.Need-returns-3
 returns-3 c = search needs
 
-pub next-run-spec : {M : Type 1} → statement M
-next-run-spec =
+pub to-next-run-spec : {M : Type 1} → statement M
+to-next-run-spec =
     tie.close
     (tie.spec
     array-copy-out-first
