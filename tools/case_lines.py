@@ -11,9 +11,9 @@ SIGN = 2**63
 THREE_HALVES = 3 * 2**51
 BAD = [(0, 1), (1, 0), (1, 1)]
 INFINITE = 2047 * 2**52
-# Nine axes, house, level, block, row, seat, day, hour, channel and class, and strides with a gap behind each.
+# Nine axes, house, level, block, row, seat, day, hour, channel and class, and strides by which no two of them meet.
 PLAN = [2, 2, 2, 3, 4, 2, 2, 2, 2]
-GAPS = [1111, 555, 277, 92, 23, 11, 5, 1, 2]
+GAPS = [1507, 753, 376, 125, 31, 15, 7, 3, 1]
 # Words that stand for no number of each kind.
 WRONG_FLOATS = ["", "ff8000000000000", "3ff80000000000000", "3FF8000000000000", "0xf8000000000000", "+ff8000000000000"]
 WRONG_FLOATS += ["1.5", *("3ff800000000000" + byte for byte in "g/:`")]

@@ -98,7 +98,7 @@ def sixteen_axes():
     for sizes, strides, base in [
         (PLAN, side_by_side, 0),
         (PLAN, GAPS, 0),
-        (PLAN, [-stride for stride in GAPS], 2500),
+        (PLAN, [-stride for stride in GAPS], 3005),
         ([2] * 9, steps[:9], 0),
         ([2] * 16, steps, 0),
         ([2] * 16, [-step for step in steps], 168),

@@ -261,11 +261,15 @@ numbers() {
 
 # Each refusal has a name and a condition, in the file that is their home.
 refusals() {
-    local cases=() code said
+    local cases=() code said ones
     for code in 1 2 3 4 5 6 7 8 9 10; do cases+=("finish refused $code" "    refused $code ("); done
     check_lines 'refusals' 0 "${cases[@]}"
     said=$(grep -cE '^    refused [0-9]+ \([A-Z_]+\): .*[^.]$' "$work/out")
     [ "$said" -eq 10 ] || die "refusals: $said of 10 have a name and a condition"
+    # The condition says the limit that the program has.
+    ones=$(printf ' 1%.0s' {1..16})
+    check_lines 'the limit of axes' 0 "compile 16$ones 16$ones" '    1 elements' \
+        "compile 17$ones 1 17$ones 1" '    refused 2 (TOO_MANY_AXES): the layout has more than 16 axes'
     mv "$copy/crates/refusals" "$work/refusals"
     check 'no names of refusals' 1 '' 'refusals/src/lib.rt, where the refusals are named, cannot be read' run_sh "'$work/good'"
     mkdir -p "$copy/crates/refusals/src"

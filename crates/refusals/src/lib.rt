@@ -4,7 +4,7 @@
 // sizes and strides differ in number
 pub const STRIDE_LENGTH_MISMATCH: u32 = 1;
 
-// the layout has more than 8 axes
+// the layout has more than 16 axes
 pub const TOO_MANY_AXES: u32 = 2;
 
 // a check of the layout does not fit 64 bits
