@@ -85,7 +85,8 @@ module _ (es : List ℕ) (ts : List ℤ) (w : Whole es ts) where
 
   -- the first axis is the run
   pub run-first : (t n : ℕ) (places : List ReduceOuterAxis) → (n ≡ 0 → ⊥) → n ≤ PLACES → places ≡ placesOf PLACES (drop 1 (held n es ts))
-      → record { total = t; «run_len» = getD es 0 0; «run_stride» = getD ts 0 (pos 0); «axis_count» = n - 1; «run_axes» = places } ≡ layoutOf PLACES t (held n es ts)
+      → record { total = t; «run_len» = getD es 0 0; «run_stride» = getD ts 0 (pos 0); «axis_count» = n - 1; «run_axes» = places }
+      ≡ layoutOf PLACES t (held n es ts)
   unfolding layoutOf axisOf held axesIn
   run-first t n places z h e =
       ap (λ (l : List ReduceOuterAxis). record { total = t; «run_len» = getD es 0 0; «run_stride» = getD ts 0 (pos 0); «axis_count» = n - 1; «run_axes» = l })

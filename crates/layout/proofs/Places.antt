@@ -6,7 +6,7 @@ use mathlib.Core.Bool.{Bool, true, false, cond}
 use mathlib.Core.List.{List, [], _∷_, _++_, append-assoc}
 use mathlib.Core.Option.{Option, none, some, Option·map}
 use native.Mathlib.Omega.{arith}
-use lib.Dec.{ltb, eqb}
+use lib.Dec.{eqb}
 use lib.ListN.{length, replicate, replicate-append-replicate}
 use lib.IntN.{ℤ, pos}
 use borrow.Author.Tests.{le-ltb}
@@ -69,7 +69,8 @@ module _ (p n : ℕ) where
     at-more (some t) = elements (eqb t 0)
       where
         fused : (o : Option (List ReduceOuterAxis)) → fusedOf ns ss ≡ o
-            → elim o [ none ↦ none | some xs ↦ some (layoutOf (p + n) t xs) ] ≡ Option·map (withPlaces n) (elim o [ none ↦ none | some xs ↦ some (layoutOf p t xs) ])
+            → elim o [ none ↦ none | some xs ↦ some (layoutOf (p + n) t xs) ]
+            ≡ Option·map (withPlaces n) (elim o [ none ↦ none | some xs ↦ some (layoutOf p t xs) ])
         fused none e = refl
         fused (some xs) e = ap some (layout-more t xs (let few = length-fused ns ss xs e in omega arith))
 

@@ -259,11 +259,13 @@ module _ (ns : List ℕ) (ss : List ℤ) (eq : length ns ≡ length ss) (small :
 
               fused : (o : Option (List ReduceOuterAxis)) → fusedOf ns ss ≡ o → AcceptedLayout ns ss l
               fused none f =
-                  absurd (none-some (ap (λ (o : Option (List ReduceOuterAxis)). elim o [ none ↦ none | some xs ↦ some (layoutOf PLACES t xs) ]) (sym f) ∙ at-fused))
+                  absurd
+                  (none-some (ap (λ (o : Option (List ReduceOuterAxis)). elim o [ none ↦ none | some xs ↦ some (layoutOf PLACES t xs) ]) (sym f) ∙ at-fused))
                 where
                   at-fused : elim (fusedOf ns ss) [ none ↦ none | some xs ↦ some (layoutOf PLACES t xs) ] ≡ some l
                   at-fused =
-                      ap (λ (b : Bool). cond b (some (emptyLayout PLACES)) (elim (fusedOf ns ss) [ none ↦ none | some xs ↦ some (layoutOf PLACES t xs) ])) (sym (ne-eqb t 0 nz))
+                      ap (λ (b : Bool). cond b (some (emptyLayout PLACES)) (elim (fusedOf ns ss) [ none ↦ none | some xs ↦ some (layoutOf PLACES t xs) ]))
+                      (sym (ne-eqb t 0 nz))
                       ∙ at-t
               fused (some xs) f =
                   subst (AcceptedLayout ns ss)
@@ -272,5 +274,6 @@ module _ (ns : List ℕ) (ss : List ℤ) (eq : length ns ≡ length ss) (small :
                 where
                   at-fused : elim (fusedOf ns ss) [ none ↦ none | some xs ↦ some (layoutOf PLACES t xs) ] ≡ some l
                   at-fused =
-                      ap (λ (b : Bool). cond b (some (emptyLayout PLACES)) (elim (fusedOf ns ss) [ none ↦ none | some xs ↦ some (layoutOf PLACES t xs) ])) (sym (ne-eqb t 0 nz))
+                      ap (λ (b : Bool). cond b (some (emptyLayout PLACES)) (elim (fusedOf ns ss) [ none ↦ none | some xs ↦ some (layoutOf PLACES t xs) ]))
+                      (sym (ne-eqb t 0 nz))
                       ∙ at-t

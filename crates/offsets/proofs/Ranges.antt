@@ -4,7 +4,7 @@ use Prim.Native.Nat.{ℕ, zero, suc, _-_, _^_, _≤_, _<_}
 use mathlib.Core.Path.{_≡_, refl, sym, _∙_, ap, subst}
 use mathlib.Core.Bool.{Bool, true, false, cond, not}
 use mathlib.Core.List.{List, [], _∷_, _++_, append-assoc}
-use mathlib.Core.Option.{Option, some}
+use mathlib.Core.Option.{some}
 use native.Mathlib.Omega.{arith}
 use lib.Dec.{ltb, leb, eqb}
 use lib.ListN.{length, drop}
@@ -177,7 +177,8 @@ module _ (ns : List ℕ) (ss : List ℤ) (base : ℤ) (start end len : ℕ) wher
     ranged-accepted = clear-accepted ns ss (r .clears) (omega (arith, r .forward, r .inside))
 
     -- the test of refusal 7, over the compiled axes
-    pub ranged-inside : allInside (runOf ((compileOf PLACES ns ss) .traversal) ∷ outerOf ((compileOf PLACES ns ss) .traversal)) ((compileOf PLACES ns ss) .traversal .total) base
+    pub ranged-inside : allInside (runOf ((compileOf PLACES ns ss) .traversal) ∷ outerOf ((compileOf PLACES ns ss) .traversal))
+        ((compileOf PLACES ns ss) .traversal .total) base
         len
         ≡ true
     ranged-inside = inside-same (axesOf ns ss) _ _ base len (ranged-accepted .same) ∙ r .within

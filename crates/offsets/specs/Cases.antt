@@ -40,7 +40,8 @@ LayoutTable =
 abbrev pub Codes : ℕ → ℕ → ℕ → ℕ → ℕ → Type 0
 Codes start end len room code = listCode (3 ∷ []) (pos 1 ∷ []) (pos 0) start end len room ≡ code
 
--- What no theorem decides: L4's second check of L3; seventeen axes, seventeen of which one is longer than 1, sixteen, and nine that do not fuse (R2); the order by |stride| itself (L2); R5, R6 and R8, and their rank.
+-- What no theorem decides: L4's second check of L3; seventeen axes, seventeen of which one is longer than 1, sixteen, and nine that do not fuse (R2); the
+-- order by |stride| itself (L2); R5, R6 and R8, and their rank.
 abbrev pub LayoutDeciding : Type 0
 LayoutDeciding =
     Refuses (3 ∷ 2 ∷ []) (pos (2 ^ 61) ∷ pos (3 * 2 ^ 61) ∷ []) 3 × Refuses (replicate 17 1) (replicate 17 (pos 1)) 2

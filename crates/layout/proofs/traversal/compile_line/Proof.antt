@@ -72,7 +72,8 @@ returns-5 c =
     let r = c .before .before .before .before in
     let e = r .before in
     let s = e .before .before in
-    c .one-run2 .ensures ∙ ap (λ (z : ℤ). record { code = 0; traversal = layoutOf PLACES (s .args .size) (axisOf (s .args .size) z ∷ []) }) (toZ-ofZ (s .fits .stride))
+    c .one-run2 .ensures
+    ∙ ap (λ (z : ℤ). record { code = 0; traversal = layoutOf PLACES (s .args .size) (axisOf (s .args .size) z ∷ []) }) (toZ-ofZ (s .fits .stride))
     ∙ sym (line-run (s .args .size) (s .args .stride) (s .fits .size .fits) (e .before .if1 .left) (e .if2 .left)
     (reset-ok _ _ _ (reset r) (not-false _ (c .before .before .if3 .left)) .0) (c .before .if4 .left))
 

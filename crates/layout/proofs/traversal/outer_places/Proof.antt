@@ -90,7 +90,8 @@ returns c =
     let k = c .before in
     let s = k .before .before in
     k .loop .inv .2
-    ∙ ap (placesOf PLACES) (outer-all (s .args .extents .now) (s .args .steps .now) (s .pre .1) (s .args .count) (k .loop .i) (k .loop .inv .0) (k .loop .inv .1)
+    ∙ ap (placesOf PLACES)
+    (outer-all (s .args .extents .now) (s .args .steps .now) (s .pre .1) (s .args .count) (k .loop .i) (k .loop .inv .0) (k .loop .inv .1)
     (c .loop-test .left))
 
 pub outer-places-spec : {M : Type 1} → statement M
