@@ -18,6 +18,9 @@ place-step z s i h = subst (λ (n : ℕ). (z +ℤ s *ℤ pos (i - 1)) +ℤ s ≡
 pub place-later : (z s : ℤ) (n : ℕ) → z +ℤ s +ℤ s *ℤ pos n ≡ z +ℤ s *ℤ pos (suc n)
 place-later z s n = simp ints (simp atoms (omega arith))
 
+pub place-sum : (z s : ℤ) (a b : ℕ) → z +ℤ s *ℤ pos a +ℤ s *ℤ pos b ≡ z +ℤ s *ℤ pos (a + b)
+place-sum z s a b = simp ints (simp atoms (omega arith))
+
 -- two exponents, each written as another and a shift, and the carry of the product
 pub exponents : (e d z y p q : ℤ) (c : ℕ) → p ≡ e +ℤ z → q ≡ d +ℤ y → p +ℤ q +ℤ pos c ≡ e +ℤ d +ℤ (z +ℤ y +ℤ pos c)
 exponents e d z y p q c = simp ints (simp atoms (omega arith))

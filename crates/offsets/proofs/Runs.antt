@@ -3,14 +3,14 @@
 use Prim.Native.Nat.{ℕ, zero, suc, _+_, _-_, _*_, _/_, _%_, _≤_, _<_}
 use mathlib.Core.Path.{_≡_, refl, sym, _∙_, ap}
 use mathlib.Core.Bool.{true}
-use mathlib.Core.List.{List, _∷_}
+use mathlib.Core.List.{List, _∷_, _++_}
 use native.Mathlib.Omega.{arith}
 use native.Mathlib.Nat.{div-add-mod', mod-lt, add-zero, mul-le-mul-right}
 use lib.ListN.{getD}
 use lib.Arith.{digits-div, digits-mod}
 use lib.IntN.{ℤ, pos, _+ℤ_, _*ℤ_}
 use Rattle.integers.proofs.Difference.{ints, atoms}
-use Rattle.integers.proofs.Places.{place-first, place-later}
+use Rattle.integers.proofs.Places.{place-first, place-next, place-later}
 use Rattle.layout.specs.declared.axis.ReduceOuterAxis.{ReduceOuterAxis}
 use Rattle.layout.specs.declared.traversal.FullTraversal.{FullTraversal}
 use Rattle.layout.specs.Axes.{axisOf}
@@ -20,11 +20,12 @@ use Rattle.offsets.specs.declared.pieces.RangeStrip.{RangeStrip}
 use Rattle.offsets.specs.Elements.{offset, insideValues, allInside}
 use Rattle.offsets.specs.InnerCursors.{Bounded, cursorAt, Traversal}
 use Rattle.offsets.specs.Lists.{offsetsFrom}
-use Rattle.offsets.specs.InnerLists.{steps}
+use Rattle.offsets.specs.InnerLists.{steps, runsPlaces}
 use Rattle.offsets.specs.Pieces.{runOf, outerOf}
 use Rattle.offsets.specs.InnerPieces.{rangeAt, pieceOf, skipped, OnRange, StripHere}
 use Rattle.offsets.proofs.Stepping.{axes-at}
 use Rattle.offsets.proofs.Walking.{PieceHere, piece-here, first-is}
+use Rattle.offsets.proofs.Writing.{offsets-append}
 use Rattle.offsets.proofs.Visiting.{element-inside}
 use Rattle.offsets.proofs.Skipping.{firstAxis, first-axis, runs-lie, first-digit, skipped-is}
 
@@ -168,6 +169,31 @@ module _ (l : FullTraversal) (base : ℤ) (end : ℕ) (c : RangeCursor) (s : Ran
   pub strip-run : (j : ℕ) → j < s .count
       → steps (s .first +ℤ s .step *ℤ pos j) (l .«run_stride») (s .len) ≡ offsetsFrom (runOf l ∷ outerOf l) base (c .at + j * s .len) (s .len)
   strip-run j h = steps-listed (runOf l ∷ outerOf l) base (l .«run_stride») (s .len) (s .first +ℤ s .step *ℤ pos j) (c .at + j * s .len) (here .offsets j h)
+
+  -- and one run after another, from the cursor on
+  runs-from : (n j : ℕ) → j + n ≡ s .count
+      → runsPlaces (l .«run_stride») (s .len) (steps (s .first +ℤ s .step *ℤ pos j) (s .step) n)
+      ≡ offsetsFrom (runOf l ∷ outerOf l) base (c .at + j * s .len) (n * s .len)
+  unfolding steps runsPlaces offsetsFrom
+  runs-from zero j h = ap (offsetsFrom (runOf l ∷ outerOf l) base (c .at + j * s .len)) (let e : 0 ≡ 0 * s .len = omega arith in e)
+  runs-from (suc n) j h =
+      let run = offsetsFrom (runOf l ∷ outerOf l) base (c .at + j * s .len) (s .len) in
+      ap (λ (zs : List ℤ). zs ++ runsPlaces (l .«run_stride») (s .len) (steps (s .first +ℤ s .step *ℤ pos j +ℤ s .step) (s .step) n))
+      (strip-run j (omega arith))
+      ∙ ap (λ (z : ℤ). run ++ runsPlaces (l .«run_stride») (s .len) (steps z (s .step) n)) (place-next (s .first) (s .step) j)
+      ∙ ap (λ (zs : List ℤ). run ++ zs)
+      (runs-from n (j + 1) (omega arith)
+      ∙ ap (λ (k : ℕ). offsetsFrom (runOf l ∷ outerOf l) base k (n * s .len))
+      (let e : c .at + (j + 1) * s .len ≡ c .at + j * s .len + s .len = omega arith in e))
+      ∙ sym (offsets-append (runOf l ∷ outerOf l) base (c .at + j * s .len) (s .len) (n * s .len))
+      ∙ ap (offsetsFrom (runOf l ∷ outerOf l) base (c .at + j * s .len)) (let e : s .len + n * s .len ≡ suc n * s .len = omega arith in e)
+
+  pub strip-places : runsPlaces (l .«run_stride») (s .len) (steps (s .first) (s .step) (s .count))
+      ≡ offsetsFrom (runOf l ∷ outerOf l) base (c .at) (s .count * s .len)
+  strip-places =
+      ap (λ (z : ℤ). runsPlaces (l .«run_stride») (s .len) (steps z (s .step) (s .count))) (place-first (s .first) (s .step))
+      ∙ runs-from (s .count) 0 (omega arith)
+      ∙ ap (λ (k : ℕ). offsetsFrom (runOf l ∷ outerOf l) base k (s .count * s .len)) (let e : c .at + 0 * s .len ≡ c .at = omega arith in e)
 
   -- and lie inside the values
   pub strip-places-inside : (len : ℕ) → Traversal l → allInside (runOf l ∷ outerOf l) (l .total) base len ≡ true → end ≤ l .total

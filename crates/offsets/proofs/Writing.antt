@@ -29,12 +29,16 @@ use Rattle.offsets.proofs.Stepping.{small-fits, bounded-offset}
 use Rattle.offsets.proofs.Walking.{column-split, along, some-left, PieceHere, piece-here}
 
 -- ---- numbers a stride apart
+pub steps-append : (z s : ℤ) (m n : ℕ) → steps z s (m + n) ≡ steps z s m ++ steps (z +ℤ s *ℤ pos m) s n
+unfolding steps
+steps-append z s zero n = ap (steps z s) (zero-add n) ∙ ap (λ (y : ℤ). steps y s n) (place-first z s)
+steps-append z s (suc m) n =
+    ap (steps z s) (suc-add m n)
+    ∙ ap (λ (l : List ℤ). z ∷ l) (steps-append (z +ℤ s) s m n ∙ ap (λ (y : ℤ). steps (z +ℤ s) s m ++ steps y s n) (place-later z s m))
+
 pub steps-more : (z s : ℤ) (n : ℕ) → steps z s (n + 1) ≡ steps z s n ++ (z +ℤ s *ℤ pos n) ∷ []
 unfolding steps
-steps-more z s zero = ap (λ (y : ℤ). y ∷ []) (place-first z s)
-steps-more z s (suc n) =
-    ap (λ (m : ℕ). steps z s m) (suc-add n 1)
-    ∙ ap (λ (l : List ℤ). z ∷ l) (steps-more (z +ℤ s) s n ∙ ap (λ (y : ℤ). steps (z +ℤ s) s n ++ y ∷ []) (place-later z s n))
+steps-more z s n = steps-append z s n 1
 
 pub length-steps : (z s : ℤ) (n : ℕ) → length (steps z s n) ≡ n
 unfolding steps

@@ -1,53 +1,35 @@
 -- The fold over the values of a range, place by place, run by run and strip by strip.
 -- Assumes nothing.
-use Prim.Native.Nat.{ℕ, zero, suc, _+_, _-_, _*_, _≤_, _<_}
-use mathlib.Core.Path.{_≡_, sym, _∙_, ap}
+use Prim.Native.Nat.{ℕ, _+_, _-_, _*_, _≤_, _<_}
+use mathlib.Core.Path.{_≡_, refl, sym, _∙_, ap}
 use mathlib.Core.List.{List, [], _∷_, foldl, foldl-append}
 use native.Mathlib.Omega.{arith}
 use lib.IntN.{ℤ, pos, _+ℤ_, _*ℤ_}
 use lib.Ieee.{Float, binary64, mul}
-use Rattle.layout.specs.declared.axis.ReduceOuterAxis.{ReduceOuterAxis}
 use Rattle.layout.specs.declared.traversal.FullTraversal.{FullTraversal}
 use Rattle.offsets.specs.declared.pieces.RangeCursor.{RangeCursor}
 use Rattle.offsets.specs.declared.pieces.RangeStrip.{RangeStrip}
-use Rattle.offsets.specs.InnerLists.{steps}
+use Rattle.offsets.specs.InnerLists.{steps, runsPlaces}
 use Rattle.offsets.specs.InnerPieces.{rangeAt, StripHere}
 use Rattle.offsets.specs.Lists.{offsetsFrom}
 use Rattle.offsets.specs.Pieces.{runOf, outerOf}
 use Rattle.offsets.specs.Values.{valueAt}
 use Rattle.offsets.proofs.Writing.{steps-more, offsets-append}
-use Rattle.offsets.proofs.Runs.{strip-run}
+use Rattle.offsets.proofs.Runs.{strip-places}
 use Rattle.ordered.specs.InnerFolds.{foldPlaces, foldRuns}
 
 -- one place more, a step further on
 pub fold-more : {A : Type 0} (f : A → ℤ → A) (a : A) (z s : ℤ) (n : ℕ) → f (foldl f a (steps z s n)) (z +ℤ s *ℤ pos n) ≡ foldl f a (steps z s (n + 1))
 fold-more f a z s n = sym (ap (foldl f a) (steps-more z s n) ∙ foldl-append f a (steps z s n) ((z +ℤ s *ℤ pos n) ∷ []))
 
--- a strip's runs, one after another, are the elements from the cursor on
-module _ (l : FullTraversal) (base : ℤ) (end : ℕ) (c : RangeCursor) (s : RangeStrip) (here : StripHere l base end c s) (values : List Float) (x : Float) where
-  abbrev axes : List ReduceOuterAxis
-  axes = runOf l ∷ outerOf l
-
-  strip-runs : (n : ℕ) → n ≤ s .count
-      → foldRuns values (l .«run_stride») (s .len) x (steps (s .first) (s .step) n) ≡ foldPlaces values x (offsetsFrom axes base (c .at) (n * s .len))
-  unfolding steps offsetsFrom
-  strip-runs zero h = ap (λ (m : ℕ). foldPlaces values x (offsetsFrom axes base (c .at) m)) (let e : 0 ≡ 0 * s .len = omega arith in e)
-  strip-runs (suc n) h =
-      ap (λ (m : ℕ). foldRuns values (l .«run_stride») (s .len) x (steps (s .first) (s .step) m)) (let e : suc n ≡ n + 1 = omega arith in e)
-      ∙ sym (fold-more run x (s .first) (s .step) n)
-      ∙ ap (λ (y : Float). run y (s .first +ℤ s .step *ℤ pos n)) (strip-runs n (omega arith))
-      ∙ ap (foldPlaces values (foldPlaces values x (offsetsFrom axes base (c .at) (n * s .len)))) (strip-run l base end c s here n (omega arith))
-      ∙ sym (foldl-append (λ y z. mul binary64 y (valueAt values z)) x (offsetsFrom axes base (c .at) (n * s .len))
-      (offsetsFrom axes base (c .at + n * s .len) (s .len)))
-      ∙ ap (foldPlaces values x) (sym (offsets-append axes base (c .at) (n * s .len) (s .len)))
-      ∙ ap (λ (m : ℕ). foldPlaces values x (offsetsFrom axes base (c .at) m)) (let e : n * s .len + s .len ≡ suc n * s .len = omega arith in e)
-    where
-      run : Float → ℤ → Float
-      run y z = foldPlaces values y (steps z (l .«run_stride») (s .len))
-
-  pub strip-folded : foldRuns values (l .«run_stride») (s .len) x (steps (s .first) (s .step) (s .count))
-      ≡ foldPlaces values x (offsetsFrom axes base (c .at) (s .count * s .len))
-  strip-folded = strip-runs (s .count) (omega arith)
+-- runs, one after another, are their places
+runs-folded : (values : List Float) (stride : ℤ) (n : ℕ) (x : Float) (zs : List ℤ)
+    → foldRuns values stride n x zs ≡ foldPlaces values x (runsPlaces stride n zs)
+unfolding runsPlaces
+runs-folded values stride n x [] = refl
+runs-folded values stride n x (z ∷ zs) =
+    runs-folded values stride n (foldPlaces values x (steps z stride n)) zs
+    ∙ sym (foldl-append (λ y z. mul binary64 y (valueAt values z)) x (steps z stride n) (runsPlaces stride n zs))
 
 -- ---- the loop over the strips: the cursor stands at c .at while that is below the end, and what is left makes the whole of what there is
 pub record Folding (l : FullTraversal) (base : ℤ) (values : List Float) (start end : ℕ) (one x : Float) (c : RangeCursor) : Type 0 where
@@ -77,7 +59,10 @@ module _ (l : FullTraversal) (base : ℤ) (values : List Float) (start end : ℕ
         upto = omega (arith, here .next-at, here .ends);
         cursor-is = here .next-cursor-is;
         rest =
-            ap (λ (z : Float). foldPlaces values z (offsetsFrom axes base (s .next .at) (end - s .next .at))) (e ∙ strip-folded l base end c s here values x)
+            ap (λ (z : Float). foldPlaces values z (offsetsFrom axes base (s .next .at) (end - s .next .at)))
+            (e
+            ∙ runs-folded values (l .«run_stride») (s .len) x (steps (s .first) (s .step) (s .count))
+            ∙ ap (foldPlaces values x) (strip-places l base end c s here))
             ∙ ap (λ (n : ℕ). foldPlaces values (foldPlaces values x (offsetsFrom axes base (c .at) m)) (offsetsFrom axes base n (end - n))) (here .next-at)
             ∙ sym (foldl-append (λ y z. mul binary64 y (valueAt values z)) x (offsetsFrom axes base (c .at) m)
             (offsetsFrom axes base (c .at + m) (end - (c .at + m))))
