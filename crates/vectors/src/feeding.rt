@@ -81,7 +81,7 @@ fn wait_apart(
     t
 }
 
-fn wait_vectors(
+pub fn wait_vectors(
     w: Waiting,
     values: &[f64],
     start: i64,
