@@ -33,9 +33,10 @@ ANSWERS = {
     "product": ("number", "refused"),
     "ordered": ("number", "refused"),
     "figure": ("number", "refused"),
+    "first": ("bad", "none", "refused"),
 }
 # The calls over a range with its values, and those of them that multiply bad rates as IEEE 754 does.
-OVER_VALUES = ("reduce", "product", "ordered", "figure")
+OVER_VALUES = ("reduce", "product", "ordered", "figure", "first")
 WITH_BAD_RATES = ("ordered", "figure")
 
 
@@ -358,6 +359,19 @@ def shown_offsets(case, words):
     return "offsets " + plain(take_list(words)[0][: end - start])
 
 
+def shown_bad(case, element, offset):
+    """The first bad rate: where it stands, and what it is."""
+    values, _ = take_list(shown_range(case[1:])[1])
+    value = float_of(values[int(offset)])
+    if value != value:
+        what = "a NaN"
+    elif value == 0:
+        what = f"{value!r}, a zero"
+    else:
+        what = f"{value!r}, " + ("an infinity" if abs(value) == float("inf") else "a subnormal number")
+    return f"the first bad rate is element {element}, at offset {offset}: {what}"
+
+
 def shown_answer(case, words, refusals):
     kind, call = words[0], case[0]
     if kind == "refused":
@@ -368,6 +382,10 @@ def shown_answer(case, words, refusals):
         return f"{words[2]} elements, runs of {words[3]} by {words[4]}, {shown_axes(words[5:])}"
     if kind == "list":
         return shown_offsets(case, words[2:])
+    if kind == "bad":
+        return shown_bad(case, *words[1:])
+    if kind == "none":
+        return "no visited rate is bad"
     return shown_acc(words[1:4]) if kind == "acc" else shown_number(words[1], call)
 
 

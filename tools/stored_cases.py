@@ -2,7 +2,8 @@
 """Prints the stored cases of the program `replay`, a line for each call.
 
 The format has no comments, so this file says what each group is for: here layouts, joins and malformed lines,
-in stored_products.py reductions, products and finishes, in stored_figures.py ordered products and figures.
+in stored_products.py reductions, products and finishes, in stored_figures.py ordered products and figures,
+in stored_search.py first bad rates.
 The answers are the oracle's: crates/replay/stdout.
 """
 
@@ -11,6 +12,7 @@ import sys
 
 import stored_figures
 import stored_products
+import stored_search
 from case_lines import BAD, GAPS, INFINITE, LEAST, LIMIT, MANY, MOST, ONE, OUT, PLAN, SIGN, THREE_HALVES, TWO
 from case_lines import WRONG_FLOATS, WRONG_MARKS, WRONG_SIGNED
 from case_lines import between_good_lines, compile_, join, list_, patterns_of_m, spoiled, unit
@@ -575,6 +577,7 @@ def main():
         longest,
         malformed,
         *stored_figures.GROUPS,
+        *stored_search.GROUPS,
     ]:
         group()
     # The last line has no newline, and counts all the same.

@@ -224,6 +224,9 @@ readonly faulty=(
     "ordered 1 2 1 1 0 0 2 2 $m" 'the line ends after 1 of 2 values; the count does not match the items'
     "figure 1 2 1 1 0 0 2 2 $m 1.5" "word 11, \"1.5\", stands for value 2 of 2: a float is written by the 16 hex digits of its bits, here $m"
     "figure 1 1 1 1 0 0 1 1 $m 0" '1 word too many: the line should end before word 11, "0"'
+    'First 1 2 1 1' 'write it in lower case'
+    'first 1 2 1 1 0 0 2' 'the line ends where the count of the values should stand'
+    "first 1 2 1 1 0 0 2 2 $m ${m}0" 'word 11, "3ff80000000000000", stands for value 2 of 2: a float has 16 hex digits, those of its bits, and this has 17'
     "$(head -c 131073 /dev/zero | tr '\0' x)" 'the line has 131073 bytes'
 )
 
@@ -257,6 +260,18 @@ numbers() {
         "figure 1 2 0 0 0 2 2 $m $m" '    refused 1 (STRIDE_LENGTH_MISMATCH)' \
         'list 1 2 1 1 4 0 2 6 3 -1 -2 -3' '    offsets 4 5' \
         'finish refused 11' '    refused 11'
+}
+
+# Where the first bad rate stands, and what it is.
+bad_rates() {
+    local zero=0000000000000000 two='1 2 1 1 0 0 2 2'
+    check_lines 'bad rates' 0 \
+        "first $two $m $m" '    no visited rate is bad' \
+        "first $two $m $zero" '    the first bad rate is element 1, at offset 1: 0.0, a zero' \
+        "first 1 2 1 -1 1 0 2 2 8000000000000001 $m" '    the first bad rate is element 1, at offset 0: -5e-324, a subnormal number' \
+        "first $two fff0000000000000 $zero" '    the first bad rate is element 0, at offset 0: -inf, an infinity' \
+        "first 1 2 1 1 1 1 2 3 $zero $m 7ff0000000000001" '    the first bad rate is element 1, at offset 2: a NaN' \
+        "first 1 2 1 1 0 0 3 2 $m $zero" '    refused 6 (RANGE_PAST_END)'
 }
 
 # Each refusal has a name and a condition, in the file that is their home.
@@ -301,7 +316,7 @@ EOF
 [ -x target/bin/replay ] || die 'target/bin/replay is not there; build it by ./run or rt check replay'
 [ -f crates/refusals/src/lib.rt ] || die 'crates/refusals/src/lib.rt is not there; it names the refusals'
 make_copy
-for group in calls inputs outputs tools_missing builds programs replay_itself faults numbers refusals stored; do
+for group in calls inputs outputs tools_missing builds programs replay_itself faults numbers bad_rates refusals stored; do
     "$group"
 done
 printf 'test_run: ok, %s checks\n' "$count"

@@ -1,12 +1,12 @@
 //! Every case of both tables, of growth, and of short calls with several axes: those that take longer than the Rust.
-//! And every case of the calls that hand out a number: those that take longer than aimed at.
+//! And every case of the calls that hand out a number, and of the search: those that take longer than aimed at.
 //!
 //! A busy machine makes a case look slow now and then, so one that does is timed again, and its best ratio counts.
 
 use crate::job::Job;
 use crate::rates::Rates;
 use crate::table::Row;
-use crate::{figures, growth, rare, table, timing};
+use crate::{beside, figures, growth, rare, search, table, timing};
 use std::time::Duration;
 
 const LEAST: Duration = Duration::from_millis(100);
@@ -17,7 +17,8 @@ const TRIES: usize = 4;
 /// Calls of so many values, of each of the layouts with several axes.
 const SHORT: [u64; 20] = [1, 2, 3, 5, 7, 8, 9, 16, 17, 31, 32, 33, 63, 64, 65, 100, 128, 129, 200, 256];
 
-/// What was timed, and what of it took longer than the Rust; then the ratios of figures, and those past their aim.
+/// What was timed, and what of it took longer than the Rust; then the ratios of the other calls, and those past their
+/// aim.
 #[derive(Default)]
 struct Seen {
     cases: usize,
@@ -27,7 +28,7 @@ struct Seen {
     same: bool,
 }
 
-/// Whether no case takes longer than the Rust, nor a figure than aimed at, and all answers were the same.
+/// Whether no case takes longer than the Rust, nor one of the other calls than aimed at, and all answers were the same.
 pub fn print() -> bool {
     let mut seen = Seen { same: true, ..Seen::default() };
     for (name, lists) in [("the first table", &table::LISTS[..]), ("the second table", &rare::LISTS[..])] {
@@ -44,12 +45,12 @@ pub fn print() -> bool {
     for (name, axes) in layouts() {
         SHORT.into_iter().for_each(|count| seen.time(&format!("{name}, {count} values"), &short(&axes, count)));
     }
-    eprintln!("figures ..");
-    for table in &figures::TABLES {
-        (table.rows)().iter().for_each(|row| seen.figure(table, row));
+    eprintln!("figures, and the first bad rate ..");
+    for table in figures::TABLES.iter().chain(&search::TABLES) {
+        (table.rows)().iter().for_each(|row| seen.beside(table, row));
     }
     println!("{} of {} cases take longer than the Rust", seen.slower, seen.cases);
-    println!("{} of {} ratios of figures are past their aim", seen.missed, seen.ratios);
+    println!("{} of {} ratios of figures and of searches are past their aim", seen.missed, seen.ratios);
     seen.same && seen.slower == 0 && seen.missed == 0
 }
 
@@ -83,10 +84,10 @@ impl Seen {
         }
     }
 
-    fn figure(&mut self, table: &figures::Table, row: &Row) {
+    fn beside(&mut self, table: &beside::Table, row: &Row) {
         let name = format!("{}, {}, {}", table.name, row.name, row.rates);
         self.ratios += table.ratios.len();
-        if let Some(difference) = row.job.number_difference() {
+        if let Some(difference) = (table.difference)(&row.job) {
             println!("{name}: {difference}");
             self.same = false;
             return;

@@ -1,16 +1,17 @@
 //! Random calls to the engine and to the Rust, whose answers must be the same to the bit: the number of the
 //! refusal, the accumulator, and every place of a buffer. The offsets of each range are listed and compared too, and
-//! its ordered product and its figure; then both of these for a call that is drawn for them. Now and then comes a long
-//! piece.
+//! its ordered product, its figure and its first bad rate; then these for calls that are drawn for them. Now and then
+//! comes a long piece.
 
 use crate::erased::calls::{self, Layout};
 use crate::generate::reduce::Call;
-use crate::generate::{ordered, Dice};
+use crate::generate::{first, ordered, Dice};
 use crate::job;
 use crate::long;
 use crate::numbers::Counts;
 use crate::probe::{self, Bits, Place};
 use crate::rules;
+use crate::searches;
 use std::collections::BTreeMap;
 
 /// What an answer's place holds before a call.
@@ -51,6 +52,7 @@ type Listed = (u32, Vec<i64>);
 struct Seen {
     kinds: BTreeMap<Kind, u64>,
     numbers: Counts,
+    searches: searches::Counts,
 }
 
 /// Whether all answers were the same.
@@ -72,6 +74,8 @@ pub fn run(count: u64, seed: u64) -> bool {
     println!("their ordered products and their figures, and those of {count} calls that are drawn for them:");
     println!("all answers are the same, and each NaN is the one NaN");
     seen.numbers.print();
+    println!("their first bad rates, and those of {count} calls that are drawn for them: all answers are the same");
+    seen.searches.print();
     true
 }
 
@@ -80,6 +84,7 @@ impl Seen {
     fn ask(&mut self, dice: &mut Dice, long: bool) -> Result<(), String> {
         self.reduction(dice)?;
         self.numbers_alone(dice)?;
+        self.search_alone(dice)?;
         if long {
             long_piece(dice)?;
         }
@@ -101,6 +106,7 @@ impl Seen {
             return Err(format!("the list of {}\nthe Rust gives {expected:?}, the engine {found:?}", call.text()));
         }
         *self.kinds.entry(kind).or_default() += 1;
+        self.searches.ask(&call, &values)?;
         self.numbers.ask(&call, &values)
     }
 
@@ -110,6 +116,12 @@ impl Seen {
         let call = ordered::drawn(dice);
         self.numbers.ask(&call, &call.floats())
     }
+
+    /// A call whose values lie on both sides of what many at a time are tested by.
+    fn search_alone(&mut self, dice: &mut Dice) -> Result<(), String> {
+        let call = first::drawn(dice);
+        self.searches.ask(&call, &call.floats())
+    }
 }
 
 fn long_piece(dice: &mut Dice) -> Result<(), String> {
@@ -118,7 +130,7 @@ fn long_piece(dice: &mut Dice) -> Result<(), String> {
         let answers = format!("the Rust gives {expected:x?}, the engine {found:x?}");
         return Err(format!("the long piece behind it, from {base}\n{answers}"));
     }
-    match job.number_difference() {
+    match job.number_difference().or_else(|| job.search_difference()) {
         Some(difference) => Err(format!("the long piece behind it\n{difference}")),
         None => Ok(()),
     }

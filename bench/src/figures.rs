@@ -4,34 +4,24 @@
 //! A product that is subnormal costs many times what another does, on both sides. So the rates are so near to 1 that
 //! the running product stays a normal number; one row has the keep rates of the other tables, whose product does not.
 
+use crate::beside::{Table, Unit};
 use crate::job::Job;
 use crate::rates::Rates;
 use crate::rules;
 use crate::table::{self, Row, GAP, TURNS};
 use crate::timing;
-use std::time::Duration;
-
-const LEAST: Duration = Duration::from_millis(300);
 
 /// A ratio that is shown, and no more: figures of short calls with a bad rate take longer than the Rust's two passes.
 const NO_AIM: f64 = f64::INFINITY;
 
-/// Three programs by turns. The last is the engine's call that the table is about.
-pub struct Table {
-    pub name: &'static str,
-    programs: [&'static str; 3],
-    /// Of the last program's time beside the first's, and beside the second's if that counts: its head, and the aim.
-    pub ratios: &'static [(&'static str, f64)],
-    pub rows: fn() -> Vec<Row>,
-    times: fn(&Job, Duration) -> [f64; 3],
-}
-
 pub const TABLES: [Table; 3] = [
     Table {
         name: "ordered product",
+        unit: Unit::Value,
         programs: ["Rust", "Rust, compiled ahead", "engine"],
         ratios: &[("engine / Rust", 1.05)],
         rows: ordered,
+        difference: Job::number_difference,
         times: |job, least| {
             let plan = job.plan();
             timing::by_turns(
@@ -45,9 +35,11 @@ pub const TABLES: [Table; 3] = [
     },
     Table {
         name: "figure, no bad rate",
+        unit: Unit::Value,
         programs: ["Rust, reduce and finish", "engine, reduce alone", "engine"],
         ratios: &[("engine / Rust", 1.05), ("engine / reduce alone", 1.05)],
         rows: good,
+        difference: Job::number_difference,
         times: |job, least| {
             timing::by_turns(
                 job.turns(),
@@ -60,9 +52,11 @@ pub const TABLES: [Table; 3] = [
     },
     Table {
         name: "figure, one zero in the middle",
+        unit: Unit::Value,
         programs: ["Rust, reduce and ordered", "engine, reduce and ordered", "engine"],
         ratios: &[("engine / Rust", NO_AIM), ("engine / reduce and ordered", 1.1)],
         rows: spoiled,
+        difference: Job::number_difference,
         times: |job, least| {
             timing::by_turns(
                 job.turns(),
@@ -74,43 +68,6 @@ pub const TABLES: [Table; 3] = [
         },
     },
 ];
-
-impl Table {
-    /// Nanoseconds a call of each program, and the ratios.
-    pub fn measure(&self, job: &Job, least: Duration) -> ([f64; 3], Vec<f64>) {
-        let times = (self.times)(job, least);
-        (times, self.ratios.iter().zip(times).map(|(_, time)| times[2] / time).collect())
-    }
-
-    fn print(&self) -> bool {
-        let heads: Vec<&str> = self.programs.into_iter().chain(self.ratios.iter().map(|ratio| ratio.0)).collect();
-        println!("| {} | rates | {} |", self.name, heads.join(" | "));
-        println!("|---|---|{}", "---:|".repeat(heads.len()));
-        (self.rows)().iter().all(|row| self.print_row(row))
-    }
-
-    fn print_row(&self, row: &Row) -> bool {
-        if let Some(difference) = row.job.number_difference() {
-            println!("{}, {}: {difference}", self.name, row.name);
-            return false;
-        }
-        let (times, ratios) = self.measure(&row.job, LEAST);
-        let each = times.map(|time| time / row.job.count() as f64);
-        let cells: Vec<String> = each.into_iter().chain(ratios).map(|cell| format!("{cell:.3}")).collect();
-        println!("| {} | {} | {} |", row.name, row.rates, cells.join(" | "));
-        true
-    }
-}
-
-/// Whether all answers were the same.
-pub fn print() -> bool {
-    TABLES.iter().enumerate().all(|(at, table)| {
-        if at > 0 {
-            println!();
-        }
-        table.print()
-    })
-}
 
 /// A layout, and the bases that its calls take turns with.
 struct Shape {

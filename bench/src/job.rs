@@ -6,7 +6,8 @@
 //! checks.
 
 use crate::erased::calls::{Acc, Answer, Plan};
-use crate::probe::{self, Bits, Numbered, Reduced};
+use crate::probe::{self, BadPlace, Bits, Numbered, Reduced};
+use crate::searches;
 use crate::rules;
 use std::hint::black_box;
 
@@ -111,6 +112,13 @@ impl Job {
         probe::figure(&self.range(turn), black_box(&self.values))
     }
 
+    #[inline(never)]
+    pub fn first(&self, turn: usize) -> (u32, BadPlace) {
+        let mut place = searches::BEFORE;
+        let code = probe::first_into(&self.range(turn), black_box(&self.values), &mut place);
+        (code, place)
+    }
+
     /// The first base at which the two answers differ, with them.
     pub fn difference(&self) -> Option<(i64, Bits, Reduced)> {
         (0..self.turns()).find_map(|turn| {
@@ -131,6 +139,19 @@ impl Job {
                 (found != Ok(expected)).then(|| {
                     format!("the {name} from {base} differs: the Rust gives {expected:x}, the engine {found:x?}")
                 })
+            })
+        })
+    }
+
+    /// The first base from which the engine finds another first bad rate than the Rust's own loop meets.
+    pub fn search_difference(&self) -> Option<String> {
+        (0..self.turns()).find_map(|turn| {
+            let base = self.bases[turn];
+            let range = rules::Range { base, start: 0, end: self.count, length: self.values.len() as u64 };
+            let expected = searches::expected(&self.sizes, &self.strides, &range, &self.values);
+            let found = self.first(turn);
+            (found != expected).then(|| {
+                format!("the first bad rate from {base} differs: the Rust gives {expected:?}, the engine {found:?}")
             })
         })
     }

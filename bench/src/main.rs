@@ -1,9 +1,9 @@
-//! The benchmark: the engine, linked from the static library `probe`, and the Rust source, in one process.
+//! The benchmark: the engine, linked from its static libraries, and the Rust source, in one process.
 //!
 //! `bench table` prints a row for each kind of call, `bench rare` a row for those seldom met, `bench figures` the calls
-//! that hand out a number, `bench growth` the time against the number of values, `bench check` the cases that take
-//! longer than the Rust, or than aimed at, `bench compare COUNT SEED` the answers to random calls, by kind. Each ends
-//! with 1 if two answers differ, and `bench check` if a case takes longer.
+//! that hand out a number, `bench search` the search for the first bad rate, `bench growth` the time against the number
+//! of values, `bench check` the cases that take longer than the Rust, or than aimed at, `bench compare COUNT SEED` the
+//! answers to random calls, by kind. Each ends with 1 if two answers differ, and `bench check` if a case takes longer.
 //!
 //! The Rust is the oracle's, included by its path, so that nothing is copied and both see the same source.
 
@@ -21,6 +21,7 @@ mod oracle {
     pub mod simd;
 }
 
+mod beside;
 mod check;
 mod compare;
 mod figures;
@@ -31,6 +32,8 @@ mod numbers;
 mod probe;
 mod rare;
 mod rates;
+mod search;
+mod searches;
 mod table;
 mod timing;
 
@@ -40,7 +43,7 @@ pub use oracle::error::{Result, StridedError};
 use oracle::{erased, generate, inline, rules, simd};
 
 fn usage() -> ! {
-    eprintln!("usage: bench table, bench rare, bench figures, bench growth, bench check, or bench compare COUNT SEED");
+    eprintln!("usage: bench table, bench rare, bench figures, bench search, bench growth, bench check, or bench compare COUNT SEED");
     std::process::exit(2);
 }
 
@@ -50,7 +53,8 @@ fn main() {
     let same = match words.as_slice() {
         ["table"] => table::print(),
         ["rare"] => rare::print(),
-        ["figures"] => figures::print(),
+        ["figures"] => beside::print(&figures::TABLES),
+        ["search"] => beside::print(&search::TABLES),
         ["growth"] => growth::print(),
         ["check"] => check::print(),
         ["compare", count, seed] => match (count.parse(), seed.parse()) {

@@ -57,6 +57,21 @@ extern "C" {
         values_len: usize,
         number: *mut f64,
     ) -> u32;
+
+    fn probe_first(
+        sizes: *const u64,
+        sizes_len: usize,
+        strides: *const i64,
+        strides_len: usize,
+        base: i64,
+        start: u64,
+        end: u64,
+        values: *const f64,
+        values_len: usize,
+        found: *mut u8,
+        element: *mut u64,
+        offset: *mut i64,
+    ) -> u32;
 }
 
 /// An accumulator, or a place for one. The mark is read as the byte it is, which must be 0 or 1.
@@ -78,6 +93,14 @@ impl Place {
 
 /// The accumulator, or the number of a refusal.
 pub type Reduced = Result<Bits, u32>;
+
+/// A bad rate, or places for one. Whether one was found is read as the byte it is, which must be 0 or 1.
+#[derive(Clone, Copy, Debug, Eq, PartialEq)]
+pub struct BadPlace {
+    pub found: u8,
+    pub element: u64,
+    pub offset: i64,
+}
 
 /// The bits of a number that is handed out, or the number of a refusal.
 pub type Numbered = Result<u64, u32>;
@@ -208,5 +231,28 @@ pub fn figure(range: &Range, values: &[f64]) -> Numbered {
     match figure_into(range, values, &mut number) {
         0 => Ok(number.to_bits()),
         code => Err(code),
+    }
+}
+
+/// 0, with whether there is a bad rate in `place.found`, and where the first lies in the other two if so; or the refusal
+/// 1 to 7, with `place` as it was.
+#[inline]
+pub fn first_into(range: &Range, values: &[f64], place: &mut BadPlace) -> u32 {
+    // SAFETY: each pointer goes with the length of its own slice, and only the fields of `place` are written.
+    unsafe {
+        probe_first(
+            range.sizes.as_ptr(),
+            range.sizes.len(),
+            range.strides.as_ptr(),
+            range.strides.len(),
+            range.base,
+            range.start,
+            range.end,
+            values.as_ptr(),
+            values.len(),
+            &mut place.found,
+            &mut place.element,
+            &mut place.offset,
+        )
     }
 }

@@ -1,7 +1,7 @@
 //! Ours: the lines of a case file and their answers.
 
 use crate::erased::calls::{Acc, Layout};
-use crate::rules::{self, Range};
+use crate::rules::{self, BadRate, Range};
 use crate::words::Words;
 use std::io::{Read, Result, Write};
 
@@ -41,6 +41,7 @@ fn answer(line: &[u8]) -> Option<String> {
         b"product" => Some(number_text(rules::finish(over_range(words, rules::reduce)?))),
         b"ordered" => Some(number_text(over_range(words, rules::ordered)?)),
         b"figure" => Some(number_text(over_range(words, rules::figure)?)),
+        b"first" => Some(first_text(over_range(words, rules::first_bad_rate)?)),
         b"join" => join(words),
         b"finish" => finish(words),
         _ => None,
@@ -133,6 +134,14 @@ fn acc_text(answer: std::result::Result<Acc, u32>) -> String {
 fn number_text(answer: std::result::Result<f64, u32>) -> String {
     match answer {
         Ok(number) => format!("number {:016x}", number.to_bits()),
+        Err(code) => format!("refused {code}"),
+    }
+}
+
+fn first_text(answer: std::result::Result<Option<BadRate>, u32>) -> String {
+    match answer {
+        Ok(Some(bad)) => format!("bad {} {}", bad.element, bad.offset),
+        Ok(None) => String::from("none"),
         Err(code) => format!("refused {code}"),
     }
 }

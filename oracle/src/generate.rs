@@ -1,11 +1,12 @@
 //! Ours: random case lines, the same for the same seed.
 //!
 //! A kind names what is drawn: `layout` gives lines of `compile` and `list`, `join` of `join`, `reduce` of `reduce`
-//! and `product`, `ordered` of `ordered` and `figure`, `finish` of `finish`.
+//! and `product`, `ordered` of `ordered` and `figure`, `first` of `first`, `finish` of `finish`.
 
 mod accumulator;
 mod axes;
 mod finish;
+pub mod first;
 mod join;
 mod layout;
 pub mod ordered;
@@ -23,6 +24,7 @@ pub fn maker(kind: &str) -> Option<Maker> {
         "join" => Some(join::line),
         "reduce" => Some(reduce::line),
         "ordered" => Some(ordered::line),
+        "first" => Some(first::line),
         "finish" => Some(finish::line),
         _ => None,
     }

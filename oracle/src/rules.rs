@@ -1,5 +1,6 @@
 //! Ours: what the product engine adds to the source, stated from its rules: refusals 2 and 4 to 10, the order in
-//! which they are asked, the offset of an element, and the one NaN. All sums here are made in 128 bits.
+//! which they are asked, the offset of an element, the first bad rate, and the one NaN. All sums here are made in 128
+//! bits.
 
 use crate::erased::calls::{self, Acc, Layout};
 use crate::StridedError;
@@ -132,6 +133,29 @@ pub fn ordered(sizes: &[u64], strides: &[i64], r: &Range, values: &[f64]) -> Res
 pub fn figure(sizes: &[u64], strides: &[i64], r: &Range, values: &[f64]) -> Result<f64, u32> {
     let layout = range(sizes, strides, r)?;
     Ok(one_nan(calls::figure(&layout, r.base, (r.start, r.end), values)))
+}
+
+/// Where a bad rate stands: its element number in the layout, and its offset in the values.
+pub struct BadRate {
+    pub element: u64,
+    pub offset: i64,
+}
+
+/// The first of the values that the source's loop visits which is zero, subnormal, infinite or a NaN. There is one
+/// exactly if the source's own reduction has its mark.
+pub fn first_bad_rate(sizes: &[u64], strides: &[i64], r: &Range, values: &[f64]) -> Result<Option<BadRate>, u32> {
+    let layout = range(sizes, strides, r)?;
+    let visited = calls::visited(&layout, r.base, (r.start, r.end), r.length);
+    let mut found = None;
+    for (element, offset) in (r.start..).zip(visited) {
+        if !values[offset as usize].is_normal() {
+            found = Some(BadRate { element, offset });
+            break;
+        }
+    }
+    let marked = calls::product(&layout, r.base, (r.start, r.end), values).bad;
+    assert_eq!(found.is_some(), marked, "the source's mark says otherwise");
+    Ok(found)
 }
 
 /// Refusal 9. A NaN has no magnitude in [1, 2), so it is refused too.

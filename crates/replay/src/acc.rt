@@ -1,11 +1,12 @@
-// Accumulators in a line: the bits of m, the exponent e, and the mark as 0 or 1.
+// Accumulators in a line: the bits of m, the exponent e, and the mark as 0 or 1. And the answers with an accumulator, a number, a bad rate or a refusal.
 ghost use Prim.Native.Nat.{_≤_};
-ghost use mathlib.Core.Path.{_≡_};
 ghost use lib.ListN.{length};
 use crate::float::ReadFloat;
 use accumulator::Reduced;
 use accumulator::StableProductFloatAcc;
 use finishing::Finished;
+use search::BadRate;
+use search::Search;
 use text::word::ReadI64;
 use text::word::ReadU64;
 
@@ -54,6 +55,18 @@ pub fn put_finished(r: Finished, out: &mut [u8]) -> usize
     }
 }
 
+// The answer of a search: a bad rate, that there is none, or a refusal.
+pub fn put_search(r: Search, out: &mut [u8]) -> usize
+    requires { ⌜ 131072 ≤ length (now out) ⌝ }
+    ensures { λ r. ⌜ r ≤ 131072 ⌝ }
+{
+    match r {
+        Search::Found(b) => put_bad_rate(b, &mut *out),
+        Search::NoneBad => text::print::put(&mut *out, 0, b"none\n"),
+        Search::Refused(code) => put_refused(code, &mut *out),
+    }
+}
+
 fn put_acc(a: StableProductFloatAcc, out: &mut [u8]) -> usize
     requires { ⌜ 131072 ≤ length (now out) ⌝ }
     ensures { λ r. ⌜ r ≤ 131072 ⌝ }
@@ -71,6 +84,16 @@ fn put_number(value: f64, out: &mut [u8]) -> usize
 {
     let mut at = text::print::put(&mut *out, 0, b"number");
     at = text::print::put_bits(&mut *out, at, crate::float::bits_of(value));
+    text::print::put(&mut *out, at, b"\n")
+}
+
+fn put_bad_rate(b: BadRate, out: &mut [u8]) -> usize
+    requires { ⌜ 131072 ≤ length (now out) ⌝ }
+    ensures { λ r. ⌜ r ≤ 131072 ⌝ }
+{
+    let mut at = text::print::put(&mut *out, 0, b"bad");
+    at = text::print::put_u64(&mut *out, at, b.element);
+    at = text::print::put_i64(&mut *out, at, b.offset);
     text::print::put(&mut *out, at, b"\n")
 }
 

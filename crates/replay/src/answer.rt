@@ -1,6 +1,5 @@
 // The answer to one line. The buffer holds 128 KiB, more than the longest answer.
-ghost use Prim.Native.Nat.{_+_, _*_, _≤_};
-ghost use mathlib.Core.Path.{_≡_};
+ghost use Prim.Native.Nat.{_+_, _≤_};
 ghost use lib.ListN.{length};
 use crate::product::RangeCall;
 use crate::product::ReadAnswer;
@@ -46,6 +45,7 @@ fn put_answer(r: ReadAnswer, out: &mut [u8]) -> usize
     match r {
         ReadAnswer::Reduced(answer) => crate::acc::put_reduced(answer, &mut *out),
         ReadAnswer::Finished(answer) => crate::acc::put_finished(answer, &mut *out),
+        ReadAnswer::Search(answer) => crate::acc::put_search(answer, &mut *out),
         ReadAnswer::Malformed => malformed(&mut *out),
     }
 }
@@ -98,6 +98,9 @@ fn answer_layout(
     }
     if check::same(call, b"figure") {
         return answer_range(RangeCall::Figure, sizes, strides, line, at, &mut *out);
+    }
+    if check::same(call, b"first") {
+        return answer_range(RangeCall::First, sizes, strides, line, at, &mut *out);
     }
     malformed(&mut *out)
 }

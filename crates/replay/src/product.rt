@@ -1,9 +1,10 @@
-// The calls whose answer is an accumulator, a number or a refusal, each read from the rest of its line.
+// The calls whose answer is an accumulator, a number, a bad rate or a refusal, each read from the rest of its line.
 use crate::acc::ReadAcc;
 use crate::range::Range;
 use crate::range::ReadRange;
 use accumulator::Reduced;
 use finishing::Finished;
+use search::Search;
 use text::word::ReadU64;
 
 // How many values a line may have.
@@ -17,12 +18,14 @@ pub enum RangeCall {
     Product,
     Ordered,
     Figure,
+    First,
 }
 
 // The answer, unless the line was malformed.
 pub enum ReadAnswer {
     Reduced(Reduced),
     Finished(Finished),
+    Search(Search),
     Malformed,
 }
 
@@ -82,6 +85,7 @@ fn over_range(
         RangeCall::Product => ReadAnswer::Finished(product(sizes, strides, r, values)),
         RangeCall::Ordered => ReadAnswer::Finished(ordered(sizes, strides, r, values)),
         RangeCall::Figure => ReadAnswer::Finished(figure(sizes, strides, r, values)),
+        RangeCall::First => ReadAnswer::Search(first(sizes, strides, r, values)),
     }
 }
 
@@ -99,6 +103,10 @@ fn ordered(sizes: &[u64], strides: &[i64], r: Range, values: &[f64]) -> Finished
 
 fn figure(sizes: &[u64], strides: &[i64], r: Range, values: &[f64]) -> Finished {
     figures::figure(sizes, strides, r.base, r.start, r.end, values)
+}
+
+fn first(sizes: &[u64], strides: &[i64], r: Range, values: &[f64]) -> Search {
+    search::first_bad_rate(sizes, strides, r.base, r.start, r.end, values)
 }
 
 // The answer of a reduction that the line itself gives, finished.

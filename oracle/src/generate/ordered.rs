@@ -7,7 +7,7 @@
 use super::accumulator::{near_an_end, plain, short, ONE};
 use super::axes::Axes;
 use super::rates::{self, between, Minus};
-use super::reduce::{self, Call};
+use super::reduce::{self, Call, MOST_VALUES};
 use super::Dice;
 
 /// The exponent of the least subnormal number.
@@ -34,9 +34,9 @@ pub fn line(dice: &mut Dice) -> String {
 
 pub fn drawn(dice: &mut Dice) -> Call {
     let axes = if dice.once_in(3) { few(dice) } else { reduce::drawn_axes(dice) };
-    let mut call = Call::over(dice, axes, &["ordered", "figure"]);
+    let mut call = Call::over(dice, axes, &["ordered", "figure"], MOST_VALUES);
     if dice.once_in(2) {
-        spoil_unvisited(dice, &mut call);
+        call.spoil_some(dice, false);
     }
     if !dice.once_in(5) {
         lead(dice, &mut call);
@@ -48,7 +48,7 @@ pub fn drawn(dice: &mut Dice) -> Call {
 }
 
 /// Two to eight elements in one run or in two, with a gap or without.
-fn few(dice: &mut Dice) -> Axes {
+pub fn few(dice: &mut Dice) -> Axes {
     let stride = dice.of(&[1, 1, 1, 2, -1, 0, -3]);
     if dice.once_in(2) {
         return Axes { sizes: vec![2 + dice.below(7)], strides: vec![stride] };
@@ -56,21 +56,6 @@ fn few(dice: &mut Dice) -> Axes {
     let length = 1 + dice.below(4);
     let pitch = stride * length as i64 + dice.of(&[0, 1, 5]);
     Axes { sizes: vec![length, 2], strides: vec![stride, pitch] }
-}
-
-/// Some of the values that the range does not visit, which must not be seen in the answer, become bad.
-fn spoil_unvisited(dice: &mut Dice, call: &mut Call) {
-    let Some(visited) = call.visited() else { return };
-    let mut seen = vec![false; call.values.len()];
-    for place in visited {
-        seen[place] = true;
-    }
-    let some = dice.of(&[1, 4, 20]);
-    for (place, value) in call.values.iter_mut().enumerate() {
-        if !seen[place] && dice.once_in(some) {
-            *value = rates::bad_of_any_pattern(dice);
-        }
-    }
 }
 
 /// Each visited value is drawn anew by where it leads the product when it is first visited.

@@ -88,7 +88,7 @@ pub fn moved(rate: u64, wanted: i64) -> (u64, i64) {
     (rate & !(2047 << 52) | (new as u64) << 52, wanted - (new - field))
 }
 
-fn rate(significand: u64, e: i64) -> u64 {
+pub fn rate(significand: u64, e: i64) -> u64 {
     (((e + 1023) as u64) << 52) + (significand - ONE)
 }
 

@@ -7,7 +7,12 @@ use super::axes::{self, Axes};
 use super::{rates, Dice};
 use crate::rules::{self, Range};
 
-const MOST_VALUES: i128 = 1100;
+/// The most values that a layout of `reduce` or of `ordered` takes.
+pub const MOST_VALUES: i128 = 1100;
+
+/// The most values of a line.
+pub const LINE_VALUES: i128 = 4096;
+
 const BLOCK: u64 = 64;
 
 /// No range that is accepted visits more elements: a layout with stride 0 may have 2^40 of them.
@@ -110,21 +115,25 @@ fn stretch(dice: &mut Dice, total: u64) -> (u64, u64) {
     }
 }
 
-/// A base and a count of values by which the layout fits exactly, with room, or not by one. A layout that no line
-/// has room for gets a few values.
-fn fit(dice: &mut Dice, axes: &Axes) -> (i64, u64) {
+/// A base and a count of values by which the layout fits exactly, with room, or not by one. A layout that takes more
+/// than `most` values gets a few.
+fn fit(dice: &mut Dice, axes: &Axes, most: i128) -> (i64, u64) {
     let (low, high) = rules::ends(&axes.sizes, &axes.strides, 0);
     let (low, high) = (low.max(-(1 << 100)), high.min(1 << 100));
-    if high - low >= MOST_VALUES {
+    if high - low >= most {
         return (dice.of(&[0, 1, -1, i64::MIN, i64::MAX]), dice.below(12));
     }
+    let spare = LINE_VALUES - (high - low + 1);
     let (before, after) = match dice.below(80) {
         0 => (-1, 1),
         1 => (0, -1),
         2 => (1, -1),
         3 => (0, low - high - 1),
         4 => return (dice.of(&[i64::MIN, i64::MAX, -1]), dice.below(12)),
-        5..=29 => (i128::from(dice.below(20)), i128::from(dice.below(20))),
+        5..=29 => {
+            let before = i128::from(dice.below(20)).min(spare);
+            (before, i128::from(dice.below(20)).min(spare - before))
+        }
         _ => (0, 0),
     };
     ((before - low) as i64, (before + high - low + 1 + after) as u64)
@@ -141,7 +150,7 @@ pub struct Call {
 impl Call {
     pub fn drawn(dice: &mut Dice) -> Call {
         let axes = drawn_axes(dice);
-        let mut call = Call::over(dice, axes, &["reduce", "reduce", "reduce", "product"]);
+        let mut call = Call::over(dice, axes, &["reduce", "reduce", "reduce", "product"], MOST_VALUES);
         if dice.once_in(7) {
             call.spoil(dice, rates::bad);
         } else if dice.once_in(if call.word == "product" { 2 } else { 20 }) {
@@ -150,11 +159,12 @@ impl Call {
         call
     }
 
-    /// One of the words, over these axes, with values of which none is bad.
-    pub fn over(dice: &mut Dice, axes: Axes, words: &[&'static str]) -> Call {
+    /// One of the words, over these axes, with values of which none is bad. Axes that take more than `most` values get
+    /// too few.
+    pub fn over(dice: &mut Dice, axes: Axes, words: &[&'static str], most: i128) -> Call {
         let total = axes.total(dice);
         let (start, end) = stretch(dice, total);
-        let (base, length) = fit(dice, &axes);
+        let (base, length) = fit(dice, &axes, most);
         let word = dice.of(words);
         let values = rates::drawn(dice, length);
         Call { word, axes, range: Range { base, start, end, length }, values }
@@ -175,12 +185,18 @@ impl Call {
     }
 
     /// The length of a run, if the call is accepted.
-    fn run(&self) -> Option<u64> {
+    pub fn run(&self) -> Option<u64> {
         rules::range(&self.axes.sizes, &self.axes.strides, &self.range).ok().map(|layout| layout.run_len)
     }
 
+    /// The piece of a visited element in a run of this length: its first element, and the one past its last.
+    pub fn piece(&self, element: u64, run: u64) -> (u64, u64) {
+        let number = element / run;
+        (self.range.start.max(number * run), self.range.end.min((number + 1) * run))
+    }
+
     /// The place of an element among the values. The call is accepted.
-    fn place(&self, element: u64) -> usize {
+    pub fn place(&self, element: u64) -> usize {
         let axes = rules::axes(&self.axes.sizes, &self.axes.strides);
         rules::offset(&axes, self.range.base, element) as usize
     }
@@ -200,13 +216,28 @@ impl Call {
         }
     }
 
+    /// Some of the values that the range visits become bad, or some of those that it does not, which must not be seen
+    /// in the answer.
+    pub fn spoil_some(&mut self, dice: &mut Dice, visited: bool) {
+        let Some(places) = self.visited() else { return };
+        let mut seen = vec![false; self.values.len()];
+        for place in places {
+            seen[place] = true;
+        }
+        let some = dice.of(&[1, 4, 20]);
+        for (place, value) in self.values.iter_mut().enumerate() {
+            if seen[place] == visited && dice.once_in(some) {
+                *value = rates::bad_of_any_pattern(dice);
+            }
+        }
+    }
+
     /// The first or the last element, one in a block or in the tail of some piece, any, or a neighbour of the range,
     /// which must not be seen in the answer.
     fn spot(&self, dice: &mut Dice, run: u64) -> u64 {
         let (start, end) = (self.range.start, self.range.end);
         let any = start + dice.below(end - start);
-        let first = start.max(any / run * run);
-        let past = end.min((any / run + 1) * run);
+        let (first, past) = self.piece(any, run);
         let tail = first + (past - first) / BLOCK * BLOCK;
         match dice.below(10) {
             0 => start,

@@ -1,0 +1,87 @@
+//! The search for the first bad rate beside the reduction of the same range: where there is none, which is read to the
+//! end, and where one stands early.
+
+use crate::beside::{Table, Unit};
+use crate::job::Job;
+use crate::rates::Rates;
+use crate::table::{row, Row, GAP};
+use crate::timing;
+use std::time::Duration;
+
+const PROGRAMS: [&str; 3] = ["Rust, reduce", "engine, reduce", "engine, search"];
+
+pub const TABLES: [Table; 2] = [
+    Table {
+        name: "no bad rate",
+        unit: Unit::Value,
+        programs: PROGRAMS,
+        ratios: &[("search / Rust's reduce", 1.0), ("search / reduce", 1.0)],
+        rows: good,
+        times,
+        difference: Job::search_difference,
+    },
+    Table {
+        name: "a bad rate",
+        unit: Unit::Call,
+        programs: PROGRAMS,
+        ratios: &[("search / Rust's reduce", 1.0), ("search / reduce", 1.0)],
+        rows: spoiled,
+        times,
+        difference: Job::search_difference,
+    },
+];
+
+fn times(job: &Job, least: Duration) -> [f64; 3] {
+    timing::by_turns(job.turns(), least, |turn| job.rust(turn), |turn| job.engine(turn), |turn| job.first(turn))
+}
+
+fn line(name: &str, rates: Rates, stride: i64, values: Vec<f64>) -> Row {
+    row(name, rates, &[((values.len() as u64).div_ceil(stride.unsigned_abs()), stride)], &[0], values)
+}
+
+fn rows_of(length: u64, rates: Rates, count: u64) -> Row {
+    let (rows, pitch) = (count / length, length + GAP);
+    let values = rates.draw((rows * pitch) as usize);
+    row(&format!("rows of {length} with a gap, 1e6"), rates, &[(rows, pitch as i64), (length, 1)], &[0], values)
+}
+
+fn good() -> Vec<Row> {
+    let (keep, spread, both) = (Rates::Keep, Rates::Spread, Rates::Signed);
+    let scaled = |scale: f64| keep.draw(100_000).into_iter().map(|rate| rate * scale).collect();
+    let mut out = vec![
+        line("contiguous, 1e5", keep, 1, keep.draw(100_000)),
+        line("contiguous, 1e7", keep, 1, keep.draw(10_000_000)),
+        line("stride 2, 1e5", keep, 2, keep.draw(200_000)),
+    ];
+    out.extend([8, 16, 64].map(|length| rows_of(length, keep, 1_000_000)));
+    out.extend([
+        line("contiguous, 1e5", spread, 1, spread.draw(100_000)),
+        line("contiguous, 1e5", both, 1, both.draw(100_000)),
+        line("stride 2, 1e5", both, 2, both.draw(200_000)),
+        rows_of(16, both, 1_000_000),
+        line("contiguous, 1e5, all rates a millionth", keep, 1, scaled(1e-6)),
+        line("contiguous, 1e5, all rates a million times", keep, 1, scaled(1e6)),
+        line("contiguous, 1e5, all rates below 2^-120", keep, 1, scaled(2f64.powi(-130))),
+        line("a call of 8 values, contiguous", keep, 1, keep.draw(8)),
+        line("a call of 64 values, contiguous", keep, 1, keep.draw(64)),
+    ]);
+    out
+}
+
+/// One zero, at this element.
+fn spoiled() -> Vec<Row> {
+    let keep = Rates::Keep;
+    let spoiled = |name: &str, count: usize, stride: usize, element: usize| {
+        let mut values = keep.draw(count * stride);
+        values[element * stride] = 0.0;
+        line(name, keep, stride as i64, values)
+    };
+    vec![
+        spoiled("contiguous, 1e7, element 0", 10_000_000, 1, 0),
+        spoiled("contiguous, 1e7, element 1000", 10_000_000, 1, 1000),
+        spoiled("contiguous, 1e7, element 100,000", 10_000_000, 1, 100_000),
+        spoiled("stride 2, 1e5, element 1000", 100_000, 2, 1000),
+        spoiled("stride 2, 1e5, the last element", 100_000, 2, 99_999),
+        spoiled("a call of 64 values, element 32", 64, 1, 32),
+    ]
+}
