@@ -7,7 +7,7 @@ from stored_products import BAD_RATES, NAN, STRIDES
 from stored_products import laid, rates, refused, run, with_rate
 
 # Values that are tested at a time, and the least whose square is a normal number.
-CHUNK = 1024
+CHUNK = 2048
 ROOT = rate(ONE, -511)
 
 
@@ -178,24 +178,25 @@ def ranges_inside_runs():
 
 
 def ends_of_chunks():
-    """A bad rate beside the end of a chunk and in the last place, at each stride; in ranges and rows, whose chunks
-    begin with the range and with the row; and none in as many values as a line may have."""
-    for place in [CHUNK - 1, CHUNK, CHUNK + 1, 2 * CHUNK - 1, 2 * CHUNK, 2059]:
+    """A bad rate beside the end of a chunk and in the last place, forwards, backwards and at stride 2, which has room
+    for one chunk; in a range and in rows, whose chunks begin with the range and with the row; and none in as many
+    values as a line may have."""
+    for place in [CHUNK - 1, CHUNK, CHUNK + 1, 2059]:
         for stride in [1, -1]:
             run_first(with_rate(positive(213, 2060), place, BAD_RATES[place % len(BAD_RATES)]), stride)
-    for place in [CHUNK - 1, CHUNK, CHUNK + 1, 2 * CHUNK - 1]:
-        run_first(with_rate(positive(214, 2 * CHUNK), place, INFINITE), 2)
-    for places in [[3 * CHUNK], [4 * CHUNK - 1], []]:
-        run_first(with_bad(positive(215, 4 * CHUNK), places, ONE - 1))
+    for place in [CHUNK // 2 - 1, CHUNK // 2, CHUNK - 2, CHUNK - 1]:
+        run_first(with_rate(positive(214, CHUNK), place, INFINITE), 2)
+    for places in [[CHUNK], [2 * CHUNK - 1], []]:
+        run_first(with_bad(positive(215, 2 * CHUNK), places, ONE - 1))
     for place in [CHUNK - 1, CHUNK]:
-        first([1500], [1], 20, 7, 1490, with_rate(positive(216, 1530), 20 + 7 + place, SIGN))
-        first([1030, 2], [1, 1031], 0, 3, 2060, with_rate(positive(217, 2061), 1031 + place, NAN))
+        first([4000], [1], 20, 7, 3990, with_rate(positive(216, 4030), 20 + 7 + place, SIGN))
+        first([2050, 2], [1, 2040], 0, 3, 4100, with_rate(positive(217, 4090), 2040 + place, NAN))
 
 
 def signs_in_chunks():
     """A negative rate in the first chunk and a bad one in the second; both in the second, in either order."""
-    for sign, place, bad in [(100, 1500, SIGN), (100, 1030, INFINITE), (1100, 1500, 1), (1400, 1100, 0)]:
-        run_first(minus(with_rate(positive(218, 1600), place, bad), [sign]))
+    for sign, place, bad in [(100, 3000, SIGN), (100, 2054, INFINITE), (2200, 3000, 1), (2800, 2200, 0)]:
+        run_first(minus(with_rate(positive(218, 3200), place, bad), [sign]))
 
 
 # ---- many axes

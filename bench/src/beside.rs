@@ -7,6 +7,9 @@ use std::time::Duration;
 
 const LEAST: Duration = Duration::from_millis(300);
 
+/// A ratio that is shown, and no more.
+pub const NO_AIM: f64 = f64::INFINITY;
+
 /// What a time is given for.
 pub enum Unit {
     Value,

@@ -4,15 +4,12 @@
 //! A product that is subnormal costs many times what another does, on both sides. So the rates are so near to 1 that
 //! the running product stays a normal number; one row has the keep rates of the other tables, whose product does not.
 
-use crate::beside::{Table, Unit};
+use crate::beside::{Table, Unit, NO_AIM};
 use crate::job::Job;
 use crate::rates::Rates;
 use crate::rules;
 use crate::table::{self, Row, GAP, TURNS};
 use crate::timing;
-
-/// A ratio that is shown, and no more: figures of short calls with a bad rate take longer than the Rust's two passes.
-const NO_AIM: f64 = f64::INFINITY;
 
 pub const TABLES: [Table; 3] = [
     Table {
@@ -54,6 +51,7 @@ pub const TABLES: [Table; 3] = [
         name: "figure, one zero in the middle",
         unit: Unit::Value,
         programs: ["Rust, reduce and ordered", "engine, reduce and ordered", "engine"],
+        // Figures of short calls with a bad rate take longer than the Rust's two passes.
         ratios: &[("engine / Rust", NO_AIM), ("engine / reduce and ordered", 1.1)],
         rows: spoiled,
         difference: Job::number_difference,

@@ -1,7 +1,7 @@
 //! The search for the first bad rate beside the reduction of the same range: where there is none, which is read to the
 //! end, and where one stands early.
 
-use crate::beside::{Table, Unit};
+use crate::beside::{Table, Unit, NO_AIM};
 use crate::job::Job;
 use crate::rates::Rates;
 use crate::table::{row, Row, GAP};
@@ -24,7 +24,8 @@ pub const TABLES: [Table; 2] = [
         name: "a bad rate",
         unit: Unit::Call,
         programs: PROGRAMS,
-        ratios: &[("search / Rust's reduce", 1.0), ("search / reduce", 1.0)],
+        // The reduction looks at a few values of lane 0 beforehand, and may be done at one of them.
+        ratios: &[("search / Rust's reduce", 1.0), ("search / reduce", NO_AIM)],
         rows: spoiled,
         times,
         difference: Job::search_difference,
@@ -53,7 +54,7 @@ fn good() -> Vec<Row> {
         line("contiguous, 1e7", keep, 1, keep.draw(10_000_000)),
         line("stride 2, 1e5", keep, 2, keep.draw(200_000)),
     ];
-    out.extend([8, 16, 64].map(|length| rows_of(length, keep, 1_000_000)));
+    out.extend([2, 4, 8, 16, 64, 100].map(|length| rows_of(length, keep, 1_000_000)));
     out.extend([
         line("contiguous, 1e5", spread, 1, spread.draw(100_000)),
         line("contiguous, 1e5", both, 1, both.draw(100_000)),

@@ -63,8 +63,8 @@ fn none_bad(signs: bool) -> Look
     }
 }
 
-// If so, none of the values of these vectors is bad: 0 times any of them is 0, so none is infinite or a NaN, and no value, or with `signs` no square, is too
-// low. Otherwise one may be.
+// If so, none of the values of these vectors is bad: lanes that begin as 0 are still 0, and not a NaN, so none is infinite or a NaN; and no value, or with
+// `signs` no square, is too low. Otherwise one may be.
 fn passes(values: &[f64], first: i64, stride: i64, vectors: usize, signs: bool) -> bool
     requires { ⌜ (vectors ≤ 2 ^ 40) × PlacesInside (length (now values)) first stride (8 * vectors) ⌝ }
     ensures { λ r. ⌜ (r ≡ true → some isBad (strided (now (values .entry)) first stride (8 * vectors)) ≡ false) ⌝ }
@@ -91,9 +91,10 @@ fn look_closer(values: &[f64], element: u64, first: i64, stride: i64, len: usize
         let x = values[index];
         let p = floats::split_f64(x);
         if p.bad {
+            let number = element + i as u64;
             return Look {
                 bad: true,
-                element: element + i as u64,
+                element: number,
                 offset: at,
                 signs: true,
             };

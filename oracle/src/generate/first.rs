@@ -49,9 +49,9 @@ fn long(dice: &mut Dice) -> Axes {
     let step = stride.unsigned_abs().max(1);
     let most = (LINE_VALUES as u64 - 1) / step + 1;
     let length = if dice.once_in(2) {
-        CHUNK * (1 + dice.below(4)) - 1 + dice.below(3)
+        CHUNK * (1 + dice.below(2)) - 1 + dice.below(3)
     } else {
-        CHUNK + 1 + dice.below(most - CHUNK)
+        most / 2 + 1 + dice.below(most / 2)
     };
     let length = length.min(most);
     let pitch = length * step + dice.of(&[0, 1, 5]);

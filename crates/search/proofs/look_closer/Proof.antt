@@ -94,8 +94,8 @@ looked c =
     let i = c .before .before in
     ap (λ (q : Split). q .bad) (c .split-f64 .ensures) ∙ split-bad _ ∙ ap (λ (z : ℤ). isBad (valueAt (values (i .before)) z)) (here i)
 
-add-t16 : tie.Need-add-t16 Inv-loop μ-loop
-add-t16 c = let q = c .before .before .before in let t = q .before in omega (arith, entry t .pre .0, q .loop-test .taken)
+add-number : tie.Need-add-number Inv-loop μ-loop
+add-number c = let q = c .before .before .before in let t = q .before in omega (arith, entry t .pre .0, q .loop-test .taken)
 
 returns : tie.Need-returns Inv-loop μ-loop
 returns c =
@@ -175,7 +175,7 @@ look-closer-spec =
     mul-x
     shared-slice-read-x
     split-f64-requires
-    add-t16
+    add-number
     returns
     add-i
     add-at
