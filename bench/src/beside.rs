@@ -51,11 +51,19 @@ impl Table {
         let (times, ratios) = self.measure(&row.job, LEAST);
         let times = times.map(|time| match self.unit {
             Unit::Value => format!("{:.3}", time / row.job.count() as f64),
-            Unit::Call => format!("{time:.0}"),
+            Unit::Call => grouped(time.round() as u64),
         });
         let cells: Vec<String> = times.into_iter().chain(ratios.iter().map(|ratio| format!("{ratio:.3}"))).collect();
         println!("| {} | {} | {} |", row.name, row.rates, cells.join(" | "));
         true
+    }
+}
+
+/// A number with a comma between thousands.
+fn grouped(number: u64) -> String {
+    match number {
+        0..=999 => number.to_string(),
+        _ => format!("{},{:03}", grouped(number / 1000), number % 1000),
     }
 }
 

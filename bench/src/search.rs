@@ -4,7 +4,7 @@
 use crate::beside::{Table, Unit, NO_AIM};
 use crate::job::Job;
 use crate::rates::Rates;
-use crate::table::{row, Row, GAP};
+use crate::table::{row, Row, GAP, TURNS};
 use crate::timing;
 use std::time::Duration;
 
@@ -46,6 +46,14 @@ fn rows_of(length: u64, rates: Rates, count: u64) -> Row {
     row(&format!("rows of {length} with a gap, 1e6"), rates, &[(rows, pitch as i64), (length, 1)], &[0], values)
 }
 
+/// A short call, from many bases by turns.
+fn call_of(count: i64, which: &str, rates: Rates, spoil: fn(&mut [f64])) -> Row {
+    let bases: Vec<i64> = (0..TURNS).map(|turn| turn * count).collect();
+    let mut values = rates.draw((TURNS * count) as usize);
+    values.chunks_mut(count as usize).for_each(spoil);
+    row(&format!("a call of {count} values, {which}"), rates, &[(count as u64, 1)], &bases, values)
+}
+
 fn good() -> Vec<Row> {
     let (keep, spread, both) = (Rates::Keep, Rates::Spread, Rates::Signed);
     let scaled = |scale: f64| keep.draw(100_000).into_iter().map(|rate| rate * scale).collect();
@@ -63,8 +71,8 @@ fn good() -> Vec<Row> {
         line("contiguous, 1e5, all rates a millionth", keep, 1, scaled(1e-6)),
         line("contiguous, 1e5, all rates a million times", keep, 1, scaled(1e6)),
         line("contiguous, 1e5, all rates below 2^-120", keep, 1, scaled(2f64.powi(-130))),
-        line("a call of 8 values, contiguous", keep, 1, keep.draw(8)),
-        line("a call of 64 values, contiguous", keep, 1, keep.draw(64)),
+        call_of(8, "contiguous", keep, |_| ()),
+        call_of(64, "contiguous", keep, |_| ()),
     ]);
     out
 }
@@ -83,6 +91,6 @@ fn spoiled() -> Vec<Row> {
         spoiled("contiguous, 1e7, element 100,000", 10_000_000, 1, 100_000),
         spoiled("stride 2, 1e5, element 1000", 100_000, 2, 1000),
         spoiled("stride 2, 1e5, the last element", 100_000, 2, 99_999),
-        spoiled("a call of 64 values, element 32", 64, 1, 32),
+        call_of(64, "element 32", keep, |values| values[32] = 0.0),
     ]
 }
