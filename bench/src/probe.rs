@@ -126,25 +126,28 @@ impl Range<'_> {
     }
 }
 
+/// A call over a range: the layout and the range as all of them begin, and then its own words.
+macro_rules! over_range {
+    ($call:ident, $range:ident, $($word:expr),+) => {
+        $call(
+            $range.sizes.as_ptr(),
+            $range.sizes.len(),
+            $range.strides.as_ptr(),
+            $range.strides.len(),
+            $range.base,
+            $range.start,
+            $range.end,
+            $($word),+
+        )
+    };
+}
+
 /// 0, with the accumulator in `place`; or the refusal 1 to 7, with `place` as it was.
 #[inline]
 pub fn reduce_into(range: &Range, values: &[f64], place: &mut Place) -> u32 {
     // SAFETY: each pointer goes with the length of its own slice, and only the fields of `place` are written.
     unsafe {
-        probe_reduce(
-            range.sizes.as_ptr(),
-            range.sizes.len(),
-            range.strides.as_ptr(),
-            range.strides.len(),
-            range.base,
-            range.start,
-            range.end,
-            values.as_ptr(),
-            values.len(),
-            &mut place.m,
-            &mut place.e,
-            &mut place.bad,
-        )
+        over_range!(probe_reduce, range, values.as_ptr(), values.len(), &mut place.m, &mut place.e, &mut place.bad)
     }
 }
 
@@ -161,18 +164,7 @@ pub fn reduce(range: &Range, values: &[f64]) -> Reduced {
 pub fn list(range: &Range, length: u64, out: &mut [i64]) -> u32 {
     // SAFETY: each pointer goes with the length of its own slice, and only `out` is written.
     unsafe {
-        probe_list(
-            range.sizes.as_ptr(),
-            range.sizes.len(),
-            range.strides.as_ptr(),
-            range.strides.len(),
-            range.base,
-            range.start,
-            range.end,
-            length,
-            out.as_mut_ptr(),
-            out.len(),
-        )
+        over_range!(probe_list, range, length, out.as_mut_ptr(), out.len())
     }
 }
 
@@ -181,18 +173,7 @@ pub fn list(range: &Range, length: u64, out: &mut [i64]) -> u32 {
 pub fn ordered_into(range: &Range, values: &[f64], number: &mut f64) -> u32 {
     // SAFETY: each pointer goes with the length of its own slice, and only `number` is written.
     unsafe {
-        probe_ordered(
-            range.sizes.as_ptr(),
-            range.sizes.len(),
-            range.strides.as_ptr(),
-            range.strides.len(),
-            range.base,
-            range.start,
-            range.end,
-            values.as_ptr(),
-            values.len(),
-            number,
-        )
+        over_range!(probe_ordered, range, values.as_ptr(), values.len(), number)
     }
 }
 
@@ -201,18 +182,7 @@ pub fn ordered_into(range: &Range, values: &[f64], number: &mut f64) -> u32 {
 pub fn figure_into(range: &Range, values: &[f64], number: &mut f64) -> u32 {
     // SAFETY: each pointer goes with the length of its own slice, and only `number` is written.
     unsafe {
-        probe_figure(
-            range.sizes.as_ptr(),
-            range.sizes.len(),
-            range.strides.as_ptr(),
-            range.strides.len(),
-            range.base,
-            range.start,
-            range.end,
-            values.as_ptr(),
-            values.len(),
-            number,
-        )
+        over_range!(probe_figure, range, values.as_ptr(), values.len(), number)
     }
 }
 
@@ -240,19 +210,6 @@ pub fn figure(range: &Range, values: &[f64]) -> Numbered {
 pub fn first_into(range: &Range, values: &[f64], place: &mut BadPlace) -> u32 {
     // SAFETY: each pointer goes with the length of its own slice, and only the fields of `place` are written.
     unsafe {
-        probe_first(
-            range.sizes.as_ptr(),
-            range.sizes.len(),
-            range.strides.as_ptr(),
-            range.strides.len(),
-            range.base,
-            range.start,
-            range.end,
-            values.as_ptr(),
-            values.len(),
-            &mut place.found,
-            &mut place.element,
-            &mut place.offset,
-        )
+        over_range!(probe_first, range, values.as_ptr(), values.len(), &mut place.found, &mut place.element, &mut place.offset)
     }
 }

@@ -12,23 +12,19 @@ use lib.Ieee.{Float, nan, binary64, fits}
 use Rattle.layout.specs.Axes.{PLACES}
 use Rattle.layout.specs.Order.{axesOf}
 use Rattle.layout.specs.Compile.{compileOf}
-use Rattle.floats.specs.Magnitude.{inUnit}
 use Rattle.floats.specs.Splitting.{isBad}
 use Rattle.accumulator.specs.declared.StableProductFloatAcc.{StableProductFloatAcc}
 use Rattle.accumulator.specs.declared.Reduced.{Reduced}
 use Rattle.accumulator.specs.declared.Reduced.the-variants.{Acc, Refused}
-use Rattle.accumulator.specs.Joining.{Answer, answerOf, accumulator, refusal, factorOfAcc}
+use Rattle.accumulator.specs.Joining.{Answer, answerOf, accumulator, refusal}
 use Rattle.accumulator.proofs.Answers.{in-limits-unit}
-use Rattle.finishing.specs.Once.{roundedOnce}
-use Rattle.finishing.specs.Finishing.{value, finishedOf}
+use Rattle.finishing.specs.Finishing.{finishedOf}
 use Rattle.finishing.proofs.Answers.{finished-bad, finished-once}
 use Rattle.offsets.specs.Lists.{rangeCode}
 use Rattle.offsets.proofs.Ranges.{ranged, ranged-accepted, ranged-bounded, ranged-few, offsets-same}
 use Rattle.kernels.specs.Lanes.{Each, some}
-use Rattle.kernels.specs.Plain.{plainProduct}
-use Rattle.kernels.specs.Pieces.{patternsOf, accOf, ratesOf}
-use Rattle.offsets.specs.Values.{valueAt, visitedRates}
-use Rattle.reduction.specs.Ranges.{piecesOf, rangeProduct, reduceOf}
+use Rattle.offsets.specs.Values.{valueAt}
+use Rattle.reduction.specs.Ranges.{rangeProduct}
 use Rattle.reduction.specs.Theorems.{RuleD3, RuleD3Law}
 use Rattle.reduction.proofs.Calls.{reduce-accepted}
 use Rattle.reduction.proofs.Demand.{range-rates, range-mark, range-in-limits, range-agrees}
@@ -42,11 +38,11 @@ abbrev answer-e : ℤ → Answer → ℤ
 answer-e d (accumulator m e bad) = e
 answer-e d (refusal n) = d
 
-abbrev answer-bad : Answer → Bool
+abbrev pub answer-bad : Answer → Bool
 answer-bad (accumulator m e bad) = bad
 answer-bad (refusal n) = false
 
-abbrev is-accumulator : Answer → Bool
+abbrev pub is-accumulator : Answer → Bool
 is-accumulator (accumulator m e bad) = true
 is-accumulator (refusal n) = false
 

@@ -1,7 +1,7 @@
 -- Rule S1 of every call.
 -- Assumes that each value is one of binary64, as every f64 is.
 use Prim.Native.Nat.{ℕ, zero, suc, _+_, _-_, _≤_, _<_}
-use mathlib.Core.Path.{_≡_, refl, sym, _∙_, ap}
+use mathlib.Core.Path.{_≡_, refl, sym, _∙_, ap, subst}
 use mathlib.Core.Bool.{Bool, true, false, true≢false}
 use mathlib.Core.List.{List, [], _∷_}
 use native.Mathlib.Omega.{arith}
@@ -21,9 +21,9 @@ use Rattle.accumulator.specs.Joining as joining
 use Rattle.kernels.specs.Lanes.{Each}
 use Rattle.reduction.specs.Ranges.{rangeProduct}
 use Rattle.reduction.proofs.Calls.{reduce-refused, reduce-accepted}
-use Rattle.reduction.proofs.Whole.{rule-D3}
+use Rattle.reduction.proofs.Whole.{answer-bad, is-accumulator, rule-D3}
 use Rattle.search.specs.Searching.{SearchAnswer, found, noneBad, refusal, lowestBad}
-use Rattle.search.specs.Theorems.{FirstBadRate, RuleS1, RuleS1Law}
+use Rattle.search.specs.Theorems.{badElement, FirstBadRate, RuleS1, RuleS1Law}
 use Rattle.search.proofs.Looking.{here-bad, here-good, all-good, none-bad}
 use Rattle.search.proofs.Calls.{search-refused, search-accepted}
 
@@ -48,36 +48,20 @@ is-refused (found k z) = false
 is-refused noneBad = false
 is-refused (refusal n) = true
 
-abbrev mark-of : joining.Answer → Bool
-mark-of (joining.accumulator m e bad) = bad
-mark-of (joining.refusal n) = true
-
-abbrev is-accumulator : joining.Answer → Bool
-is-accumulator (joining.accumulator m e bad) = true
-is-accumulator (joining.refusal n) = false
-
 abbrev number-of : joining.Answer → ℕ
 number-of (joining.accumulator m e bad) = 0
 number-of (joining.refusal n) = n
 
 -- ---- elements k to k + n - 1
 module _ (xs : List ReduceOuterAxis) (base : ℤ) (values : List Float) where
-  abbrev bad-at : ℕ → Bool
-  bad-at k = isBad (valueAt values (offset xs base k))
-
-  record Lowest (k n j : ℕ) (z : ℤ) : Type 0 where
-    from : k ≤ j
-    below : j < k + n
-    lies : z ≡ offset xs base j
-    bad : bad-at j ≡ true
-    lowest : (i : ℕ) → k ≤ i → i < j → bad-at i ≡ false
-
-  found-lowest : (n k j : ℕ) (z : ℤ) → lowestBad values k (offsetsFrom xs base k n) ≡ found j z → Lowest k n j z
+  found-first : (n k j : ℕ) (z : ℤ) → lowestBad values k (offsetsFrom xs base k n) ≡ found j z → FirstBadRate xs base values k (k + n) j z
   unfolding lowestBad offsetsFrom
-  found-lowest zero k j z e = absurd (true≢false (sym (ap is-found e)))
-  found-lowest (suc n) k j z e = go (bad-at k) refl (found-lowest n (suc k) j z)
+  found-first zero k j z e = absurd (true≢false (sym (ap is-found e)))
+  found-first (suc n) k j z e = go (badElement xs base values k) refl (found-first n (suc k) j z)
     where
-      go : (b : Bool) → bad-at k ≡ b → (lowestBad values (suc k) (offsetsFrom xs base (suc k) n) ≡ found j z → Lowest (suc k) n j z) → Lowest k (suc n) j z
+      go : (b : Bool) → badElement xs base values k ≡ b
+          → (lowestBad values (suc k) (offsetsFrom xs base (suc k) n) ≡ found j z → FirstBadRate xs base values (suc k) (suc k + n) j z)
+          → FirstBadRate xs base values k (k + suc n) j z
       go true h t =
           let p = sym (here-bad values k (offset xs base k) (offsetsFrom xs base (suc k) n) h) ∙ e in
           let s : k ≡ j = ap element-of p in
@@ -85,7 +69,7 @@ module _ (xs : List ReduceOuterAxis) (base : ℤ) (values : List Float) where
             from = omega arith;
             below = omega arith;
             lies = sym (ap offset-of p) ∙ ap (offset xs base) s;
-            bad = ap bad-at (sym s) ∙ h;
+            bad = ap (badElement xs base values) (sym s) ∙ h;
             lowest = λ i a b. absurd (omega arith);
           }
       go false h t =
@@ -98,22 +82,23 @@ module _ (xs : List ReduceOuterAxis) (base : ℤ) (values : List Float) where
             lowest = λ i a b. earlier i a b (eqb i k) refl l;
           }
         where
-          earlier : (i : ℕ) → k ≤ i → i < j → (q : Bool) → eqb i k ≡ q → Lowest (suc k) n j z → bad-at i ≡ false
-          earlier i a b true q l = ap bad-at (eqb-true i k q) ∙ h
+          earlier : (i : ℕ) → k ≤ i → i < j → (q : Bool) → eqb i k ≡ q → FirstBadRate xs base values (suc k) (suc k + n) j z
+              → badElement xs base values i ≡ false
+          earlier i a b true q l = ap (badElement xs base values) (eqb-true i k q) ∙ h
           earlier i a b false q l = let d = eqb-false i k q in l .lowest i (omega arith) b
 
--- some of them is bad, or each is good
+-- none of them is bad
 good-each : (xs : List ReduceOuterAxis) (base : ℤ) (values : List Float) (n k : ℕ) → lowestBad values k (offsetsFrom xs base k n) ≡ noneBad
-    → (j : ℕ) → k ≤ j → j < k + n → bad-at xs base values j ≡ false
+    → (j : ℕ) → k ≤ j → j < k + n → badElement xs base values j ≡ false
 unfolding lowestBad offsetsFrom
 good-each xs base values zero k e j a b = absurd (omega arith)
-good-each xs base values (suc n) k e j a b = go (bad-at xs base values k) refl (good-each xs base values n (suc k)) (eqb j k) refl
+good-each xs base values (suc n) k e j a b = go (badElement xs base values k) refl (good-each xs base values n (suc k)) (eqb j k) refl
   where
-    go : (q : Bool) → bad-at xs base values k ≡ q
-        → (lowestBad values (suc k) (offsetsFrom xs base (suc k) n) ≡ noneBad → (i : ℕ) → suc k ≤ i → i < suc k + n → bad-at xs base values i ≡ false)
-        → (p : Bool) → eqb j k ≡ p → bad-at xs base values j ≡ false
+    go : (q : Bool) → badElement xs base values k ≡ q
+        → (lowestBad values (suc k) (offsetsFrom xs base (suc k) n) ≡ noneBad → (i : ℕ) → suc k ≤ i → i < suc k + n → badElement xs base values i ≡ false)
+        → (p : Bool) → eqb j k ≡ p → badElement xs base values j ≡ false
     go true h t p q = absurd (true≢false (ap is-found (sym (here-bad values k (offset xs base k) (offsetsFrom xs base (suc k) n) h) ∙ e)))
-    go false h t true q = ap (bad-at xs base values) (eqb-true j k q) ∙ h
+    go false h t true q = ap (badElement xs base values) (eqb-true j k q) ∙ h
     go false h t false q =
         let d = eqb-false j k q in t (sym (here-good values k (offset xs base k) (offsetsFrom xs base (suc k) n) h) ∙ e) j (omega arith) (omega arith)
 
@@ -156,18 +141,18 @@ module _ (ns : List ℕ) (ss : List ℤ) (base : ℤ) (start end : ℕ) (values 
       let h = accepted-range ns ss base start end (length values) q .forward in
       let zs = offsetsFrom (axesOf ns ss) base start (end - start) in
       record {
-        first = λ k z e. first k z h (found-lowest (axesOf ns ss) base values (end - start) start k z (sym s ∙ e));
+        first = λ k z e. first k z h (found-first (axesOf ns ss) base values (end - start) start k z (sym s ∙ e));
         none = λ e j x y. good-each (axesOf ns ss) base values (end - start) start (sym s ∙ e) j x (omega arith);
-        if-unset = λ m x e. s ∙ all-good values start zs (sym (d .mark) ∙ ap mark-of (sym r ∙ e));
+        if-unset = λ m x e. s ∙ all-good values start zs (sym (d .mark) ∙ ap answer-bad (sym r ∙ e));
         then-unset = λ e.
             (a .m, a .e, r ∙ ap (joining.accumulator (a .m) (a .e)) (d .mark ∙ none-bad values start zs (sym s ∙ e)));
         if-refused = λ k e. absurd (true≢false (ap is-accumulator (sym r ∙ e)));
         then-refused = λ k e. absurd (not-refused values start zs k (sym s ∙ e));
       }
     where
-      first : (k : ℕ) (z : ℤ) → start < end → Lowest (axesOf ns ss) base values start (end - start) k z → FirstBadRate ns ss base start end values k z
-      first k z h l =
-          record { from = l .from; below = let b = l .below in omega arith; lies = l .lies; bad = l .bad; lowest = l .lowest }
+      first : (k : ℕ) (z : ℤ) → start < end → FirstBadRate (axesOf ns ss) base values start (start + (end - start)) k z
+          → FirstBadRate (axesOf ns ss) base values start end k z
+      first k z h = subst (λ (n : ℕ). FirstBadRate (axesOf ns ss) base values start n k z) (let e : start + (end - start) ≡ end = omega arith in e)
 
 pub rule-S1 : RuleS1Law
 rule-S1 ns ss base start end values v = go (eqb (rangeCode ns ss base start end (length values)) 0) refl

@@ -28,7 +28,7 @@ abbrev pub twoZeros : List ℕ
 twoZeros = 0 ∷ 0x3ff0000000000000 ∷ 0 ∷ []
 
 -- Forwards and backwards: the lower element number counts, not the lower offset. A range from the second element on: its number is the layout's. A range of
--- the second alone. Two axes listed slowest first. A zero in the gap between two rows of one, and none besides. R5 to R7.
+-- the second alone. Two axes, the second backwards. A zero that no element visits, and none besides. R5 to R7.
 abbrev pub FirstTable : Type 0
 FirstTable =
     SearchRange (3 ∷ []) (pos 1 ∷ []) (pos 0) 0 3 twoZeros (found 0 (pos 0)) × SearchRange (3 ∷ []) (negsuc 0 ∷ []) (pos 2) 0 3 twoZeros (found 0 (pos 2))
