@@ -1,8 +1,9 @@
 // Machine integers with checked steps: the magnitude of an i64, and products that say whether they fit.
 ghost use mathlib.Core.Path.{_≡_};
-ghost use Prim.Native.Nat.{_*_, min};
-ghost use lib.IntN.{pos, negℤ, natAbs, _*ℤ_};
+ghost use Prim.Native.Nat.{_+_, _*_, _<_, min};
+ghost use lib.IntN.{pos, negℤ, natAbs, _+ℤ_, _*ℤ_};
 ghost use Rattle.integers.specs.InnerChecked.{narrowI64, narrowU64};
+ghost use Rattle.integers.specs.InnerPlaces.{PlacesFit};
 
 pub const I64_MAX: u64 = 0x7fff_ffff_ffff_ffff;
 
@@ -124,4 +125,16 @@ pub fn checked_mul_i64(a: i64, n: u64) -> CheckedI64
         ok: false,
         value: 0,
     }
+}
+
+// The place of the next value of a piece: behind the value at `at` lie `left` more, a step apart. Behind the last there is none, and no sum is formed, since it
+// may not fit.
+pub fn next_place(at: i64, step: i64, left: usize) -> i64
+    requires { ⌜ (0 < left → PlacesFit at step (left + 1)) ⌝ }
+    ensures { λ r. ⌜ (0 < left → r ≡ at +ℤ step) × (left ≡ 0 → r ≡ at) ⌝ }
+{
+    if 0 < left {
+        return at + step;
+    }
+    at
 }

@@ -6,8 +6,8 @@ use mathlib.Core.List.{List, [], _∷_, _++_, append-assoc, append-nil}
 use native.Mathlib.Omega.{arith}
 use native.Mathlib.Numerals.{add-one}
 use native.Mathlib.Nat.{add-zero, zero-add, suc-add, add-suc}
-use lib.ListN.{length, take, drop, getD, set, length-append, length-drop, length-set, take-append-drop}
-use lib.Seq.{set-set, set-split, take-set-le, drop-set-lt, drop-cons, set-at, drop-append-add, length-take-le, drop-drop, take-at}
+use lib.ListN.{length, take, drop, getD, set, length-append, length-drop, take-append-drop}
+use lib.Seq.{drop-cons, set-at, drop-append-add, length-take-le, drop-drop, take-at}
 use lib.Arith.{digits-mod}
 use lib.IntN.{ℤ, pos, _+ℤ_, _*ℤ_}
 use Rattle.integers.proofs.Difference.{ints, atoms}
@@ -146,21 +146,6 @@ listed-more xs base start n m out h =
 pub length-listed : (xs : List ReduceOuterAxis) (base : ℤ) (start n : ℕ) (out : List ℤ) → n ≤ length out → length (listed xs base start n out) ≡ length out
 unfolding listed
 length-listed xs base start n out h = simp (length-append, length-offsets, length-drop) (omega arith)
-
--- the first number of a run is stored by itself
-pub filled-first : (out : List ℤ) (at : ℕ) (z s : ℤ) → at < length out → set out at z ≡ filled (set out at z) at z s 1
-unfolding filled steps
-filled-first out at z s h =
-    sym (set-set out at z z)
-    ∙ set-split (set out at z) at z (rw (length-set out at z) h)
-    ∙ sym (append-assoc (take at (set out at z)) (z ∷ []) (drop (suc at) (set out at z)))
-    ∙ ap (λ (n : ℕ). take at (set out at z) ++ z ∷ [] ++ drop n (set out at z)) (sym (add-one at))
-
-pub filled-over : (out : List ℤ) (at : ℕ) (z s v : ℤ) (n : ℕ) → 1 ≤ n → filled (set out at v) at z s n ≡ filled out at z s n
-unfolding filled
-filled-over out at z s v n h =
-    ap (λ (l : List ℤ). l ++ steps z s n ++ drop (at + n) (set out at v)) (take-set-le at out at v (omega arith))
-    ∙ ap (λ (l : List ℤ). take at out ++ steps z s n ++ l) (drop-set-lt (at + n) out at v (omega arith))
 
 -- ---- the loop over the pieces: the cursor stands at c .at while that is below the end, and the offsets before it are listed
 pub record Listing (l : FullTraversal) (base : ℤ) (start end : ℕ) (out₀ out : List ℤ) (c : RangeCursor) : Type 0 where

@@ -1,11 +1,9 @@
 // The offset list, and the refusals of a range.
 ghost use mathlib.Core.Path.{_≡_};
 ghost use mathlib.Core.List.{_∷_, _++_};
-ghost use Prim.Native.Nat.{ℕ, _+_, _-_, _≤_, _<_};
+ghost use Prim.Native.Nat.{_+_, _-_, _≤_, _<_};
 ghost use lib.ListN.{length, take, drop};
-ghost use lib.IntN.{pos, _+ℤ_, _*ℤ_};
-ghost use mir.Val.{SFits};
-ghost use mir.Syntax.{w64};
+ghost use Rattle.integers.specs.InnerPlaces.{PlacesFit};
 ghost use Rattle.layout.specs.Axes.{PLACES};
 ghost use Rattle.layout.specs.Compile.{compileOf};
 ghost use Rattle.offsets.specs.InnerCursors.{Bounded, Traversal};
@@ -46,16 +44,17 @@ pub fn range_code(
 
 // Writes count offsets from `first` on, a stride apart, into out from `at` on. The stride is not added after the last: that sum may not fit.
 fn write_run(out: &mut [i64], at: usize, count: usize, first: i64, stride: i64)
-    requires { ⌜ (1 ≤ count) × (at + count ≤ length (now out)) × ((i : ℕ) → i < count → SFits w64 (first +ℤ stride *ℤ pos i)) ⌝ }
+    requires { ⌜ (at + count ≤ length (now out)) × PlacesFit first stride count ⌝ }
     ensures { λ _. ⌜ now (out .exit) ≡ take at (now (out .entry)) ++ steps first stride count ++ drop (at + count) (now (out .entry)) ⌝ }
 {
-    out[at] = first;
     let mut offset = first;
-    let mut i: usize = 1;
-    while i < count {
-        offset = offset + stride;
-        out[at + i] = offset;
+    let mut i = at;
+    let mut left = count;
+    while 0 < left {
+        out[i] = offset;
         i += 1;
+        left -= 1;
+        offset = integers::next_place(offset, stride, left);
     }
 }
 

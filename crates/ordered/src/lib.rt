@@ -20,18 +20,17 @@ use layout::traversal::FullTraversal;
 
 // `len` values from `first` on, a stride apart, multiplied in one after another. The stride is not added after the last: that sum may not fit.
 fn fold_run_ordered(acc: f64, values: &[f64], first: i64, stride: i64, len: usize) -> f64
-    requires { ⌜ (1 ≤ len) × ((i : ℕ) → i < len → insideValues (length (now values)) (first +ℤ stride *ℤ pos i) ≡ true) ⌝ }
+    requires { ⌜ ((i : ℕ) → i < len → insideValues (length (now values)) (first +ℤ stride *ℤ pos i) ≡ true) ⌝ }
     ensures { λ r. ⌜ r ≡ foldPlaces (now (values .entry)) acc (steps first stride len) ⌝ }
 {
-    let index = first as usize;
-    let mut product = acc * values[index];
+    let mut product = acc;
     let mut at = first;
-    let mut i: usize = 1;
-    while i < len {
-        at += stride;
-        let place = at as usize;
-        product = product * values[place];
-        i += 1;
+    let mut left = len;
+    while 0 < left {
+        let index = at as usize;
+        product = product * values[index];
+        left -= 1;
+        at = integers::next_place(at, stride, left);
     }
     product
 }

@@ -64,7 +64,7 @@ fn held_longer(back: u64) -> u64 {
     if HOLD <= back { back } else { back * 2 + 1 }
 }
 
-// A short run side by side is tried first; any other, and one that fails, is worked as a piece of its own.
+// A short run is tried first; a longer one, and one that fails, is worked as a piece of its own.
 fn next_run(
     values: &[f64],
     at: i64,
@@ -78,18 +78,16 @@ fn next_run(
     ensures { λ r. ⌜ runAcc r ≡ worked (eqZ stride (pos 1)) (strided (now (values .entry)) at stride len) ⌝ }
 {
     if hold == 0 {
-        if stride == 1 {
-            if len <= BLOCK {
-                let q = vectors::piece::short_piece(values, at, len, least);
-                if q.ok {
-                    return RunProduct {
-                        m: q.m,
-                        e: q.e,
-                        bad: false,
-                        hold: 0,
-                        back: 0,
-                    };
-                }
+        if len <= BLOCK {
+            let q = vectors::piece::short_piece(values, at, stride, len, least);
+            if q.ok {
+                return RunProduct {
+                    m: q.m,
+                    e: q.e,
+                    bad: false,
+                    hold: 0,
+                    back: 0,
+                };
             }
         }
     }

@@ -6,8 +6,6 @@ ghost use mathlib.Core.List.{_∷_};
 ghost use Prim.Native.Nat.{ℕ, _+_, _-_, _*_, _^_, _≤_, _<_};
 ghost use lib.ListN.{length};
 ghost use lib.IntN.{pos, _+ℤ_, _*ℤ_};
-ghost use mir.Val.{SFits};
-ghost use mir.Syntax.{w64};
 ghost use Rattle.floats.specs.Splitting.{isBad};
 ghost use Rattle.kernels.specs.Lanes.{some};
 ghost use Rattle.kernels.specs.InnerStrided.{strided, PlacesInside};
@@ -73,7 +71,9 @@ fn passes(values: &[f64], first: i64, stride: i64, vectors: usize, signs: bool) 
         m: [0.0; LANES],
         least: [1.0; LANES],
     };
-    let w = vectors::feeding::wait_vectors(zero, values, first, stride, vectors, signs);
+    let eight = vectors::vector::far_stride(stride, LANES, LANES * vectors);
+    let r = vectors::unsplit::wait_vectors(zero, values, first, stride, eight, vectors, signs);
+    let w = r.lanes;
     let v = w.m;
     let least = vectors::vector::least_of(signs, DEPTH);
     vectors::vector::none_below(w, least) & vectors::vector::none_past(Vector { v })
@@ -101,7 +101,7 @@ fn look_closer(values: &[f64], element: u64, first: i64, stride: i64, len: usize
         }
         i += 1;
         if i < len {
-            at += stride;
+            at = integers::next_place(at, stride, len - i);
         }
     }
     none_bad(true)
@@ -125,17 +125,6 @@ fn first_in_chunk(
     look_closer(values, element, first, stride, LANES * vectors)
 }
 
-// From a chunk's first place to the next one's, if there is one: else that may not fit.
-fn chunk_step(stride: i64, vectors: usize) -> i64
-    requires { ⌜ (256 < vectors → SFits w64 (stride *ℤ pos 2048)) ⌝ }
-    ensures { λ r. ⌜ (256 < vectors → r ≡ stride *ℤ pos 2048) ⌝ }
-{
-    if CHUNK < vectors {
-        return stride * 2048;
-    }
-    0
-}
-
 // Whole vectors, chunk by chunk.
 fn first_in_vectors(
     values: &[f64],
@@ -148,7 +137,7 @@ fn first_in_vectors(
     requires { ⌜ (vectors ≤ 2 ^ 40) × (element + 8 * vectors < 2 ^ 64) × PlacesInside (length (now values)) first stride (8 * vectors) ⌝ }
     ensures { λ r. ⌜ lookAnswer r ≡ lowestBad (now (values .entry)) element (steps first stride (8 * vectors)) ⌝ }
 {
-    let apart = chunk_step(stride, vectors);
+    let apart = vectors::vector::far_stride(stride, LANES * CHUNK, LANES * vectors);
     let mut signs = signs;
     let mut at = first;
     let mut i: usize = 0;
@@ -161,7 +150,7 @@ fn first_in_vectors(
         signs = r.signs;
         i += n;
         if i < vectors {
-            at += apart;
+            at = integers::next_place(at, apart, 1);
         }
     }
     none_bad(signs)
@@ -188,7 +177,7 @@ fn first_in_run(
         return r;
     }
     let done = LANES * vectors;
-    let at = vectors::vector::place(first, stride, done);
+    let at = first + vectors::vector::far_stride(stride, done, len);
     let mut q = look_closer(values, element + done as u64, at, stride, len % LANES);
     q.signs = r.signs;
     q

@@ -1,6 +1,7 @@
 -- Laws of vectors of eight values and of lanes that wait.
 pub mod Vectorwise
 pub mod Vectors
+pub mod Walks
 pub mod Squares
 pub mod Waits
 pub mod Waiting

@@ -10,9 +10,7 @@ use lib.IntN.{ℤ, pos, natAbs, _+ℤ_, _*ℤ_}
 use lib.Dec.{lit≤}
 use lib.Ieee.{Float, nan}
 use mir.Val.{SFits, toZ, ofZ}
-use mir.ValLaws.{toZ-ofZ}
 use mir.Syntax.{w64}
-use Rattle.integers.proofs.Difference.{ints, atoms}
 use Rattle.floats.specs.declared.Split.{Split}
 use Rattle.floats.specs.Product.{productOf}
 use Rattle.floats.specs.Splitting.{split}
@@ -22,11 +20,10 @@ use Rattle.accumulator.proofs.Exponents.{exact, sum-fits, sum-exact}
 use Rattle.kernels.specs.declared.lanes.Lanes.{Lanes}
 use Rattle.kernels.specs.Lanes.{feed, inOrder}
 use Rattle.kernels.specs.Blocks.{eOf}
-use Rattle.kernels.specs.InnerLanes.{window, SmallLanes}
+use Rattle.kernels.specs.InnerLanes.{SmallLanes}
 use Rattle.kernels.specs.InnerStrided.{strided}
 use Rattle.kernels.proofs.Factors.{lane-again}
 use Rattle.kernels.proofs.Feeding.{feed-holds, feed-vectors, order-keeps}
-use Rattle.kernels.proofs.Windows.{window-length, window-append}
 use Rattle.kernels.proofs.Sizes.{split-size}
 use Rattle.kernels.proofs.Striding.{length-strided, strided-append}
 use Rattle.vectors.specs.declared.vector.Waiting.{Waiting}
@@ -60,27 +57,11 @@ unfolding vectorOf
 vector-long xs =
     feed-holds put (λ (vector : List Float). length vector ≡ 8) (λ k vector x h. length-set vector k x ∙ h) 0 (replicate 8 one) xs (length-replicate 8 one)
 
--- ---- places
-place-vector : (s d : ℤ) (i : ℕ) → s +ℤ d *ℤ pos (8 * i) +ℤ d *ℤ pos 8 ≡ s +ℤ d *ℤ pos (8 * (i + 1))
-place-vector s d i = simp ints (simp atoms (omega arith))
-
--- the place a vector further, on the machine
-pub place-on : (s d at : ℤ) (i : ℕ) → SFits w64 (d *ℤ pos 8) → at ≡ s +ℤ d *ℤ pos (8 * i) → at +ℤ toZ w64 (ofZ w64 (d *ℤ pos 8)) ≡ s +ℤ d *ℤ pos (8 * (i + 1))
-place-on s d at i f e = ap (λ (z : ℤ). at +ℤ z) (toZ-ofZ w64 (d *ℤ pos 8) f) ∙ ap (λ (z : ℤ). z +ℤ d *ℤ pos 8) e ∙ place-vector s d i
-
 -- ---- steps that go by the number mod 8
 module _ {S : Type 0} (step : ℕ → S → Float → S) (again : (i : ℕ) (s : S) (x : Float) → step (i + 8) s x ≡ step i s x) (w t u : S) where
   -- more values after i vectors
   pub vectors-then : (xs ys : List Float) (i : ℕ) → length xs ≡ 8 * i → t ≡ feed step 0 w xs → u ≡ feed step 0 t ys → u ≡ feed step 0 w (xs ++ ys)
   vectors-then xs ys i h p q = q ∙ ap (λ (v : S). feed step 0 v ys) p ∙ sym (feed-vectors step again i w xs ys h)
-
-  -- one vector more of values side by side
-  pub vectors-beside : (xs : List Float) (at i : ℕ) → at + 8 * i ≤ length xs → t ≡ feed step 0 w (window xs at (8 * i))
-      → u ≡ feed step 0 t (window xs (at + i * 8) 8) → u ≡ feed step 0 w (window xs at (8 * (i + 1)))
-  vectors-beside xs at i h p q =
-      vectors-then (window xs at (8 * i)) (window xs (at + i * 8) 8) i (window-length xs at (8 * i) h) p q
-      ∙ ap (λ (n : ℕ). feed step 0 w (window xs at (8 * i) ++ window xs (at + n) 8)) (let e : i * 8 ≡ 8 * i = omega arith in e)
-      ∙ ap (feed step 0 w) (sym (window-append xs at (8 * i) 8) ∙ ap (window xs at) (let e : 8 * i + 8 ≡ 8 * (i + 1) = omega arith in e))
 
   -- one vector more of values a stride apart
   pub vectors-more : (xs : List Float) (s d : ℤ) (i : ℕ) → t ≡ feed step 0 w (strided xs s d (8 * i))

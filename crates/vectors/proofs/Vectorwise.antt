@@ -1,5 +1,5 @@
 -- Places of values a stride apart, comparisons, and a vector and its lanes, as the code has them. Assumes nothing.
-use Prim.Native.Nat.{ℕ, _+_, _^_, _<_}
+use Prim.Native.Nat.{ℕ, _+_, _^_, _≤_, _<_}
 use mathlib.Core.Path.{_≡_, refl, sym, ap, _∙_}
 use mathlib.Core.Bool.{Bool, true, false, not, cond, _&&_}
 use mathlib.Core.List.{List, []}
@@ -12,7 +12,9 @@ use lib.Signed.{nonNeg, _≤ℤ_, _<ℤ_}
 use lib.Ieee.{Float, nan, lt, le, neg, mul, binary64, ofBits}
 use mir.Val.{SFits}
 use mir.Syntax.{w64}
+use Rattle.integers.specs.InnerPlaces.{PlacesFit}
 use Rattle.integers.proofs.Difference.{ints, atoms}
+use Rattle.integers.proofs.Places.{fit-later}
 use Rattle.floats.specs.Product.{productOf}
 use Rattle.floats.proofs.Product.{mul-binary64}
 use Rattle.kernels.specs.declared.lanes.Lanes.{Lanes}
@@ -51,6 +53,10 @@ module _ (len : ℕ) (s t : ℤ) (n : ℕ) (h : PlacesInside len s t n) (a : ℕ
 
   pub place-below : natAbs (s +ℤ t *ℤ pos a) < len
   place-below = first-below len (s +ℤ t *ℤ pos a) t 1 one-left (omega arith)
+
+-- the places from number j on, in i64
+pub fits-from : (len : ℕ) (s t : ℤ) (n : ℕ) → PlacesInside len s t n → len < 2 ^ 63 → (at : ℤ) (j m : ℕ) → at ≡ s +ℤ t *ℤ pos j → j + m ≤ n → PlacesFit at t m
+fits-from len s t n h m at j k e l = fit-later s t at n j k e l (λ i b. place-fits len s t n h i b m)
 
 -- ---- comparisons
 pub lesser-first : (x y : Float) → lt x y ≡ true → x ≡ lesser x y

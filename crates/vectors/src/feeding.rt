@@ -2,16 +2,16 @@
 ghost use mathlib.Core.Path.{_≡_};
 ghost use mathlib.Core.Logic.{_⊎_};
 ghost use mathlib.Core.Bool.{_||_, true};
-ghost use Prim.Native.Nat.{_+_, _*_, _^_, _≤_, _<_};
+ghost use Prim.Native.Nat.{_*_, _^_, _≤_, _<_};
 ghost use lib.ListN.{length};
-ghost use Rattle.kernels.specs.Lanes.{every, feed};
-ghost use Rattle.kernels.specs.InnerLanes.{window, SmallLanes, LanesAfter};
+ghost use Rattle.kernels.specs.Lanes.{every};
+ghost use Rattle.kernels.specs.InnerLanes.{SmallLanes, LanesAfter};
 ghost use Rattle.kernels.specs.InnerStrided.{strided, PlacesInside};
 ghost use Rattle.kernels.specs.Blocks.{startLanes};
+ghost use Rattle.vectors.specs.InnerVectors.{EightApart, lastVector};
 ghost use Rattle.vectors.specs.InnerSteps.{NotYetNormalised, Progress, SoundTry, patience};
-ghost use Rattle.vectors.specs.InnerWaiting.{notPast, waitStep, padded, startWaiting, exponentsOf, lanesProduct};
+ghost use Rattle.vectors.specs.InnerWaiting.{notPast, exponentsOf, lanesProduct};
 use crate::vector::Vector;
-use crate::vector::Waiting;
 use accumulator::StableProductFloatAcc;
 use kernels::lanes::Lanes;
 
@@ -24,103 +24,11 @@ const HOLD: usize = 16;
 
 const LAST_WAY: usize = 5;
 
-// Lanes that wait to be brought back, and how many values went to them.
+// Lanes that wait to be brought back, how many values went to them, and where the last vector of these begins; the first place, if there was none.
 pub struct Step {
     pub lanes: Lanes,
     pub done: usize,
-}
-
-pub fn start_waiting(s: Lanes) -> Waiting
-    ensures { λ r. ⌜ r ≡ startWaiting (s .m) ⌝ }
-{
-    let m = s.m;
-    Waiting {
-        m,
-        least: [1.0; LANES],
-    }
-}
-
-// Vectors that lie side by side.
-fn wait_beside(w: Waiting, values: &[f64], at: usize, vectors: usize, signs: bool) -> Waiting
-    requires { ⌜ (length (w .m) ≡ 8) × (length (w .least) ≡ 8) × (at + 8 * vectors ≤ length (now values)) ⌝ }
-    ensures { λ r. ⌜ r ≡ feed (waitStep signs) 0 w (window (now (values .entry)) at (8 * vectors)) ⌝ }
-{
-    let mut t = w;
-    let mut i: usize = 0;
-    while i < vectors {
-        let vector = crate::vector::vector_at(values, at + i * LANES);
-        t = crate::vector::wait_vector(t, vector, signs);
-        i += 1;
-    }
-    t
-}
-
-// Vectors a stride apart.
-fn wait_apart(
-    w: Waiting,
-    values: &[f64],
-    start: i64,
-    stride: i64,
-    vectors: usize,
-    signs: bool,
-) -> Waiting
-    requires { ⌜ (length (w .m) ≡ 8) × (length (w .least) ≡ 8) × (vectors ≤ 2 ^ 40) × PlacesInside (length (now values)) start stride (8 * vectors) ⌝ }
-    ensures { λ r. ⌜ r ≡ feed (waitStep signs) 0 w (strided (now (values .entry)) start stride (8 * vectors)) ⌝ }
-{
-    let mut t = w;
-    let mut at = start;
-    let mut i: usize = 0;
-    while i < vectors {
-        let vector = crate::vector::vector_of(values, at, stride, LANES);
-        t = crate::vector::wait_vector(t, vector, signs);
-        i += 1;
-        if i < vectors {
-            at += stride * 8;
-        }
-    }
-    t
-}
-
-pub fn wait_vectors(
-    w: Waiting,
-    values: &[f64],
-    start: i64,
-    stride: i64,
-    vectors: usize,
-    signs: bool,
-) -> Waiting
-    requires { ⌜ (length (w .m) ≡ 8) × (length (w .least) ≡ 8) × (vectors ≤ 2 ^ 40) × PlacesInside (length (now values)) start stride (8 * vectors) ⌝ }
-    ensures { λ r. ⌜ r ≡ feed (waitStep signs) 0 w (strided (now (values .entry)) start stride (8 * vectors)) ⌝ }
-{
-    if vectors == 0 {
-        return w;
-    }
-    if stride == 1 {
-        return wait_beside(w, values, start as usize, vectors, signs);
-    }
-    wait_apart(w, values, start, stride, vectors, signs)
-}
-
-// Whole vectors, and a last one of the values that are left.
-pub fn wait_values(
-    w: Waiting,
-    values: &[f64],
-    start: i64,
-    stride: i64,
-    len: usize,
-    signs: bool,
-) -> Waiting
-    requires { ⌜ (length (w .m) ≡ 8) × (length (w .least) ≡ 8) × (len ≤ 2 ^ 40) × PlacesInside (length (now values)) start stride len ⌝ }
-    ensures { λ r. ⌜ r ≡ feed (waitStep signs) 0 w (padded (strided (now (values .entry)) start stride len)) ⌝ }
-{
-    let vectors = len / LANES;
-    let t = wait_vectors(w, values, start, stride, vectors, signs);
-    if len % LANES == 0 {
-        return t;
-    }
-    let at = crate::vector::place(start, stride, LANES * vectors);
-    let vector = crate::vector::vector_of(values, at, stride, len % LANES);
-    crate::vector::wait_vector(t, vector, signs)
+    pub at: i64,
 }
 
 // A way to try values: by themselves or by their squares, down to 2^-depth, in at most so many vectors.
@@ -180,12 +88,23 @@ fn try_at(way: usize) -> Try
 }
 
 // Values that wait. They count only if none was too low and no lane is infinite or a NaN; else nothing is done.
-fn tried(s: Lanes, values: &[f64], start: i64, stride: i64, len: usize, y: Try) -> Step
-    requires { ⌜ SmallLanes (2 ^ 56) s × (length (s .m) ≡ 8) × SoundTry y × (len ≤ 8 * y .most) × PlacesInside (length (now values)) start stride len ⌝ }
+fn tried(s: Lanes, values: &[f64], start: i64, stride: i64, eight: i64, len: usize, y: Try) -> Step
+    requires { ⌜ SmallLanes (2 ^ 56) s × (length (s .m) ≡ 8) × SoundTry y × (len ≤ 8 * y .most) × EightApart stride len eight
+        × PlacesInside (length (now values)) start stride len ⌝ }
     ensures { λ r. ⌜ NotYetNormalised s (strided (now (values .entry)) start stride (r .done)) (r .lanes) ⌝ }
     ensures done { λ r. ⌜ (r .done ≡ len) ⊎ (r .done ≡ 0) ⌝ }
+    ensures at { λ r. ⌜ r .at ≡ lastVector start stride (r .done) ⌝ }
 {
-    let w = wait_values(start_waiting(s), values, start, stride, len, y.signs);
+    let r = crate::unsplit::wait_values(
+        crate::unsplit::start_waiting(s),
+        values,
+        start,
+        stride,
+        eight,
+        len,
+        y.signs,
+    );
+    let w = r.lanes;
     let v = w.m;
     let least = crate::vector::least_of(y.signs, y.depth);
     if crate::vector::none_below(w, least) & crate::vector::none_past(Vector { v }) {
@@ -195,17 +114,31 @@ fn tried(s: Lanes, values: &[f64], start: i64, stride: i64, len: usize, y: Try) 
         return Step {
             lanes: Lanes { m, e, bad },
             done: len,
+            at: r.at,
         };
     }
-    Step { lanes: s, done: 0 }
+    Step {
+        lanes: s,
+        done: 0,
+        at: start,
+    }
 }
 
 // Up to 256 values, a vector split where it must be, or all of them. Unless all are, the lanes count only if none is infinite or a NaN.
 // m, e and bad are kept apart: copied as a whole, lanes take the bytes that fill them up with them, vector after vector.
-fn vectors_in(s: Lanes, values: &[f64], start: i64, stride: i64, len: usize, all: bool) -> Lanes
-    requires { ⌜ SmallLanes (2 ^ 56) s × (length (s .m) ≡ 8) × (len ≤ 256) × PlacesInside (length (now values)) start stride len ⌝ }
-    ensures { λ r. ⌜ ((all || every notPast (r .m)) ≡ true → NotYetNormalised s (strided (now (values .entry)) start stride len) r) ⌝ }
-    ensures long { λ r. ⌜ length (r .m) ≡ 8 ⌝ }
+fn vectors_in(
+    s: Lanes,
+    values: &[f64],
+    start: i64,
+    stride: i64,
+    eight: i64,
+    len: usize,
+    all: bool,
+) -> Step
+    requires { ⌜ SmallLanes (2 ^ 56) s × (length (s .m) ≡ 8) × (len ≤ 256) × EightApart stride len eight × PlacesInside (length (now values)) start stride len ⌝ }
+    ensures { λ r. ⌜ ((all || every notPast (r .lanes .m)) ≡ true → NotYetNormalised s (strided (now (values .entry)) start stride len) (r .lanes)) ⌝ }
+    ensures long { λ r. ⌜ length (r .lanes .m) ≡ 8 ⌝ }
+    ensures at { λ r. ⌜ (r .done ≡ len) × (r .at ≡ lastVector start stride len) ⌝ }
 {
     let vectors = (len + 7) / LANES;
     let mut m = s.m;
@@ -221,23 +154,33 @@ fn vectors_in(s: Lanes, values: &[f64], start: i64, stride: i64, len: usize, all
         bad = t.bad;
         i += 1;
         if i < vectors {
-            at += stride * 8;
+            at = integers::next_place(at, eight, vectors - i);
         }
     }
-    Lanes { m, e, bad }
+    Step {
+        lanes: Lanes { m, e, bad },
+        done: len,
+        at,
+    }
 }
 
 // Up to 256 values. If a lane ends infinite or a NaN, they are done again, every vector split.
-fn guarded(s: Lanes, values: &[f64], start: i64, stride: i64, len: usize) -> Lanes
-    requires { ⌜ SmallLanes (2 ^ 56) s × (length (s .m) ≡ 8) × (len ≤ 256) × PlacesInside (length (now values)) start stride len ⌝ }
-    ensures { λ r. ⌜ NotYetNormalised s (strided (now (values .entry)) start stride len) r ⌝ }
+fn guarded(s: Lanes, values: &[f64], start: i64, stride: i64, eight: i64, len: usize) -> Step
+    requires { ⌜ SmallLanes (2 ^ 56) s × (length (s .m) ≡ 8) × (len ≤ 256) × EightApart stride len eight × PlacesInside (length (now values)) start stride len ⌝ }
+    ensures { λ r. ⌜ NotYetNormalised s (strided (now (values .entry)) start stride len) (r .lanes) ⌝ }
+    ensures at { λ r. ⌜ (r .done ≡ len) × (r .at ≡ lastVector start stride len) ⌝ }
 {
-    let mut t = s;
+    let mut t = Step {
+        lanes: s,
+        done: 0,
+        at: start,
+    };
     let mut turn: usize = 0;
     while turn < 2 {
-        t = vectors_in(s, values, start, stride, len, turn == 1);
+        t = vectors_in(s, values, start, stride, eight, len, turn == 1);
         turn += 1;
-        let v = t.m;
+        let lanes = t.lanes;
+        let v = lanes.m;
         if crate::vector::none_past(Vector { v }) {
             turn = 2;
         }
@@ -246,19 +189,27 @@ fn guarded(s: Lanes, values: &[f64], start: i64, stride: i64, len: usize) -> Lan
 }
 
 // The next values of a piece: a try, unless all failed a short while ago.
-fn next_step(s: Lanes, values: &[f64], at: i64, stride: i64, left: usize, pace: Pace) -> Step
-    requires { ⌜ SmallLanes (2 ^ 56) s × (length (s .m) ≡ 8) × (left ≤ 2 ^ 40) × PlacesInside (length (now values)) at stride left ⌝ }
+fn next_step(
+    s: Lanes,
+    values: &[f64],
+    at: i64,
+    stride: i64,
+    eight: i64,
+    left: usize,
+    pace: Pace,
+) -> Step
+    requires { ⌜ SmallLanes (2 ^ 56) s × (length (s .m) ≡ 8) × EightApart stride left eight × PlacesInside (length (now values)) at stride left ⌝ }
     ensures { λ r. ⌜ NotYetNormalised s (strided (now (values .entry)) at stride (r .done)) (r .lanes) ⌝ }
     ensures done { λ r. ⌜ Progress left (pace .hold) (r .done) ⌝ }
+    ensures at { λ r. ⌜ r .at ≡ lastVector at stride (r .done) ⌝ }
 {
     if pace.hold == 0 {
         let y = try_at(pace.way);
         let n = integers::min_usize(LANES * y.most, left);
-        return tried(s, values, at, stride, n, y);
+        return tried(s, values, at, stride, eight, n, y);
     }
-    let done = integers::min_usize(GUARDED, left);
-    let lanes = guarded(s, values, at, stride, done);
-    Step { lanes, done }
+    let n = integers::min_usize(GUARDED, left);
+    guarded(s, values, at, stride, eight, n)
 }
 
 // After a way that failed: one bad rate among others costs the way no more than the values of its try, which are guarded; else the next way. After the
@@ -308,12 +259,13 @@ fn first_way(len: usize) -> usize {
     if len <= 480 { LAST_WAY } else { 0 }
 }
 
-// The lanes of a whole piece.
-pub fn fed_lanes(values: &[f64], start: i64, stride: i64, len: usize) -> Lanes
-    requires { ⌜ (len ≤ 2 ^ 40) × PlacesInside (length (now values)) start stride len ⌝ }
+// The lanes of a whole piece, `eight` being the stride of eight values.
+pub fn fed_lanes(values: &[f64], start: i64, stride: i64, eight: i64, len: usize) -> Lanes
+    requires { ⌜ (len ≤ 2 ^ 40) × EightApart stride len eight × PlacesInside (length (now values)) start stride len ⌝ }
     ensures { λ r. ⌜ LanesAfter startLanes (strided (now (values .entry)) start stride len) r ⌝ }
 {
     let mut s = kernels::lanes::start_lanes();
+    let mut at = start;
     let mut i: usize = 0;
     let mut pace = Pace {
         way: first_way(len),
@@ -322,11 +274,13 @@ pub fn fed_lanes(values: &[f64], start: i64, stride: i64, len: usize) -> Lanes
         again: false,
     };
     while i < len {
-        let at = crate::vector::place(start, stride, i);
-        let t = next_step(s, values, at, stride, len - i, pace);
+        let t = next_step(s, values, at, stride, eight, len - i, pace);
         s = kernels::lanes::stable_renorm(t.lanes);
         pace = next_pace(pace, t.done);
         i += t.done;
+        if i < len {
+            at = crate::unsplit::behind(t.at, eight, t.done);
+        }
     }
     s
 }

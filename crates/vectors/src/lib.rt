@@ -2,4 +2,5 @@
 pub mod feeding;
 pub mod marked;
 pub mod piece;
+pub mod unsplit;
 pub mod vector;

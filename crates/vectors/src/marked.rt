@@ -6,6 +6,7 @@ ghost use lib.ListN.{length};
 ghost use Rattle.kernels.specs.InnerLanes.{SmallLanes};
 ghost use Rattle.kernels.specs.InnerStrided.{strided, PlacesInside};
 ghost use Rattle.kernels.specs.InnerStepped.{lower, firstBad};
+ghost use Rattle.vectors.specs.InnerVectors.{EightApart};
 ghost use Rattle.vectors.specs.InnerMarked.{productBefore};
 use accumulator::StableProductFloatAcc;
 use kernels::lanes::Lanes;
@@ -27,13 +28,13 @@ fn lower(k: usize, lane: usize, bad: bool) -> usize
 
 // The first lane that met a bad value; 8 if none did. Once it is lane 0, the values that are left do not count.
 pub fn first_bad(values: &[f64], start: i64, stride: i64, len: usize) -> usize
-    requires { ⌜ (len ≤ 2 ^ 40) × PlacesInside (length (now values)) start stride len ⌝ }
+    requires { ⌜ PlacesInside (length (now values)) start stride len ⌝ }
     ensures { λ r. ⌜ r ≡ firstBad (strided (now (values .entry)) start stride len) ⌝ }
 {
     let mut first = LANES;
+    let mut at = start;
     let mut i: usize = 0;
     while i < len {
-        let at = crate::vector::place(start, stride, i);
         let index = at as usize;
         let p = floats::split_f64(values[index]);
         first = lower(first, i % LANES, p.bad);
@@ -41,25 +42,31 @@ pub fn first_bad(values: &[f64], start: i64, stride: i64, len: usize) -> usize
             return 0;
         }
         i += 1;
+        if i < len {
+            at = integers::next_place(at, stride, len - i);
+        }
     }
     first
 }
 
 // If so, lane 0 met a bad value: nothing else counts, and the lanes need not be worked. A few values are looked at, so that it costs a good piece little.
-pub fn soon_bad(values: &[f64], start: i64, stride: i64, len: usize) -> bool
-    requires { ⌜ (len ≤ 2 ^ 40) × PlacesInside (length (now values)) start stride len ⌝ }
+pub fn soon_bad(values: &[f64], start: i64, stride: i64, eight: i64, len: usize) -> bool
+    requires { ⌜ EightApart stride len eight × PlacesInside (length (now values)) start stride len ⌝ }
     ensures { λ r. ⌜ (r ≡ true → firstBad (strided (now (values .entry)) start stride len) ≡ 0) ⌝ }
 {
     let vectors = len / SELDOM;
+    let mut at = start;
     let mut i: usize = 0;
     while i < vectors {
-        let at = crate::vector::place(start, stride, LANES * i);
         let index = at as usize;
         let p = floats::split_f64(values[index]);
         if p.bad {
             return true;
         }
         i += 1;
+        if i < vectors {
+            at = integers::next_place(at, eight, vectors - i);
+        }
     }
     false
 }

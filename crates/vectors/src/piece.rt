@@ -9,8 +9,10 @@ ghost use Rattle.kernels.specs.InnerStrided.{strided, PlacesInside};
 ghost use Rattle.kernels.specs.Blocks.{contiguous};
 ghost use Rattle.kernels.specs.Stepped.{stepped};
 ghost use Rattle.kernels.specs.Pieces.{worked};
+ghost use Rattle.vectors.specs.InnerVectors.{EightApart, lastVector};
 ghost use Rattle.vectors.specs.InnerWaiting.{one, waitStep, padded, startWaiting};
 ghost use Rattle.vectors.specs.InnerShort.{ShortLeast, ShortProduct};
+use crate::unsplit::Waited;
 use crate::vector::Vector;
 use crate::vector::Waiting;
 use accumulator::StableProductFloatAcc;
@@ -56,34 +58,79 @@ pub fn short_least(len: usize, signs: bool) -> f64
     crate::vector::least_of(signs, short_depth(len))
 }
 
-// A piece of at most 64 values side by side, in lanes that wait by their values: a loop of its own, so that it can stand inside that of a strip.
-fn short_lanes(values: &[f64], start: i64, len: usize) -> Waiting
-    requires { ⌜ (1 ≤ len) × (len ≤ 64) × PlacesInside (length (now values)) start (pos 1) len ⌝ }
-    ensures { λ r. ⌜ r ≡ feed (waitStep false) 0 (startWaiting (replicate 8 one)) (padded (strided (now (values .entry)) start (pos 1) len)) ⌝ }
+// The vectors of a piece of at most 64 values, in lanes that wait by their values. These are loops of their own, so that they can stand inside that of a strip.
+fn short_beside(values: &[f64], start: i64, vectors: usize) -> Waited
+    requires { ⌜ PlacesInside (length (now values)) start (pos 1) (8 * vectors) ⌝ }
+    ensures { λ r. ⌜ r .lanes ≡ feed (waitStep false) 0 (startWaiting (replicate 8 one)) (strided (now (values .entry)) start (pos 1) (8 * vectors)) ⌝ }
+    ensures at { λ r. ⌜ r .at ≡ lastVector start (pos 1) (8 * vectors) ⌝ }
+{
+    let mut lanes = crate::unsplit::start_waiting(kernels::lanes::start_lanes());
+    let mut at = start;
+    let mut next = start;
+    let mut left = vectors;
+    while 0 < left {
+        at = next;
+        let vector = crate::vector::vector_beside(values, at);
+        lanes = crate::vector::wait_vector(lanes, vector, false);
+        left -= 1;
+        next = integers::next_place(at, 8, left);
+    }
+    Waited { lanes, at }
+}
+
+fn short_apart(values: &[f64], start: i64, stride: i64, eight: i64, vectors: usize) -> Waited
+    requires { ⌜ EightApart stride (8 * vectors) eight × PlacesInside (length (now values)) start stride (8 * vectors) ⌝ }
+    ensures { λ r. ⌜ r .lanes ≡ feed (waitStep false) 0 (startWaiting (replicate 8 one)) (strided (now (values .entry)) start stride (8 * vectors)) ⌝ }
+    ensures at { λ r. ⌜ r .at ≡ lastVector start stride (8 * vectors) ⌝ }
+{
+    let mut lanes = crate::unsplit::start_waiting(kernels::lanes::start_lanes());
+    let mut at = start;
+    let mut next = start;
+    let mut left = vectors;
+    while 0 < left {
+        at = next;
+        let vector = crate::vector::vector_of(values, at, stride, LANES);
+        lanes = crate::vector::wait_vector(lanes, vector, false);
+        left -= 1;
+        next = integers::next_place(at, eight, left);
+    }
+    Waited { lanes, at }
+}
+
+fn short_vectors(values: &[f64], start: i64, stride: i64, eight: i64, vectors: usize) -> Waited
+    requires { ⌜ EightApart stride (8 * vectors) eight × PlacesInside (length (now values)) start stride (8 * vectors) ⌝ }
+    ensures { λ r. ⌜ r .lanes ≡ feed (waitStep false) 0 (startWaiting (replicate 8 one)) (strided (now (values .entry)) start stride (8 * vectors)) ⌝ }
+    ensures at { λ r. ⌜ r .at ≡ lastVector start stride (8 * vectors) ⌝ }
+{
+    if stride == 1 {
+        return short_beside(values, start, vectors);
+    }
+    short_apart(values, start, stride, eight, vectors)
+}
+
+// Their lanes, and a last vector of the values that are left.
+fn short_lanes(values: &[f64], start: i64, stride: i64, eight: i64, len: usize) -> Waiting
+    requires { ⌜ EightApart stride len eight × PlacesInside (length (now values)) start stride len ⌝ }
+    ensures { λ r. ⌜ r ≡ feed (waitStep false) 0 (startWaiting (replicate 8 one)) (padded (strided (now (values .entry)) start stride len)) ⌝ }
 {
     let vectors = len / LANES;
-    let at = start as usize;
-    let mut t = crate::feeding::start_waiting(kernels::lanes::start_lanes());
-    let mut i: usize = 0;
-    while i < vectors {
-        let vector = crate::vector::vector_at(values, at + i * LANES);
-        t = crate::vector::wait_vector(t, vector, false);
-        i += 1;
+    let r = short_vectors(values, start, stride, eight, vectors);
+    let rest = len % LANES;
+    if rest == 0 {
+        return r.lanes;
     }
-    if len % LANES == 0 {
-        return t;
-    }
-    let behind = crate::vector::place(start, 1, LANES * vectors);
-    let rest = crate::vector::vector_of(values, behind, 1, len % LANES);
-    crate::vector::wait_vector(t, rest, false)
+    let at = crate::unsplit::behind(r.at, eight, vectors);
+    let vector = crate::vector::vector_of(values, at, stride, rest);
+    crate::vector::wait_vector(r.lanes, vector, false)
 }
 
 // The product of such a piece. The lanes need not be brought back: multiplied, they stay normal, or the product is infinite or a NaN.
-pub fn short_piece(values: &[f64], start: i64, len: usize, least: f64) -> Short
-    requires { ⌜ (1 ≤ len) × (len ≤ 64) × PlacesInside (length (now values)) start (pos 1) len × ShortLeast false len least ⌝ }
-    ensures { λ r. ⌜ (r .ok ≡ true → ShortProduct (strided (now (values .entry)) start (pos 1) len) r) ⌝ }
+pub fn short_piece(values: &[f64], start: i64, stride: i64, len: usize, least: f64) -> Short
+    requires { ⌜ PlacesInside (length (now values)) start stride len × ShortLeast false len least ⌝ }
+    ensures { λ r. ⌜ (r .ok ≡ true → ShortProduct (strided (now (values .entry)) start stride len) r) ⌝ }
 {
-    let w = short_lanes(values, start, len);
+    let eight = crate::vector::far_stride(stride, LANES, len);
+    let w = short_lanes(values, start, stride, eight, len);
     let v = w.m;
     let p = crate::vector::chain(Vector { v });
     let q = floats::split_f64(p);
@@ -92,8 +139,8 @@ pub fn short_piece(values: &[f64], start: i64, len: usize, least: f64) -> Short
 }
 
 // A piece of at most 480 values at any stride, tried by squares, likewise.
-fn middle_piece(values: &[f64], start: i64, stride: i64, len: usize) -> Short
-    requires { ⌜ (1 ≤ len) × PlacesInside (length (now values)) start stride len ⌝ }
+fn middle_piece(values: &[f64], start: i64, stride: i64, eight: i64, len: usize) -> Short
+    requires { ⌜ EightApart stride len eight × PlacesInside (length (now values)) start stride len ⌝ }
     ensures { λ r. ⌜ (r .ok ≡ true → ShortProduct (strided (now (values .entry)) start stride len) r) ⌝ }
 {
     if MOST_SHORT < len {
@@ -103,8 +150,9 @@ fn middle_piece(values: &[f64], start: i64, stride: i64, len: usize) -> Short
             e: 0,
         };
     }
-    let t = crate::feeding::start_waiting(kernels::lanes::start_lanes());
-    let w = crate::feeding::wait_values(t, values, start, stride, len, true);
+    let t = crate::unsplit::start_waiting(kernels::lanes::start_lanes());
+    let r = crate::unsplit::wait_values(t, values, start, stride, eight, len, true);
+    let w = r.lanes;
     let least = short_least(len, true);
     let v = w.m;
     let p = crate::vector::chain(Vector { v });
@@ -124,7 +172,8 @@ fn worked_piece(
     requires { ⌜ (1 ≤ len) × (len ≤ 2 ^ 40) × PlacesInside (length (now values)) start stride len ⌝ }
     ensures { λ r. ⌜ r ≡ worked in_blocks (strided (now (values .entry)) start stride len) ⌝ }
 {
-    let q = middle_piece(values, start, stride, len);
+    let eight = crate::vector::far_stride(stride, LANES, len);
+    let q = middle_piece(values, start, stride, eight, len);
     if q.ok {
         return StableProductFloatAcc {
             m: q.m,
@@ -133,7 +182,7 @@ fn worked_piece(
         };
     }
     if !in_blocks {
-        if crate::marked::soon_bad(values, start, stride, len) {
+        if crate::marked::soon_bad(values, start, stride, eight, len) {
             return StableProductFloatAcc {
                 m: 1.0,
                 e: 0,
@@ -141,7 +190,7 @@ fn worked_piece(
             };
         }
     }
-    let s = crate::feeding::fed_lanes(values, start, stride, len);
+    let s = crate::feeding::fed_lanes(values, start, stride, eight, len);
     if !in_blocks & s.bad {
         let first = crate::marked::first_bad(values, start, stride, len);
         return crate::marked::product_before(s, first);

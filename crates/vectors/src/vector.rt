@@ -1,8 +1,8 @@
 // A vector: eight values, one for each lane.
 ghost use mathlib.Core.Path.{_≡_};
-ghost use Prim.Native.Nat.{_+_, _*_, _^_, _≤_, min};
+ghost use Prim.Native.Nat.{_+_, _*_, _^_, _≤_, _<_, min};
 ghost use lib.ListN.{length};
-ghost use lib.IntN.{pos, _+ℤ_, _*ℤ_};
+ghost use lib.IntN.{pos, _*ℤ_};
 ghost use mir.Val.{SFits};
 ghost use mir.Syntax.{w64};
 ghost use Rattle.kernels.specs.Lanes.{feed, every};
@@ -31,12 +31,15 @@ pub struct Waiting {
     pub least: [f64; LANES],
 }
 
-// The place of value i of a piece.
-pub fn place(start: i64, stride: i64, i: usize) -> i64
-    requires { ⌜ (i ≤ 2 ^ 40) × SFits w64 (stride *ℤ pos i) × SFits w64 (start +ℤ stride *ℤ pos i) ⌝ }
-    ensures { λ r. ⌜ r ≡ start +ℤ stride *ℤ pos i ⌝ }
+// From one value of a piece of `len` values to the one n further, if there is one: else that may not fit.
+pub fn far_stride(stride: i64, n: usize, len: usize) -> i64
+    requires { ⌜ (n ≤ 2 ^ 40) × (n < len → SFits w64 (stride *ℤ pos n)) ⌝ }
+    ensures { λ r. ⌜ (n < len → r ≡ stride *ℤ pos n) ⌝ }
 {
-    start + stride * (i as i64)
+    if n < len {
+        return stride * (n as i64);
+    }
+    0
 }
 
 // n values from `at` on, a stride apart. The lanes past them get 1.0, which changes none. No offset is formed but those of the values.
@@ -55,7 +58,7 @@ pub fn vector_of(values: &[f64], at: i64, stride: i64, n: usize) -> Vector
         }
         k += 1;
         if k < n {
-            place += stride;
+            place = integers::next_place(place, stride, n - k);
         }
     }
     r
@@ -75,6 +78,14 @@ pub fn vector_at(values: &[f64], at: usize) -> Vector
     r
 }
 
+// The same, by the place of the first.
+pub fn vector_beside(values: &[f64], at: i64) -> Vector
+    requires { ⌜ PlacesInside (length (now values)) at (pos 1) 8 ⌝ }
+    ensures { λ r. ⌜ r .v ≡ strided (now (values .entry)) at (pos 1) 8 ⌝ }
+{
+    vector_at(values, at as usize)
+}
+
 // The next vector of a piece of which `left` values are left. A full one at stride 1 is read without a place for each.
 pub fn some_vector(values: &[f64], at: i64, stride: i64, left: usize) -> Vector
     requires { ⌜ PlacesInside (length (now values)) at stride left ⌝ }
@@ -82,7 +93,7 @@ pub fn some_vector(values: &[f64], at: i64, stride: i64, left: usize) -> Vector
 {
     if stride == 1 {
         if LANES <= left {
-            return vector_at(values, at as usize);
+            return vector_beside(values, at);
         }
     }
     if LANES <= left {

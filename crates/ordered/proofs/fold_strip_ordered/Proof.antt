@@ -64,11 +64,9 @@ loop-holds c = let s = c .before in (omega arith, λ h. place-first (first s) (s
 fold-run-ordered-requires : tie.Need-fold-run-ordered-requires Inv-loop μ-loop
 fold-run-ordered-requires c κs =
     let t = c .before in
-    let s = t .before .before in (
-      s .pre .0,
-      λ i h. ap (λ (z : ℤ). insideValues (length (values s)) (z +ℤ stride s *ℤ pos i)) (t .loop .inv .1 (c .loop-test .taken))
-          ∙ inside s (t .loop .j) (c .loop-test .taken) i h,
-    )
+    let s = t .before .before in
+    λ i h. ap (λ (z : ℤ). insideValues (length (values s)) (z +ℤ stride s *ℤ pos i)) (t .loop .inv .1 (c .loop-test .taken))
+    ∙ inside s (t .loop .j) (c .loop-test .taken) i h
 
 -- the run is in
 more : (c : tie.After-fold-run-ordered Inv-loop μ-loop) → let t = c .before .before in let s = t .before .before in

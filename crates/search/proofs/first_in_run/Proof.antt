@@ -1,5 +1,5 @@
 -- `search::first_in_run` meets its contract: whole vectors, and fewer values than make one. Assumes nothing.
-use Prim.Native.Nat.{ℕ, _+_, _-_, _*_, _/_, _%_, _<_}
+use Prim.Native.Nat.{ℕ, _+_, _*_, _/_, _%_, _<_}
 use mathlib.Core.Path.{_≡_, refl, sym, _∙_, ap, subst}
 use mathlib.Core.List.{List, _++_}
 use native.Mathlib.Omega.{arith}
@@ -74,17 +74,30 @@ mul-done c = let s = c .before .before .before .before in omega (arith, s .pre .
 some-left : (c : tie.Else2) → let s = c .before .before .before .before in done s < s .args .len
 some-left c = let h = c .if2 .left in omega arith
 
-place-requires : tie.Need-place-requires
-place-requires c κs =
+far-stride-requires : tie.Need-far-stride-requires
+far-stride-requires c κs =
     let s = c .before .before .before .before in (
       omega (arith, s .pre .0),
-      step-fits (length (values s)) (first s) (stride s) (s .args .len) (inside s) (done s) (some-left c) (omega (arith, s .good .0 .1)),
-      place-fits (length (values s)) (first s) (stride s) (s .args .len) (inside s) (done s) (some-left c) (omega (arith, s .good .0 .1)),
+      λ l. step-fits (length (values s)) (first s) (stride s) (s .args .len) (inside s) (done s) l (omega (arith, s .good .0 .1)),
     )
 
--- the place of the next, as the code holds it
-at-is : (c : tie.After-place) → let s = c .before .before .before .before .before in toZ w64 (ofZ w64 (c .place .result)) ≡ first s +ℤ stride s *ℤ pos (done s)
-at-is c = toZ-ofZ (subst (SFits w64) (sym (c .place .ensures)) (place-requires (c .before) _ .2)) ∙ c .place .ensures
+-- the place of the next
+next : (c : tie.After-far-stride) → let s = c .before .before .before .before .before in
+    first s +ℤ toZ w64 (ofZ w64 (c .far-stride .result)) ≡ first s +ℤ stride s *ℤ pos (done s)
+next c =
+    let s = c .before .before .before .before .before in
+    ap (λ (z : ℤ). first s +ℤ z) (toZ-ofZ (record { sfits = c .far-stride .ok }) ∙ c .far-stride .ensures (some-left (c .before)))
+
+add-at : tie.Need-add-at
+add-at c =
+    let s = c .before .before .before .before .before in
+    subst (SFits w64) (sym (next c))
+    (place-fits (length (values s)) (first s) (stride s) (s .args .len) (inside s) (done s) (some-left (c .before)) (omega (arith, s .good .0 .1)))
+
+-- the same, as the code holds it
+at-is : (c : tie.After-far-stride) → let s = c .before .before .before .before .before in
+    toZ w64 (ofZ w64 (first s +ℤ toZ w64 (ofZ w64 (c .far-stride .result)))) ≡ first s +ℤ stride s *ℤ pos (done s)
+at-is c = toZ-ofZ (add-at c) ∙ next c
 
 add-look-closer : tie.Need-add-look-closer
 add-look-closer c = let s = c .before .before .before .before .before in omega (arith, s .pre .1)
@@ -117,7 +130,8 @@ first-in-run-spec =
     returns
     returns-2
     mul-done
-    place-requires
+    far-stride-requires
+    add-at
     add-look-closer
     look-closer-requires
     returns-3)

@@ -4,6 +4,7 @@ use Prim.Native.Nat.{ℕ, _+_, _-_, _*_, _≤_, _<_, min}
 use mathlib.Core.Path.{_≡_, sym, _∙_, ap, subst}
 use mathlib.Core.List.{List, _++_}
 use native.Mathlib.Omega.{arith}
+use lib.Dec.{lit≤}
 use lib.ListN.{length}
 use lib.IntN.{ℤ, pos, _+ℤ_, _*ℤ_}
 use lib.Ieee.{Float}
@@ -11,7 +12,8 @@ use mir.Val.{toZ, ofZ, SFits}
 use mir.Facts.{toZ-ofZ}
 use mir.Syntax.{w64}
 use borrow.Author.Needs.{needs}
-use Rattle.integers.proofs.Places.{place-first, place-sum}
+use Rattle.integers.specs.InnerPlaces.{PlacesFit}
+use Rattle.integers.proofs.Places.{place-first, place-sum, fit-two}
 use Rattle.kernels.specs.InnerStrided.{PlacesInside}
 use Rattle.kernels.proofs.Striding.{inside-part}
 use Rattle.vectors.proofs.Vectorwise.{place-fits, step-fits}
@@ -54,9 +56,16 @@ all s = 8 * s .args .vectors
 inside : (s : tie.Start Inv-loop μ-loop) → PlacesInside (length (values s)) (first s) (stride s) (all s)
 inside s = simp (toZ-ofZ (s .fits .first), toZ-ofZ (s .fits .stride)) (s .pre .2)
 
-chunk-step-requires : tie.Need-chunk-step-requires Inv-loop μ-loop
-chunk-step-requires c κs h =
-    let s = c .before in step-fits (length (values s)) (first s) (stride s) (all s) (inside s) 2048 (omega arith) (omega (arith, s .good .0 .1))
+mul-far-stride : tie.Need-mul-far-stride Inv-loop μ-loop
+mul-far-stride c = omega arith
+
+mul-far-stride-2 : tie.Need-mul-far-stride-2 Inv-loop μ-loop
+mul-far-stride-2 c = omega (arith, c .before .pre .0)
+
+far-stride-requires : tie.Need-far-stride-requires Inv-loop μ-loop
+far-stride-requires c κs =
+    let s = c .before in
+    (lit≤ tt, λ l. step-fits (length (values s)) (first s) (stride s) (all s) (inside s) 2048 l (omega (arith, s .good .0 .1)))
 
 loop-holds : tie.Need-loop-holds Inv-loop μ-loop
 loop-holds c =
@@ -157,33 +166,46 @@ left c =
     ∙ passed (values (s m)) (s m .args .element + 8 * i m) _ _ (rest m) (cut m) _ (t m .loop .inv .2) (r .first-in-chunk .result) (told r) (c .if1 .left)
     (8 * n m) (length-steps _ _ (8 * n m))
 
--- the place of the next chunk
+-- from chunk to chunk, as the code holds it
+apart : (c : tie.Then2 Inv-loop μ-loop) → let m = c .before .before .before in
+    toZ w64 (ofZ w64 (t m .before .far-stride .result)) ≡ stride (s m) *ℤ pos 2048
+apart c =
+    let m = c .before .before .before in
+    let long : 2048 < all (s m) = (let h = whole m (c .if2 .taken) in let z = c .if2 .taken in omega arith) in
+    toZ-ofZ (record { sfits = t m .before .far-stride .ok }) ∙ t m .before .far-stride .ensures long
+
+-- the place of the next chunk, which holds a value
 next : (c : tie.Then2 Inv-loop μ-loop) → let m = c .before .before .before in
-    toZ w64 (t m .loop .at) +ℤ toZ w64 (ofZ w64 (t m .before .chunk-step .result)) ≡ first (s m) +ℤ stride (s m) *ℤ pos (8 * (i m + n m))
+    toZ w64 (t m .loop .at) +ℤ stride (s m) *ℤ pos 2048 ≡ first (s m) +ℤ stride (s m) *ℤ pos (8 * (i m + n m))
 next c =
     let m = c .before .before .before in
     let h = whole m (c .if2 .taken) in
-    let long : 256 < s m .args .vectors = (let z = c .if2 .taken in omega arith) in
-    let made = t m .before .chunk-step .ensures long in
-    ap (λ (z : ℤ). z +ℤ toZ w64 (ofZ w64 (t m .before .chunk-step .result))) (at-is m)
-    ∙ ap (λ (z : ℤ). first (s m) +ℤ stride (s m) *ℤ pos (8 * i m) +ℤ z)
-    (toZ-ofZ (subst (SFits w64) (sym made) (chunk-step-requires (t m .before .before) _ long)) ∙ made)
+    ap (λ (z : ℤ). z +ℤ stride (s m) *ℤ pos 2048) (at-is m)
     ∙ place-sum (first (s m)) (stride (s m)) (8 * i m) 2048
     ∙ ap (λ (k : ℕ). first (s m) +ℤ stride (s m) *ℤ pos k) (let e : 8 * i m + 2048 ≡ 8 * (i m + n m) = omega arith in e)
 
-add-at : tie.Need-add-at Inv-loop μ-loop
-add-at c =
+fits : (s : tie.Start Inv-loop μ-loop) → PlacesFit (first s) (stride s) (all s)
+fits s i l = place-fits (length (values s)) (first s) (stride s) (all s) (inside s) i l (omega (arith, s .good .0 .1))
+
+next-place-requires : tie.Need-next-place-requires Inv-loop μ-loop
+next-place-requires c κs l =
     let m = c .before .before .before in
     let h = c .if2 .taken in
-    subst (SFits w64) (sym (next c))
-    (place-fits (length (values (s m))) (first (s m)) (stride (s m)) (all (s m)) (inside (s m)) (8 * (i m + n m)) (omega arith)
-    (omega (arith, s m .good .0 .1)))
+    subst (λ (z : ℤ). PlacesFit (toZ w64 (t m .loop .at)) z 2) (sym (apart c))
+    (fit-two (toZ w64 (t m .loop .at)) (stride (s m) *ℤ pos 2048) (subst (SFits w64) (sym (at-is m)) (fits (s m) (8 * i m) (omega arith)))
+    (subst (SFits w64) (sym (next c)) (fits (s m) (8 * (i m + n m)) (omega arith))))
 
 loop-less : tie.Need-loop-less Inv-loop μ-loop
-loop-less c = let m = c .before .before .before in omega (arith, some m, ends m)
+loop-less c = let m = c .before .before .before .before in omega (arith, some m, ends m)
 
 loop-again : tie.Need-loop-again Inv-loop μ-loop
-loop-again c = (ends (c .before .before .before), λ h. toZ-ofZ (add-at c) ∙ next c, left (c .before))
+loop-again c =
+    let q = c .before in
+    let m = q .before .before .before in (
+      ends m,
+      λ h. toZ-ofZ (record { sfits = c .next-place .ok }) ∙ c .next-place .ensures .0 (omega arith) ∙ ap (λ (z : ℤ). toZ w64 (t m .loop .at) +ℤ z) (apart q) ∙ next q,
+      left (q .before),
+    )
 
 loop-less-2 : tie.Need-loop-less-2 Inv-loop μ-loop
 loop-less-2 c = let m = c .before .before .before in omega (arith, some m, ends m)
@@ -212,7 +234,9 @@ first-in-vectors-spec =
     (tie.spec
     Inv-loop
     μ-loop
-    chunk-step-requires
+    mul-far-stride
+    mul-far-stride-2
+    far-stride-requires
     loop-holds
     sub-min-usize
     min-usize-requires
@@ -221,7 +245,7 @@ first-in-vectors-spec =
     first-in-chunk-requires
     returns
     add-i
-    add-at
+    next-place-requires
     loop-less
     loop-again
     loop-less-2

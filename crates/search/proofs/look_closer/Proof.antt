@@ -9,11 +9,11 @@ use lib.Dec.{T}
 use lib.IntN.{ℤ, pos, natAbs, _+ℤ_, _*ℤ_}
 use lib.Signed.{nonNeg}
 use lib.Ieee.{Float}
-use mir.Val.{toZ, ofZ, SFits}
+use mir.Val.{toZ, ofZ}
 use mir.Facts.{toZ-ofZ}
 use mir.Syntax.{w64}
 use borrow.Author.Needs.{needs}
-use Rattle.integers.proofs.Places.{place-first, place-next}
+use Rattle.integers.proofs.Places.{place-first, place-next, fit-later}
 use Rattle.floats.specs.declared.Split.{Split}
 use Rattle.floats.specs.Splitting.{isBad}
 use Rattle.floats.proofs.Splitting.{split-bad}
@@ -111,14 +111,7 @@ returns c =
 add-i : tie.Need-add-i Inv-loop μ-loop
 add-i c = omega arith
 
--- the place of the next value, and what is left
-next : (c : tie.Else1 Inv-loop μ-loop) → let t = c .before .before .before .before in
-    toZ w64 (t .loop .at) +ℤ apart t ≡ first t +ℤ apart t *ℤ pos (t .loop .i + 1)
-next c =
-    let i = c .before .before .before in
-    let t = i .before in
-    ap (λ (z : ℤ). z +ℤ apart t) (here i) ∙ place-next (first t) (apart t) (t .loop .i)
-
+-- what is left
 left : (c : tie.Else1 Inv-loop μ-loop) → let t = c .before .before .before .before in
     lowestBad (values t) (entry t .args .element + (t .loop .i + 1))
     (steps (first t +ℤ apart t *ℤ pos (t .loop .i + 1)) (apart t) (entry t .args .len - (t .loop .i + 1)))
@@ -133,17 +126,33 @@ left c =
     ∙ good-next (values t) (s .args .element + t .loop .i) _ (first t +ℤ apart t *ℤ pos (t .loop .i)) _
     (run-next (first t) (apart t) (s .args .len) (t .loop .i) (i .loop-test .taken)) _ (t .loop .inv .2) (sym (looked q) ∙ c .if1 .left)
 
-add-at : tie.Need-add-at Inv-loop μ-loop
-add-at c =
-    let t = c .before .before .before .before .before in
-    subst (SFits w64) (sym (next (c .before)))
-    (place-fits (length (values t)) (first t) (apart t) (entry t .args .len) (inside t) (t .loop .i + 1) (c .if2 .taken) (omega (arith, entry t .good .0 .1)))
+sub-next-place : tie.Need-sub-next-place Inv-loop μ-loop
+sub-next-place c = omega arith
+
+next-place-requires : tie.Need-next-place-requires Inv-loop μ-loop
+next-place-requires c κs l =
+    let i = c .before .before .before .before in
+    let t = i .before in
+    let n = entry t .args .len in
+    fit-later (first t) (apart t) _ n (t .loop .i) _ (here i) (omega arith)
+    (λ j b. place-fits (length (values t)) (first t) (apart t) n (inside t) j b (omega (arith, entry t .good .0 .1)))
+
+-- the place of the value behind it, as the code holds it
+next : (c : tie.After-next-place Inv-loop μ-loop) → let t = c .before .before .before .before .before .before in
+    toZ w64 (ofZ w64 (c .next-place .result)) ≡ first t +ℤ apart t *ℤ pos (t .loop .i + 1)
+next c =
+    let i = c .before .before .before .before .before in
+    let t = i .before in
+    toZ-ofZ (record { sfits = c .next-place .ok })
+    ∙ c .next-place .ensures .0 (let l = c .before .if2 .taken in omega arith)
+    ∙ ap (λ (z : ℤ). z +ℤ apart t) (here i)
+    ∙ place-next (first t) (apart t) (t .loop .i)
 
 loop-less : tie.Need-loop-less Inv-loop μ-loop
 loop-less c = omega arith
 
 loop-again : tie.Need-loop-again Inv-loop μ-loop
-loop-again c = (omega arith, λ h. toZ-ofZ (add-at c) ∙ next (c .before), left (c .before))
+loop-again c = (omega arith, λ h. next c, left (c .before .before))
 
 loop-less-2 : tie.Need-loop-less-2 Inv-loop μ-loop
 loop-less-2 c = omega arith
@@ -178,7 +187,8 @@ look-closer-spec =
     add-number
     returns
     add-i
-    add-at
+    sub-next-place
+    next-place-requires
     loop-less
     loop-again
     loop-less-2

@@ -12,11 +12,6 @@ use Rattle.offsets.specs.Pieces.{runOf, outerOf}
 use Rattle.offsets.proofs.Writing.{Listing, listing-none, length-listed, listed, ListTaken, listing-taken}
 use Rattle.offsets.proofs.list.write_offsets.Statement.{statement}
 use Rattle.offsets.proofs.list.write_offsets.Tie as tie
-use Rattle.offsets.proofs.list.write_offsets.Reads as reads
-use Rattle.offsets.proofs.list.write_offsets.Lts as lts
-use Rattle.offsets.proofs.list.write_run.Reads as write-run-reads
-use Rattle.offsets.proofs.pieces.begin.Reads as begin-reads
-use Rattle.offsets.proofs.pieces.next_piece.Reads as next-piece-reads
 
 abbrev Inv-loop : tie.InvT-loop
 Inv-loop l base start end out₀ stride c₀ out c = Listing l (toZ w64 base) start end out₀ out c
@@ -64,7 +59,7 @@ write-run-requires c κs =
     let n = c .before .before .before in
     let k = n .before .before .before .before .before in
     let p = taken n in
-    simp (toZ-ofZ (stride-fits k), toZ-ofZ (p .first-fits)) (p .some-len, p .enough, p .offsets-fit)
+    simp (toZ-ofZ (stride-fits k), toZ-ofZ (p .first-fits)) (p .enough, p .offsets-fit)
 
 loop-less : tie.Need-loop-less Inv-loop μ-loop
 loop-less c =

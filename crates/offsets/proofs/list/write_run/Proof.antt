@@ -1,117 +1,134 @@
--- `offsets::list::write_run` meets its contract. The loop's invariant: i numbers are written, and the offset is the last of them.
+-- `offsets::list::write_run` meets its contract. The loop's invariant: all but `left` numbers are written, and `offset` is the next, if there is one.
 -- Assumes nothing.
-use Prim.Native.Nat.{ℕ, _+_, _-_, _≤_}
-use mathlib.Core.Path.{_≡_, _∙_, ap}
+use Prim.Native.Nat.{ℕ, _+_, _-_, _≤_, _<_}
+use mathlib.Core.Path.{_≡_, sym, _∙_, ap}
 use native.Mathlib.Omega.{arith}
 use mathlib.Core.List.{List}
-use lib.ListN.{length, set, length-set}
+use lib.ListN.{length, set}
 use lib.IntN.{ℤ, pos, _+ℤ_, _*ℤ_}
-use mir.Val.{toZ, ofZ, SFits}
+use mir.Val.{toZ, ofZ}
 use mir.Facts.{toZ-ofZ}
 use mir.Syntax.{w64}
-use Rattle.integers.proofs.Places.{place-first, place-step}
-use Rattle.offsets.proofs.Writing.{filled, filled-more, filled-first, filled-over, length-filled}
+use Rattle.integers.proofs.Places.{place-first, place-next, fit-later}
+use Rattle.offsets.proofs.Writing.{filled, filled-none, filled-more, length-filled}
 use Rattle.offsets.proofs.list.write_run.Statement.{statement}
 use Rattle.offsets.proofs.list.write_run.Tie as tie
-use Rattle.offsets.proofs.list.write_run.Reads as reads
-use Rattle.offsets.proofs.list.write_run.Lts as lts
 
 abbrev Inv-loop : tie.InvT-loop
-Inv-loop out₀ at count first stride offset₀ i₀ out offset i =
-    (1 ≤ i) × (i ≤ count) × (toZ w64 offset ≡ toZ w64 first +ℤ toZ w64 stride *ℤ pos (i - 1)) × (out ≡ filled out₀ at (toZ w64 first) (toZ w64 stride) i)
+Inv-loop out₀ at count first stride offset₀ i₀ left₀ out offset i left =
+    (left ≤ count)
+    × (i ≡ at + (count - left))
+    × (0 < left → toZ w64 offset ≡ toZ w64 first +ℤ toZ w64 stride *ℤ pos (count - left))
+    × (out ≡ filled out₀ at (toZ w64 first) (toZ w64 stride) (count - left))
 
 abbrev μ-loop : tie.MeasureT-loop
-μ-loop out₀ at count first stride offset₀ i₀ out offset i = count - i
+μ-loop out₀ at count first stride offset₀ i₀ left₀ out offset i left = left
 
-mul-first : tie.Need-mul-first Inv-loop μ-loop
-mul-first c = omega arith
+-- the numbers of the entry, as the code holds them
+abbrev first : tie.Start Inv-loop μ-loop → ℤ
+first s = toZ w64 (ofZ w64 (s .args .first))
 
-slice-set-from-first : tie.Need-slice-set-from-first Inv-loop μ-loop
-slice-set-from-first c = omega arith
+abbrev stride : tie.Start Inv-loop μ-loop → ℤ
+stride s = toZ w64 (ofZ w64 (s .args .stride))
 
--- the next number
-next : (c : tie.In-loop Inv-loop μ-loop) → let s = c .before .before in
-    toZ w64 (c .before .loop .offset) +ℤ s .args .stride ≡ s .args .first +ℤ s .args .stride *ℤ pos (c .before .loop .i)
-next c =
-    let s = c .before .before in
-    ap (λ (z : ℤ). z +ℤ s .args .stride) (simp (toZ-ofZ (s .fits .first), toZ-ofZ (s .fits .stride)) at (c .before .loop .inv .2))
-    ∙ place-step (s .args .first) (s .args .stride) (c .before .loop .i) (c .before .loop .inv .0)
-
-next-fits : (c : tie.In-loop Inv-loop μ-loop) → SFits w64 (toZ w64 (c .before .loop .offset) +ℤ c .before .before .args .stride)
-next-fits c = rw (next c) (c .before .before .pre .2 (c .before .loop .i) (c .loop-test .taken))
-
--- the buffer's length stays
-long : (s : tie.Start Inv-loop μ-loop) (i : ℕ) → i ≤ s .args .count
-    → length (filled (set (s .args .out .now) (s .args .at) (toZ w64 (ofZ w64 (s .args .first)))) (s .args .at) (toZ w64 (ofZ w64 (s .args .first)))
-    (toZ w64 (ofZ w64 (s .args .stride))) i)
-    ≡ length (s .args .out .now)
-long s i h =
-    let e = length-set (s .args .out .now) (s .args .at) (toZ w64 (ofZ w64 (s .args .first))) in
-    length-filled (set (s .args .out .now) (s .args .at) (toZ w64 (ofZ w64 (s .args .first)))) (s .args .at) _ _ i (omega (arith, s .pre .1)) ∙ e
+-- the buffer with n numbers written
+abbrev wrote : tie.Start Inv-loop μ-loop → ℕ → List ℤ
+wrote s n = filled (s .args .out .now) (s .args .at) (first s) (stride s) n
 
 loop-holds : tie.Need-loop-holds Inv-loop μ-loop
 loop-holds c =
-    let f = c .fits .first in
-    let g = c .fits .stride in
-    simp (toZ-ofZ f, toZ-ofZ g) (
+    let none : 0 ≡ c .args .count - c .args .count = omega arith in (
       omega arith,
-      c .pre .0,
-      place-first (c .args .first) (c .args .stride),
-      filled-first (c .args .out .now) (c .args .at) (c .args .first) (c .args .stride) (omega (arith, c .pre .1, c .pre .0)),
+      omega arith,
+      λ h. place-first (first c) (stride c) ∙ ap (λ (n : ℕ). first c +ℤ stride c *ℤ pos n) none,
+      sym (filled-none (c .args .out .now) (c .args .at) (first c) (stride c) (omega (arith, c .pre .0))) ∙ ap (wrote c) none,
     )
 
-add-offset : tie.Need-add-offset Inv-loop μ-loop
-add-offset c = simp (toZ-ofZ (c .before .before .fits .stride)) (next-fits c)
+-- how many numbers a turn of the loop finds written
+abbrev done : tie.At-loop Inv-loop μ-loop → ℕ
+done t = t .before .args .count - t .loop .left
 
-add-offset-2 : tie.Need-add-offset-2 Inv-loop μ-loop
-add-offset-2 c = omega arith
+-- the buffer's length stays
+long : (t : tie.At-loop Inv-loop μ-loop) → length (t .loop .out) ≡ length (t .before .args .out .now)
+long t =
+    let s = t .before in
+    ap length (t .loop .inv .3) ∙ length-filled (s .args .out .now) (s .args .at) (first s) (stride s) (done t) (omega (arith, s .pre .0, t .loop .inv .0))
+
+-- the next number has a place in it
+room : (c : tie.In-loop Inv-loop μ-loop) → let t = c .before in t .loop .i < length (t .before .args .out .now)
+room c = let t = c .before in omega (arith, t .loop .inv .0, t .loop .inv .1, c .loop-test .taken, t .before .pre .0)
 
 mul-offset : tie.Need-mul-offset Inv-loop μ-loop
-mul-offset c = let s = c .before .before in omega (arith, s .pre .1, c .loop-test .taken, s .good .0 .1)
+mul-offset c = omega (arith, room c, c .before .before .good .0 .1)
 
 slice-set-from-offset : tie.Need-slice-set-from-offset Inv-loop μ-loop
-slice-set-from-offset c =
-    let s = c .before .before in
-    omega (arith, ap length (c .before .loop .inv .3), long s (c .before .loop .i) (c .before .loop .inv .1), s .pre .1, c .loop-test .taken)
+slice-set-from-offset c = omega (arith, room c, long (c .before))
 
 add-i : tie.Need-add-i Inv-loop μ-loop
-add-i c = omega arith
+add-i c = omega (arith, room c, c .before .before .good .0 .1)
+
+sub-left : tie.Need-sub-left Inv-loop μ-loop
+sub-left c = omega arith
+
+-- the number to be written
+here : (c : tie.In-loop Inv-loop μ-loop) → let t = c .before in toZ w64 (t .loop .offset) ≡ first (t .before) +ℤ stride (t .before) *ℤ pos (done t)
+here c = c .before .loop .inv .2 (omega (arith, c .loop-test .taken))
+
+-- one more is written
+more : (c : tie.In-loop Inv-loop μ-loop) → let t = c .before in done t + 1 ≡ t .before .args .count - (t .loop .left - 1)
+more c = let t = c .before in omega (arith, t .loop .inv .0, c .loop-test .taken)
+
+written : (c : tie.In-loop Inv-loop μ-loop) → let t = c .before in
+    set (t .loop .out) (t .loop .i) (toZ w64 (t .loop .offset)) ≡ wrote (t .before) (t .before .args .count - (t .loop .left - 1))
+written c =
+    let t = c .before in
+    let s = t .before in
+    ap (λ (z : ℤ). set (t .loop .out) (t .loop .i) z) (here c)
+    ∙ ap (λ (n : ℕ). set (t .loop .out) n (first s +ℤ stride s *ℤ pos (done t))) (t .loop .inv .1)
+    ∙ ap (λ (o : List ℤ). set o (s .args .at + done t) (first s +ℤ stride s *ℤ pos (done t))) (t .loop .inv .3)
+    ∙ filled-more (s .args .out .now) (s .args .at) (first s) (stride s) (done t) (omega (arith, t .loop .inv .1, room c))
+    ∙ ap (wrote s) (more c)
+
+next-place-requires : tie.Need-next-place-requires Inv-loop μ-loop
+next-place-requires c κs l =
+    let t = c .before in
+    let s = t .before in
+    fit-later (first s) (stride s) _ (s .args .count) (done t) _ (here c) (omega (arith, t .loop .inv .0, c .loop-test .taken))
+    (simp (toZ-ofZ (s .fits .first), toZ-ofZ (s .fits .stride)) (s .pre .1))
+
+-- the next number, if there is one, as the code holds it
+next : (c : tie.After-next-place Inv-loop μ-loop) → let t = c .before .before in let s = t .before in 0 < t .loop .left - 1
+    → toZ w64 (ofZ w64 (c .next-place .result)) ≡ first s +ℤ stride s *ℤ pos (s .args .count - (t .loop .left - 1))
+next c l =
+    let i = c .before in
+    let s = i .before .before in
+    toZ-ofZ (record { sfits = c .next-place .ok })
+    ∙ c .next-place .ensures .0 l
+    ∙ ap (λ (z : ℤ). z +ℤ stride s) (here i)
+    ∙ place-next (first s) (stride s) (done (i .before))
+    ∙ ap (λ (n : ℕ). first s +ℤ stride s *ℤ pos n) (more i)
+
+-- the place after it
+place : (c : tie.In-loop Inv-loop μ-loop) → let t = c .before in t .loop .i + 1 ≡ t .before .args .at + (t .before .args .count - (t .loop .left - 1))
+place c = let t = c .before in omega (arith, t .loop .inv .1, more c)
 
 loop-less : tie.Need-loop-less Inv-loop μ-loop
 loop-less c = omega arith
 
 loop-again : tie.Need-loop-again Inv-loop μ-loop
-loop-again c =
-    let s = c .before .before in
-    let l = c .before .loop in
-    let f = s .fits .first in
-    let g = s .fits .stride in
-    let v : l .i + 1 - 1 ≡ l .i = omega arith in
-    let p = simp (toZ-ofZ f, toZ-ofZ g) at (l .inv .3) in
-    simp (toZ-ofZ f, toZ-ofZ g, toZ-ofZ (next-fits c), v) (
-      omega arith,
-      omega (arith, c .loop-test .taken),
-      next c,
-      rw (next c)
-          (ap (λ (o : List ℤ). set o (s .args .at + l .i) (s .args .first +ℤ s .args .stride *ℤ pos (l .i))) p
-          ∙ filled-more (set (s .args .out .now) (s .args .at) (s .args .first)) (s .args .at) (s .args .first) (s .args .stride) (l .i)
-          (omega (arith, length-set (s .args .out .now) (s .args .at) (s .args .first), s .pre .1, c .loop-test .taken))),
-    )
+loop-again c = let i = c .before in (omega (arith, i .before .loop .inv .0), place i, next c, written i)
 
 same-length : tie.Need-same-length Inv-loop μ-loop
-same-length c =
-    let s = c .before .before in
-    ap length (c .before .loop .inv .3) ∙ long s (c .before .loop .i) (c .before .loop .inv .1)
+same-length c = long (c .before)
 
 returns : tie.Need-returns Inv-loop μ-loop
 unfolding filled
 returns c =
-    let s = c .before .before in
-    let l = c .before .loop in
-    let e : l .i ≡ s .args .count = let k = l .inv .1 in omega (arith, c .loop-test .left) in
-    simp (toZ-ofZ (s .fits .first), toZ-ofZ (s .fits .stride)) at (l .inv .3)
-    ∙ ap (λ (n : ℕ). filled (set (s .args .out .now) (s .args .at) (s .args .first)) (s .args .at) (s .args .first) (s .args .stride) n) e
-    ∙ filled-over (s .args .out .now) (s .args .at) (s .args .first) (s .args .stride) (s .args .first) (s .args .count) (s .pre .0)
+    let t = c .before in
+    let s = t .before in
+    let all : done t ≡ s .args .count = omega (arith, c .loop-test .left) in
+    let e = t .loop .inv .3 ∙ ap (wrote s) all in
+    simp (toZ-ofZ (s .fits .first), toZ-ofZ (s .fits .stride)) at e
 
 pub write-run-spec : {M : Type 1} → statement M
 write-run-spec =
@@ -119,14 +136,12 @@ write-run-spec =
     (tie.spec
     Inv-loop
     μ-loop
-    mul-first
-    slice-set-from-first
     loop-holds
-    add-offset
-    add-offset-2
     mul-offset
     slice-set-from-offset
     add-i
+    sub-left
+    next-place-requires
     loop-less
     loop-again
     same-length

@@ -1,10 +1,9 @@
 -- `reduction::full::next_run` meets its contract. Assumes nothing.
 use Prim.Native.Nat.{ℕ, _≤_}
-use mathlib.Core.Path.{_≡_, sym, _∙_, ap, subst}
+use mathlib.Core.Path.{_≡_, sym, _∙_, ap}
 use mathlib.Core.Bool.{false}
 use native.Mathlib.Nat.{le-trans}
 use native.Mathlib.Omega.{arith}
-use lib.ListN.{length}
 use lib.Dec.{lit≤}
 use lib.IntN.{ℤ, pos}
 use mir.Val.{SFits, toZ, ofZ}
@@ -12,43 +11,39 @@ use mir.ValLaws.{toZ-ofZ}
 use mir.Syntax.{w64}
 use borrow.Author.Needs.{needs}
 use Rattle.integers.specs.Integers.{eqZ}
-use Rattle.integers.proofs.Machine.{same-bits, pos-fits}
-use Rattle.kernels.specs.InnerStrided.{strided, PlacesInside}
+use Rattle.accumulator.specs.declared.StableProductFloatAcc.{StableProductFloatAcc}
+use Rattle.kernels.specs.InnerStrided.{strided}
 use Rattle.kernels.specs.Pieces.{worked}
+use Rattle.kernels.proofs.Striding.{strided-values}
+use Rattle.vectors.proofs.Feds.{unmarked-worked}
 use Rattle.reduction.proofs.Pieces.{handed}
 use Rattle.reduction.proofs.full.next_run.Statement.{statement}
 use Rattle.reduction.proofs.full.next_run.Tie as tie
 
--- ---- a short run side by side
-abbrev entry : tie.Then3 → tie.Start
-entry c = c .before .before .before .before
-
-one : (c : tie.Then3) → entry c .args .stride ≡ pos 1
-one c = same-bits _ (pos 1) (entry c .fits .stride) (pos-fits 1 (omega arith)) (c .before .if2 .taken)
+-- ---- a short run
+abbrev entry : tie.Then2 → tie.Start
+entry c = c .before .before .before
 
 short-piece-requires : tie.Need-short-piece-requires
 short-piece-requires c κs =
-    let s = entry c in (
-      s .pre .0,
-      c .if3 .taken,
-      subst (λ (z : ℤ). PlacesInside (length (s .args .values .now)) z (pos 1) (s .args .len)) (sym (toZ-ofZ w64 (s .args .at) (s .fits .at)))
-          (subst (λ (z : ℤ). PlacesInside (length (s .args .values .now)) (s .args .at) z (s .args .len)) (one c) (s .pre .1)),
-      s .pre .3 (le-trans (c .if3 .taken) (lit≤ tt)),
-    )
+    let s = entry c in
+    simp (toZ-ofZ w64 (s .args .at) (s .fits .at), toZ-ofZ w64 (s .args .stride) (s .fits .stride)) (s .pre .1, s .pre .3 (le-trans (c .if2 .taken) (lit≤ tt)))
 
 returns : tie.Need-returns
-unfolding eqZ
 returns c =
     let t = c .before in
     let r = t .before in
     let q = r .before in
     let s = entry q in
     let xs = s .args .values .now in
+    let piece = strided xs (s .args .at) (s .args .stride) (s .args .len) in
     let fits : SFits w64 (r .short-piece .result .e) = record { sfits = c .struct-told .given .1 .1 .0 .1 } in
+    let e = simp (toZ-ofZ w64 (s .args .at) (s .fits .at), toZ-ofZ w64 (s .args .stride) (s .fits .stride)) at (r .short-piece .ensures (t .if3 .taken)) in
     ap (λ (z : ℤ). record { m = r .short-piece .result .m; e = z; bad = false }) (toZ-ofZ w64 (r .short-piece .result .e) fits)
-    ∙ r .short-piece .ensures (t .if4 .taken)
-    ∙ ap (λ (z : ℤ). worked (eqZ (pos 1) (pos 1)) (strided xs z (pos 1) (s .args .len))) (toZ-ofZ w64 (s .args .at) (s .fits .at))
-    ∙ ap (λ (z : ℤ). worked (eqZ z (pos 1)) (strided xs (s .args .at) z (s .args .len))) (sym (one q))
+    ∙ e
+    ∙ unmarked-worked (eqZ (s .args .stride) (pos 1)) piece
+    (strided-values xs (q .before .before .shared-slice-known .given) (s .args .at) (s .args .stride) (s .args .len))
+    (ap (λ (a : StableProductFloatAcc). a .bad) (sym e))
 
 -- ---- any other
 reduce-piece-requires : tie.Need-reduce-piece-requires
@@ -72,7 +67,7 @@ returns-2 : tie.Need-returns-2
 returns-2 c = product (c .before .before)
 
 sub-left : tie.Need-sub-left
-sub-left c = positive _ (c .if5 .left)
+sub-left c = positive _ (c .if4 .left)
   where
     positive : (n : ℕ) → (n ≡ 0 → ⊥) → 1 ≤ n
     positive n h = omega arith

@@ -1,6 +1,6 @@
 -- `vectors::feeding::next_step` meets its contract. Assumes nothing.
 use Prim.Native.Nat.{ℕ, _*_, _%_, _≤_, _<_, min}
-use mathlib.Core.Path.{_≡_, refl, ap}
+use mathlib.Core.Path.{_≡_, refl, sym, ap, _∙_, subst}
 use mathlib.Core.Logic.{_⊎_, inl, inr}
 use native.Mathlib.Omega.{arith}
 use mathlib.Core.Bool.{Bool, true, false}
@@ -11,7 +11,9 @@ use mir.ValLaws.{toZ-ofZ}
 use mir.Syntax.{w64}
 use borrow.Author.Needs.{needs}
 use Rattle.kernels.proofs.Striding.{inside-less}
-use Rattle.vectors.specs.InnerSteps.{Progress}
+use Rattle.kernels.specs.InnerStrided.{strided}
+use Rattle.vectors.specs.InnerVectors.{lastVector}
+use Rattle.vectors.specs.InnerSteps.{NotYetNormalised, Progress}
 use Rattle.vectors.proofs.feeding.next_step.Statement.{statement}
 use Rattle.vectors.proofs.feeding.next_step.Tie as tie
 
@@ -58,11 +60,12 @@ tried-requires c κs =
     let y = c .before .before in
     let s = y .before .before .before .before in
     let e = c .min-usize .ensures in
-    simp (toZ-ofZ w64 (s .args .at) (s .fits .at), toZ-ofZ w64 (s .args .stride) (s .fits .stride)) (
+    simp (toZ-ofZ w64 (s .args .at) (s .fits .at), toZ-ofZ w64 (s .args .stride) (s .fits .stride), toZ-ofZ w64 (s .args .eight) (s .fits .eight)) (
       s .pre .0,
       s .pre .1,
       y .try-at .ensures,
       few _ _ _ e,
+      λ l. s .pre .2 (omega (arith, l, within _ _ _ e)),
       inside-less (length (s .args .values .now)) (s .args .at) (s .args .stride) (s .args .left) (c .min-usize .result) (s .pre .3) (within _ _ _ e),
     )
   where
@@ -79,8 +82,11 @@ returns c =
     let t = y .before in
     let s = t .before .before .before in (
       simp (toZ-ofZ w64 (s .args .at) (s .fits .at), toZ-ofZ w64 (s .args .stride) (s .fits .stride)) at (c .tried .ensures .0),
-      tried-progress (s .args .left) (s .args .pace .hold) (y .try-at .result .most) (q .min-usize .result) (c .tried .result .done) (q .min-usize .ensures)
-          (t .if1 .taken) (c .tried .ensures .1),
+      (
+        tried-progress (s .args .left) (s .args .pace .hold) (y .try-at .result .most) (q .min-usize .result) (c .tried .result .done) (q .min-usize .ensures)
+            (t .if1 .taken) (c .tried .ensures .1 .0),
+        simp (toZ-ofZ w64 (s .args .at) (s .fits .at), toZ-ofZ w64 (s .args .stride) (s .fits .stride)) at (c .tried .ensures .1 .1),
+      ),
     )
 
 min-usize-requires-2 : tie.Need-min-usize-requires-2
@@ -90,10 +96,11 @@ guarded-requires : tie.Need-guarded-requires
 guarded-requires c κs =
     let s = c .before .before .before .before in
     let e = c .min-usize2 .ensures in
-    simp (toZ-ofZ w64 (s .args .at) (s .fits .at), toZ-ofZ w64 (s .args .stride) (s .fits .stride)) (
+    simp (toZ-ofZ w64 (s .args .at) (s .fits .at), toZ-ofZ w64 (s .args .stride) (s .fits .stride), toZ-ofZ w64 (s .args .eight) (s .fits .eight)) (
       s .pre .0,
       s .pre .1,
       few _ _ e,
+      λ l. s .pre .2 (omega (arith, l, within _ _ e)),
       inside-less (length (s .args .values .now)) (s .args .at) (s .args .stride) (s .args .left) (c .min-usize2 .result) (s .pre .3) (within _ _ e),
     )
   where
@@ -106,9 +113,15 @@ guarded-requires c κs =
 returns-2 : tie.Need-returns-2
 returns-2 c =
     let q = c .before in
-    let s = q .before .before .before .before in (
-      simp (toZ-ofZ w64 (s .args .at) (s .fits .at), toZ-ofZ w64 (s .args .stride) (s .fits .stride)) at (c .guarded .ensures),
-      guarded-progress (s .args .left) (s .args .pace .hold) (q .min-usize2 .result) (q .min-usize2 .ensures),
+    let s = q .before .before .before .before in
+    let n = c .guarded .ensures .1 .0 in
+    let e = simp (toZ-ofZ w64 (s .args .at) (s .fits .at), toZ-ofZ w64 (s .args .stride) (s .fits .stride)) at (c .guarded .ensures .0) in
+    let p = simp (toZ-ofZ w64 (s .args .at) (s .fits .at), toZ-ofZ w64 (s .args .stride) (s .fits .stride)) at (c .guarded .ensures .1 .1) in (
+      subst (λ (k : ℕ). NotYetNormalised (s .args .s) (strided (s .args .values .now) (s .args .at) (s .args .stride) k) (c .guarded .result .lanes)) (sym n) e,
+      (
+        guarded-progress (s .args .left) (s .args .pace .hold) (c .guarded .result .done) (n ∙ q .min-usize2 .ensures),
+        p ∙ ap (lastVector (s .args .at) (s .args .stride)) (sym n),
+      ),
     )
 
 pub next-step-spec : {M : Type 1} → statement M

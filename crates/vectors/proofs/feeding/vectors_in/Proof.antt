@@ -1,37 +1,39 @@
 -- `vectors::feeding::vectors_in` meets its contract. The loop's invariant: i vectors are in the lanes (`Vectors`). Assumes nothing.
-use Prim.Native.Nat.{ℕ, _+_, _-_, _*_, _^_, _≤_, _<_, min}
-use mathlib.Core.Path.{_≡_, sym, ap, _∙_, subst}
+use Prim.Native.Nat.{ℕ, _+_, _-_, _*_, _/_, _^_, _≤_, _<_, min}
+use mathlib.Core.Path.{_≡_, refl, sym, ap, _∙_, subst}
 use mathlib.Core.Bool.{_||_, true}
 use native.Mathlib.Omega.{arith}
 use native.Mathlib.Numerals.{add-one}
 use lib.ListN.{length}
 use lib.IntN.{ℤ, pos, _+ℤ_, _*ℤ_}
 use lib.Dec.{lit≤}
-use mir.Val.{toZ, ofZ, SFits}
+use mir.Val.{toZ, ofZ}
 use mir.ValLaws.{toZ-ofZ}
 use mir.Syntax.{w64}
 use Rattle.kernels.specs.declared.lanes.Lanes.{Lanes}
 use Rattle.kernels.specs.Lanes.{every}
 use Rattle.kernels.specs.InnerStrided.{strided, PlacesInside}
 use Rattle.kernels.proofs.LaneSizes.{lanes-le}
-use Rattle.integers.proofs.Places.{place-first}
+use Rattle.integers.specs.InnerPlaces.{PlacesFit}
+use Rattle.integers.proofs.Places.{place-first, place-sum, fit-eighths}
 use Rattle.kernels.proofs.Striding.{inside-part}
 use Rattle.vectors.specs.InnerWaiting.{vectorOf, notPast, guarded}
 use Rattle.vectors.specs.InnerSteps.{NotYetNormalised}
-use Rattle.vectors.proofs.Vectorwise.{place-fits, step-fits}
-use Rattle.vectors.proofs.Vectors.{vector-long, place-on}
+use Rattle.vectors.proofs.Vectorwise.{fits-from}
+use Rattle.vectors.proofs.Vectors.{vector-long}
 use Rattle.vectors.proofs.Stepping.{Vectors, vectors-none, vectors-next, vectors-fed}
 use Rattle.vectors.proofs.feeding.vectors_in.Statement.{statement}
 use Rattle.vectors.proofs.feeding.vectors_in.Tie as tie
 
 abbrev Inv-loop : tie.InvT-loop
-Inv-loop values start stride len all vectors m₀ e₀ bad₀ at₀ i₀ m e bad at i =
+Inv-loop values start stride eight len all vectors m₀ e₀ bad₀ at₀ i₀ m e bad at i =
     (i ≤ vectors)
     × Vectors all (2 ^ 56) (record { m = m₀; e = e₀; bad = bad₀ }) values (toZ w64 start) (toZ w64 stride) len i (record { m = m; e = e; bad = bad })
     × (i < vectors → toZ w64 at ≡ toZ w64 start +ℤ toZ w64 stride *ℤ pos (8 * i))
+    × (i ≡ vectors → toZ w64 at ≡ toZ w64 start +ℤ toZ w64 stride *ℤ pos (8 * (i - 1)))
 
 abbrev μ-loop : tie.MeasureT-loop
-μ-loop values start stride len all vectors m₀ e₀ bad₀ at₀ i₀ m e bad at i = vectors - i
+μ-loop values start stride eight len all vectors m₀ e₀ bad₀ at₀ i₀ m e bad at i = vectors - i
 
 add-vectors : tie.Need-add-vectors Inv-loop μ-loop
 add-vectors c = let h = c .before .pre .2 in omega arith
@@ -41,6 +43,7 @@ loop-holds c =
     let s = c .before .before .before in (
       omega arith,
       vectors-none (s .args .all) (2 ^ 56) (s .args .s) (s .args .values .now) _ _ (s .args .len) (s .pre .1) (s .pre .0),
+      λ h. place-first (toZ w64 (ofZ w64 (s .args .start))) (toZ w64 (ofZ w64 (s .args .stride))),
       λ h. place-first (toZ w64 (ofZ w64 (s .args .start))) (toZ w64 (ofZ w64 (s .args .stride))),
     )
 
@@ -69,7 +72,7 @@ turn c = worked c .before .before
 
 -- what is required, of the numbers as the code holds them
 inside : (t : tie.At-loop Inv-loop μ-loop) → PlacesInside (size t) (first t) (apart t) (entry t .args .len)
-inside t = let s = entry t in simp (toZ-ofZ w64 (s .args .start) (s .fits .start), toZ-ofZ w64 (s .args .stride) (s .fits .stride)) (s .pre .3)
+inside t = let s = entry t in simp (toZ-ofZ w64 (s .args .start) (s .fits .start), toZ-ofZ w64 (s .args .stride) (s .fits .stride)) (s .pre .4)
 
 -- a vector is left
 left : (c : tie.In-loop Inv-loop μ-loop) → 8 * c .before .loop .i < entry (c .before) .args .len
@@ -101,22 +104,40 @@ guarded-vector-requires c κs =
 add-i : tie.Need-add-i Inv-loop μ-loop
 add-i c = omega arith
 
-mul-at : tie.Need-mul-at Inv-loop μ-loop
-mul-at c =
-    let t = turn c .before in
-    step-fits (size t) (first t) (apart t) (entry t .args .len) (inside t) 8 (omega (arith, left (turn c), c .if1 .taken)) (omega (arith, entry t .good .1 .1))
+sub-next-place : tie.Need-sub-next-place Inv-loop μ-loop
+sub-next-place c = omega arith
+
+-- eight is there: a further vector is left
+eight-is : (c : tie.Then1 Inv-loop μ-loop) → let s = entry (turn c .before) in toZ w64 (ofZ w64 (s .args .eight)) ≡ apart (turn c .before) *ℤ pos 8
+eight-is c =
+    let s = entry (turn c .before) in
+    let l = c .if1 .taken in
+    simp (toZ-ofZ w64 (s .args .stride) (s .fits .stride), toZ-ofZ w64 (s .args .eight) (s .fits .eight)) (s .pre .3 (omega arith))
+
+next-place-requires : tie.Need-next-place-requires Inv-loop μ-loop
+next-place-requires c κs h =
+    let i = turn c in
+    let t = i .before in
+    let s = entry t in
+    let l = c .if1 .taken in
+    let g = left i in
+    subst (λ (z : ℤ). PlacesFit (toZ w64 (t .loop .at)) z ((s .args .len + 7) / 8 - (t .loop .i + 1) + 1)) (sym (eight-is c))
+    (fit-eighths (toZ w64 (t .loop .at)) (apart t) (s .args .len - 8 * t .loop .i) _ (omega arith)
+    (fits-from (size t) (first t) (apart t) (s .args .len) (inside t) (omega (arith, s .good .1 .1)) (toZ w64 (t .loop .at)) (8 * t .loop .i)
+    (s .args .len - 8 * t .loop .i) (t .loop .inv .2 (i .loop-test .taken)) (omega arith)))
 
 -- the place a vector further
-next : (c : tie.Then1 Inv-loop μ-loop)
-    → let t = turn c .before in toZ w64 (t .loop .at) +ℤ toZ w64 (ofZ w64 (apart t *ℤ pos 8)) ≡ first t +ℤ apart t *ℤ pos (8 * (t .loop .i + 1))
-next c = let t = turn c .before in place-on (first t) (apart t) (toZ w64 (t .loop .at)) (t .loop .i) (mul-at c) (t .loop .inv .2 (turn c .loop-test .taken))
-
-add-at : tie.Need-add-at Inv-loop μ-loop
-add-at c =
-    let t = turn c .before in
-    let l = c .if1 .taken in
-    subst (SFits w64) (sym (next c))
-    (place-fits (size t) (first t) (apart t) (entry t .args .len) (inside t) (8 * (t .loop .i + 1)) (omega arith) (omega (arith, entry t .good .1 .1)))
+next : (c : tie.After-next-place Inv-loop μ-loop) → let t = turn (c .before) .before in
+    toZ w64 (ofZ w64 (c .next-place .result)) ≡ first t +ℤ apart t *ℤ pos (8 * (t .loop .i + 1))
+next c =
+    let q = c .before in
+    let t = turn q .before in
+    toZ-ofZ w64 (c .next-place .result) (record { sfits = c .next-place .ok })
+    ∙ c .next-place .ensures .0 (let l = q .if1 .taken in omega arith)
+    ∙ ap (λ (z : ℤ). toZ w64 (t .loop .at) +ℤ z) (eight-is q)
+    ∙ ap (λ (z : ℤ). z +ℤ apart t *ℤ pos 8) (t .loop .inv .2 (turn q .loop-test .taken))
+    ∙ place-sum (first t) (apart t) (8 * t .loop .i) 8
+    ∙ ap (λ (n : ℕ). first t +ℤ apart t *ℤ pos n) (let e : 8 * t .loop .i + 8 ≡ 8 * (t .loop .i + 1) = omega arith in e)
 
 -- the vector is in
 more : (c : tie.After-guarded-vector Inv-loop μ-loop) → let t = c .before .before .before in
@@ -142,15 +163,25 @@ loop-less c = omega arith
 
 loop-again : tie.Need-loop-again Inv-loop μ-loop
 loop-again c =
-    let t = turn c .before in
-    (omega arith, more (worked c), λ h. toZ-ofZ w64 (toZ w64 (t .loop .at) +ℤ toZ w64 (ofZ w64 (apart t *ℤ pos 8))) (add-at c) ∙ next c)
+    let l = c .before .if1 .taken in
+    (omega arith, more (worked (c .before)), λ h. next c, λ h. absurd (omega arith))
 
 loop-less-2 : tie.Need-loop-less-2 Inv-loop μ-loop
 loop-less-2 c = omega arith
 
 -- the last vector: no further place is formed
 loop-again-2 : tie.Need-loop-again-2 Inv-loop μ-loop
-loop-again-2 c = (omega arith, more (c .before .before .before), λ h. absurd (omega arith))
+loop-again-2 c =
+    let w = c .before .before .before in
+    let i = w .before .before in
+    let t = i .before in
+    let g = c .if1 .left in (
+      omega arith,
+      more w,
+      λ h. absurd (omega arith),
+      λ h. t .loop .inv .2 (i .loop-test .taken)
+          ∙ ap (λ (n : ℕ). first t +ℤ apart t *ℤ pos (8 * n)) (let e : t .loop .i ≡ t .loop .i + 1 - 1 = omega arith in e),
+    )
 
 returns : tie.Need-returns Inv-loop μ-loop
 returns c =
@@ -164,7 +195,11 @@ returns c =
     → NotYetNormalised (s .args .s) (strided (s .args .values .now) (first t) (apart t) n) (held t) =
     vectors-fed (s .args .all) (2 ^ 56) (s .args .s) (s .args .values .now) _ _ n (lit≤ tt) (t .loop .i) (held t) (t .loop .inv .1) (omega arith) (omega arith)
     (omega arith) in
-    (simp (toZ-ofZ w64 (s .args .start) (s .fits .start), toZ-ofZ w64 (s .args .stride) (s .fits .stride)) at e, t .loop .inv .1 .long)
+    let p = t .loop .inv .3 (omega arith)
+    ∙ ap (λ (k : ℕ). first t +ℤ apart t *ℤ pos k) (let z : 8 * (t .loop .i - 1) ≡ 8 * ((n - 1) / 8) = omega arith in z) in (
+      simp (toZ-ofZ w64 (s .args .start) (s .fits .start), toZ-ofZ w64 (s .args .stride) (s .fits .stride)) at e,
+      (t .loop .inv .1 .long, (refl, simp (toZ-ofZ w64 (s .args .start) (s .fits .start), toZ-ofZ w64 (s .args .stride) (s .fits .stride)) at p)),
+    )
 
 pub vectors-in-spec : {M : Type 1} → statement M
 vectors-in-spec =
@@ -179,8 +214,8 @@ vectors-in-spec =
     some-vector-requires
     guarded-vector-requires
     add-i
-    mul-at
-    add-at
+    sub-next-place
+    next-place-requires
     loop-less
     loop-again
     loop-less-2

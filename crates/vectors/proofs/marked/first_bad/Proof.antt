@@ -8,30 +8,34 @@ use lib.IntN.{ℤ, pos, natAbs, _+ℤ_, _*ℤ_}
 use lib.Dec.{T}
 use lib.Signed.{nonNeg}
 use lib.Ieee.{Float, nan}
-use mir.Val.{SFits, toZ, ofZ}
+use mir.Val.{toZ, ofZ}
 use mir.Syntax.{w64}
 use mir.ValLaws.{toZ-ofZ}
 use borrow.Author.Needs.{needs}
+use Rattle.integers.proofs.Places.{place-first, place-next}
 use Rattle.floats.specs.declared.Split.{Split}
 use Rattle.floats.specs.Splitting.{isBad}
 use Rattle.floats.proofs.Splitting.{split-bad}
 use Rattle.kernels.specs.Lanes.{feed, laneOf}
 use Rattle.kernels.specs.InnerStrided.{strided, PlacesInside}
 use Rattle.kernels.specs.InnerStepped.{lower, firstBad}
-use Rattle.vectors.proofs.Vectorwise.{place-natural, place-below, place-fits, step-fits}
+use Rattle.vectors.proofs.Vectorwise.{place-natural, place-below, fits-from}
 use Rattle.vectors.proofs.Parting.{first-more, first-stays}
 use Rattle.vectors.proofs.marked.first_bad.Statement.{statement}
 use Rattle.vectors.proofs.marked.first_bad.Tie as tie
 
 abbrev Inv-loop : tie.InvT-loop
-Inv-loop values start stride len first₀ i₀ first i = (i ≤ len) × (first ≡ firstBad (strided values (toZ w64 start) (toZ w64 stride) i))
+Inv-loop values start stride len first₀ at₀ i₀ first at i =
+    (i ≤ len)
+    × (first ≡ firstBad (strided values (toZ w64 start) (toZ w64 stride) i))
+    × (i < len → toZ w64 at ≡ toZ w64 start +ℤ toZ w64 stride *ℤ pos i)
 
 abbrev μ-loop : tie.MeasureT-loop
-μ-loop values start stride len first₀ i₀ first i = len - i
+μ-loop values start stride len first₀ at₀ i₀ first at i = len - i
 
 loop-holds : tie.Need-loop-holds Inv-loop μ-loop
 unfolding firstBad strided feed
-loop-holds c = (omega arith, refl)
+loop-holds c = (omega arith, refl, λ h. place-first (toZ w64 (ofZ w64 (c .before .args .start))) (toZ w64 (ofZ w64 (c .before .args .stride))))
 
 -- a turn of the loop, as it is entered: the entry, and its numbers as the code holds them
 abbrev entry : tie.At-loop Inv-loop μ-loop → tie.Start Inv-loop μ-loop
@@ -48,38 +52,28 @@ apart t = toZ w64 (ofZ w64 (entry t .args .stride))
 
 -- what is required, of the numbers as the code holds them
 inside : (t : tie.At-loop Inv-loop μ-loop) → PlacesInside (length (values t)) (start t) (apart t) (entry t .args .len)
-inside t = let s = entry t in simp (toZ-ofZ w64 (s .args .start) (s .fits .start), toZ-ofZ w64 (s .args .stride) (s .fits .stride)) (s .pre .1)
+inside t = let s = entry t in simp (toZ-ofZ w64 (s .args .start) (s .fits .start), toZ-ofZ w64 (s .args .stride) (s .fits .stride)) (s .pre)
 
-place-requires : tie.Need-place-requires Inv-loop μ-loop
-place-requires c κs =
-    let t = c .before in
-    let s = entry t in
-    let l = c .loop-test .taken in (
-      omega (arith, s .pre .0),
-      step-fits (length (values t)) (start t) (apart t) (s .args .len) (inside t) (t .loop .i) l (omega (arith, s .good .0 .1)),
-      place-fits (length (values t)) (start t) (apart t) (s .args .len) (inside t) (t .loop .i) l (omega (arith, s .good .0 .1)),
-    )
+-- the place of the next value
+here : (c : tie.In-loop Inv-loop μ-loop) → let t = c .before in toZ w64 (t .loop .at) ≡ start t +ℤ apart t *ℤ pos (t .loop .i)
+here c = c .before .loop .inv .2 (c .loop-test .taken)
 
--- the place of the next value, as the code holds it
-here : (c : tie.After-place Inv-loop μ-loop) → let t = c .before .before in toZ w64 (ofZ w64 (c .place .result)) ≡ start t +ℤ apart t *ℤ pos (t .loop .i)
-here c = toZ-ofZ w64 (c .place .result) (subst (SFits w64) (sym (c .place .ensures)) (place-requires (c .before) _ .2)) ∙ c .place .ensures
-
-below : (c : tie.After-place Inv-loop μ-loop) → natAbs (toZ w64 (ofZ w64 (c .place .result))) < length (values (c .before .before))
+below : (c : tie.In-loop Inv-loop μ-loop) → natAbs (toZ w64 (c .before .loop .at)) < length (values (c .before))
 below c =
-    let t = c .before .before in
+    let t = c .before in
     subst (λ (z : ℤ). natAbs z < length (values t)) (sym (here c))
-    (place-below (length (values t)) (start t) (apart t) (entry t .args .len) (inside t) (t .loop .i) (c .before .loop-test .taken))
+    (place-below (length (values t)) (start t) (apart t) (entry t .args .len) (inside t) (t .loop .i) (c .loop-test .taken))
 
 cast-index : tie.Need-cast-index Inv-loop μ-loop
 cast-index c =
-    let t = c .before .before in (
+    let t = c .before in (
       subst (λ (z : ℤ). T (nonNeg z)) (sym (here c))
-          (place-natural (length (values t)) (start t) (apart t) (entry t .args .len) (inside t) (t .loop .i) (c .before .loop-test .taken)),
+          (place-natural (length (values t)) (start t) (apart t) (entry t .args .len) (inside t) (t .loop .i) (c .loop-test .taken)),
       record { fits = omega (arith, below c, entry t .good .0 .0) },
     )
 
 mul-split-f64 : tie.Need-mul-split-f64 Inv-loop μ-loop
-mul-split-f64 c = omega (arith, below c, entry (c .before .before) .good .0 .1)
+mul-split-f64 c = omega (arith, below c, entry (c .before) .good .0 .1)
 
 shared-slice-read-split-f64 : tie.Need-shared-slice-read-split-f64 Inv-loop μ-loop
 shared-slice-read-split-f64 c = below (c .before)
@@ -91,12 +85,12 @@ lower-requires : tie.Need-lower-requires Inv-loop μ-loop
 lower-requires c κs = search needs
 
 -- the value is looked at
-next : (c : tie.After-lower Inv-loop μ-loop) → let t = c .before .before .before .before .before in
+next : (c : tie.After-lower Inv-loop μ-loop) → let t = c .before .before .before .before in
     c .lower .result ≡ firstBad (strided (values t) (start t) (apart t) (t .loop .i + 1))
 next c =
     let f = c .before in
     let p = f .before .before in
-    let t = p .before .before in
+    let t = p .before in
     c .lower .ensures
     ∙ ap (lower (t .loop .first) (laneOf (t .loop .i)))
     (ap (λ (q : Split). q .bad) (f .split-f64 .ensures) ∙ split-bad _ ∙ ap (λ (z : ℤ). isBad (getD (values t) (natAbs z) nan)) (here p))
@@ -106,20 +100,51 @@ returns : tie.Need-returns Inv-loop μ-loop
 returns c =
     let q = c .before in
     let p = q .before .before .before in
-    let t = p .before .before in
+    let t = p .before in
     let s = entry t in
-    let l : t .loop .i + 1 ≤ s .args .len = (let m = p .before .loop-test .taken in omega arith) in
+    let l : t .loop .i + 1 ≤ s .args .len = (let m = p .loop-test .taken in omega arith) in
     let e = sym (first-stays (values t) (start t) (apart t) (t .loop .i + 1) (sym (next q) ∙ c .if1 .taken) (s .args .len) l) in
     simp (toZ-ofZ w64 (s .args .start) (s .fits .start), toZ-ofZ w64 (s .args .stride) (s .fits .stride)) at e
 
 add-i : tie.Need-add-i Inv-loop μ-loop
 add-i c = omega arith
 
+sub-next-place : tie.Need-sub-next-place Inv-loop μ-loop
+sub-next-place c = omega arith
+
+-- the turn in which a further place is formed
+abbrev turn : tie.Then2 Inv-loop μ-loop → tie.In-loop Inv-loop μ-loop
+turn c = c .before .before .before .before .before
+
+next-place-requires : tie.Need-next-place-requires Inv-loop μ-loop
+next-place-requires c κs h =
+    let t = turn c .before in
+    let s = entry t in
+    let l = c .if2 .taken in
+    fits-from (length (values t)) (start t) (apart t) (s .args .len) (inside t) (omega (arith, s .good .0 .1)) (toZ w64 (t .loop .at)) (t .loop .i) _
+    (here (turn c)) (omega arith)
+
 loop-less : tie.Need-loop-less Inv-loop μ-loop
 loop-less c = omega arith
 
 loop-again : tie.Need-loop-again Inv-loop μ-loop
-loop-again c = (omega arith, next (c .before))
+loop-again c =
+    let q = c .before in
+    let t = turn q .before in (
+      omega arith,
+      next (q .before .before),
+      λ h. toZ-ofZ w64 (c .next-place .result) (record { sfits = c .next-place .ok })
+          ∙ c .next-place .ensures .0 (omega arith)
+          ∙ ap (λ (z : ℤ). z +ℤ apart t) (here (turn q))
+          ∙ place-next (start t) (apart t) (t .loop .i),
+    )
+
+loop-less-2 : tie.Need-loop-less-2 Inv-loop μ-loop
+loop-less-2 c = omega arith
+
+-- the last value: no further place is formed
+loop-again-2 : tie.Need-loop-again-2 Inv-loop μ-loop
+loop-again-2 c = (omega arith, next (c .before .before), λ h. absurd (omega arith))
 
 returns-2 : tie.Need-returns-2 Inv-loop μ-loop
 returns-2 c =
@@ -136,7 +161,6 @@ first-bad-spec =
     Inv-loop
     μ-loop
     loop-holds
-    place-requires
     cast-index
     mul-split-f64
     shared-slice-read-split-f64
@@ -144,6 +168,10 @@ first-bad-spec =
     lower-requires
     returns
     add-i
+    sub-next-place
+    next-place-requires
     loop-less
     loop-again
+    loop-less-2
+    loop-again-2
     returns-2)

@@ -1,5 +1,5 @@
 -- `vectors::marked::soon_bad` meets its contract: the first value of a vector is lane 0's. Assumes nothing.
-use Prim.Native.Nat.{_-_, _*_, _≤_, _<_, zero-le}
+use Prim.Native.Nat.{ℕ, _+_, _-_, _*_, _/_, _≤_, _<_, zero-le}
 use mathlib.Core.Path.{_≡_, sym, ap, _∙_, subst}
 use mathlib.Core.Bool.{true≢false}
 use mathlib.Core.List.{List}
@@ -9,27 +9,29 @@ use lib.IntN.{ℤ, pos, natAbs, _+ℤ_, _*ℤ_}
 use lib.Dec.{T}
 use lib.Signed.{nonNeg}
 use lib.Ieee.{Float, nan}
-use mir.Val.{SFits, toZ, ofZ}
+use mir.Val.{toZ, ofZ}
 use mir.Syntax.{w64}
 use mir.ValLaws.{toZ-ofZ}
 use borrow.Author.Needs.{needs}
+use Rattle.integers.specs.InnerPlaces.{PlacesFit}
+use Rattle.integers.proofs.Places.{place-first, place-sum, fit-eighths}
 use Rattle.floats.specs.declared.Split.{Split}
 use Rattle.floats.specs.Splitting.{isBad}
 use Rattle.floats.proofs.Splitting.{split-bad}
 use Rattle.kernels.specs.InnerStrided.{PlacesInside}
-use Rattle.vectors.proofs.Vectorwise.{place-natural, place-below, place-fits, step-fits}
+use Rattle.vectors.proofs.Vectorwise.{place-natural, place-below, fits-from}
 use Rattle.vectors.proofs.Parting.{first-none}
 use Rattle.vectors.proofs.marked.soon_bad.Statement.{statement}
 use Rattle.vectors.proofs.marked.soon_bad.Tie as tie
 
 abbrev Inv-loop : tie.InvT-loop
-Inv-loop values start stride len vectors i₀ i = i ≤ vectors
+Inv-loop values start stride eight len vectors at₀ i₀ at i = (i ≤ vectors) × (i < vectors → toZ w64 at ≡ toZ w64 start +ℤ toZ w64 stride *ℤ pos (8 * i))
 
 abbrev μ-loop : tie.MeasureT-loop
-μ-loop values start stride len vectors i₀ i = vectors - i
+μ-loop values start stride eight len vectors at₀ i₀ at i = vectors - i
 
 loop-holds : tie.Need-loop-holds Inv-loop μ-loop
-loop-holds c = zero-le
+loop-holds c = (zero-le, λ h. place-first (toZ w64 (ofZ w64 (c .before .args .start))) (toZ w64 (ofZ w64 (c .before .args .stride))))
 
 -- a turn of the loop, as it is entered: the entry, and its numbers as the code holds them
 abbrev entry : tie.At-loop Inv-loop μ-loop → tie.Start Inv-loop μ-loop
@@ -52,38 +54,26 @@ inside t = let s = entry t in simp (toZ-ofZ w64 (s .args .start) (s .fits .start
 within : (c : tie.In-loop Inv-loop μ-loop) → 8 * c .before .loop .i < entry (c .before) .args .len
 within c = let l = c .loop-test .taken in omega arith
 
-mul-place : tie.Need-mul-place Inv-loop μ-loop
-mul-place c = omega (arith, within c, entry (c .before) .pre .0)
+-- the place of the value
+here : (c : tie.In-loop Inv-loop μ-loop) → let t = c .before in toZ w64 (t .loop .at) ≡ start t +ℤ apart t *ℤ pos (8 * t .loop .i)
+here c = c .before .loop .inv .1 (c .loop-test .taken)
 
-place-requires : tie.Need-place-requires Inv-loop μ-loop
-place-requires c κs =
-    let t = c .before in
-    let s = entry t in (
-      omega (arith, within c, s .pre .0),
-      step-fits (length (values t)) (start t) (apart t) (s .args .len) (inside t) (8 * t .loop .i) (within c) (omega (arith, s .good .0 .1)),
-      place-fits (length (values t)) (start t) (apart t) (s .args .len) (inside t) (8 * t .loop .i) (within c) (omega (arith, s .good .0 .1)),
-    )
-
--- the place of the value, as the code holds it
-here : (c : tie.After-place Inv-loop μ-loop) → let t = c .before .before in toZ w64 (ofZ w64 (c .place .result)) ≡ start t +ℤ apart t *ℤ pos (8 * t .loop .i)
-here c = toZ-ofZ w64 (c .place .result) (subst (SFits w64) (sym (c .place .ensures)) (place-requires (c .before) _ .2)) ∙ c .place .ensures
-
-below : (c : tie.After-place Inv-loop μ-loop) → natAbs (toZ w64 (ofZ w64 (c .place .result))) < length (values (c .before .before))
+below : (c : tie.In-loop Inv-loop μ-loop) → natAbs (toZ w64 (c .before .loop .at)) < length (values (c .before))
 below c =
-    let t = c .before .before in
+    let t = c .before in
     subst (λ (z : ℤ). natAbs z < length (values t)) (sym (here c))
-    (place-below (length (values t)) (start t) (apart t) (entry t .args .len) (inside t) (8 * t .loop .i) (within (c .before)))
+    (place-below (length (values t)) (start t) (apart t) (entry t .args .len) (inside t) (8 * t .loop .i) (within c))
 
 cast-index : tie.Need-cast-index Inv-loop μ-loop
 cast-index c =
-    let t = c .before .before in (
+    let t = c .before in (
       subst (λ (z : ℤ). T (nonNeg z)) (sym (here c))
-          (place-natural (length (values t)) (start t) (apart t) (entry t .args .len) (inside t) (8 * t .loop .i) (within (c .before))),
+          (place-natural (length (values t)) (start t) (apart t) (entry t .args .len) (inside t) (8 * t .loop .i) (within c)),
       record { fits = omega (arith, below c, entry t .good .0 .0) },
     )
 
 mul-split-f64 : tie.Need-mul-split-f64 Inv-loop μ-loop
-mul-split-f64 c = omega (arith, below c, entry (c .before .before) .good .0 .1)
+mul-split-f64 c = omega (arith, below c, entry (c .before) .good .0 .1)
 
 shared-slice-read-split-f64 : tie.Need-shared-slice-read-split-f64 Inv-loop μ-loop
 shared-slice-read-split-f64 c = below (c .before)
@@ -95,9 +85,9 @@ returns : tie.Need-returns Inv-loop μ-loop
 returns c q =
     let f = c .before in
     let p = f .before .before in
-    let t = p .before .before in
+    let t = p .before in
     let s = entry t in
-    let e = first-none (values t) (start t) (apart t) (t .loop .i) (s .args .len) (within (p .before))
+    let e = first-none (values t) (start t) (apart t) (t .loop .i) (s .args .len) (within p)
     (ap (λ (z : ℤ). isBad (getD (values t) (natAbs z) nan)) (sym (here p))
     ∙ sym (split-bad _)
     ∙ ap (λ (r : Split). r .bad) (sym (f .split-f64 .ensures))
@@ -105,16 +95,54 @@ returns c q =
     simp (toZ-ofZ w64 (s .args .start) (s .fits .start), toZ-ofZ w64 (s .args .stride) (s .fits .stride)) at e
 
 add-i : tie.Need-add-i Inv-loop μ-loop
-add-i c =
-    let p = c .before .before .before in
-    let t = p .before .before in
-    omega (arith, within (p .before), entry t .pre .0)
+add-i c = omega arith
+
+sub-next-place : tie.Need-sub-next-place Inv-loop μ-loop
+sub-next-place c = omega arith
+
+-- the turn in which a further place is formed; eight is there, since further values are left
+abbrev turn : tie.Then2 Inv-loop μ-loop → tie.In-loop Inv-loop μ-loop
+turn c = c .before .before .before .before
+
+eight-is : (c : tie.Then2 Inv-loop μ-loop) → let t = turn c .before in toZ w64 (ofZ w64 (entry t .args .eight)) ≡ apart t *ℤ pos 8
+eight-is c =
+    let s = entry (turn c .before) in
+    let l = c .if2 .taken in
+    simp (toZ-ofZ w64 (s .args .stride) (s .fits .stride), toZ-ofZ w64 (s .args .eight) (s .fits .eight)) (s .pre .0 (omega arith))
+
+next-place-requires : tie.Need-next-place-requires Inv-loop μ-loop
+next-place-requires c κs h =
+    let t = turn c .before in
+    let s = entry t in
+    let v = s .args .len / 128 in
+    let l = c .if2 .taken in
+    subst (λ (z : ℤ). PlacesFit (toZ w64 (t .loop .at)) z (v - (t .loop .i + 1) + 1)) (sym (eight-is c))
+    (fit-eighths (toZ w64 (t .loop .at)) (apart t) (8 * (v - t .loop .i)) _ (omega arith)
+    (fits-from (length (values t)) (start t) (apart t) (s .args .len) (inside t) (omega (arith, s .good .0 .1)) (toZ w64 (t .loop .at)) (8 * t .loop .i)
+    (8 * (v - t .loop .i)) (here (turn c)) (omega arith)))
 
 loop-less : tie.Need-loop-less Inv-loop μ-loop
 loop-less c = omega arith
 
 loop-again : tie.Need-loop-again Inv-loop μ-loop
-loop-again c = omega arith
+loop-again c =
+    let q = c .before in
+    let t = turn q .before in (
+      omega arith,
+      λ h. toZ-ofZ w64 (c .next-place .result) (record { sfits = c .next-place .ok })
+          ∙ c .next-place .ensures .0 (omega arith)
+          ∙ ap (λ (z : ℤ). toZ w64 (t .loop .at) +ℤ z) (eight-is q)
+          ∙ ap (λ (z : ℤ). z +ℤ apart t *ℤ pos 8) (here (turn q))
+          ∙ place-sum (start t) (apart t) (8 * t .loop .i) 8
+          ∙ ap (λ (n : ℕ). start t +ℤ apart t *ℤ pos n) (let e : 8 * t .loop .i + 8 ≡ 8 * (t .loop .i + 1) = omega arith in e),
+    )
+
+loop-less-2 : tie.Need-loop-less-2 Inv-loop μ-loop
+loop-less-2 c = omega arith
+
+-- the last of those that are looked at: no further place is formed
+loop-again-2 : tie.Need-loop-again-2 Inv-loop μ-loop
+loop-again-2 c = (omega arith, λ h. absurd (omega arith))
 
 returns-2 : tie.Need-returns-2 Inv-loop μ-loop
 returns-2 c q = absurd (true≢false (sym q))
@@ -126,14 +154,16 @@ soon-bad-spec =
     Inv-loop
     μ-loop
     loop-holds
-    mul-place
-    place-requires
     cast-index
     mul-split-f64
     shared-slice-read-split-f64
     split-f64-requires
     returns
     add-i
+    sub-next-place
+    next-place-requires
     loop-less
     loop-again
+    loop-less-2
+    loop-again-2
     returns-2)

@@ -1,10 +1,8 @@
 -- `vectors::piece::middle_piece` meets its contract. Assumes nothing.
-use Prim.Native.Nat.{ℕ, _≤_}
+use Prim.Native.Nat.{ℕ}
 use mathlib.Core.Path.{_≡_, sym, ap, _∙_, subst}
 use mathlib.Core.Bool.{true, false, true≢false}
 use mathlib.Core.List.{List}
-use native.Mathlib.Nat.{le-trans}
-use lib.Dec.{lit≤}
 use lib.ListN.{length, replicate}
 use lib.IntN.{ℤ}
 use lib.Ieee.{Float}
@@ -42,10 +40,9 @@ begun c = c .start-waiting .ensures ∙ ap (λ (s : Lanes). startWaiting (s .m))
 
 wait-values-requires : tie.Need-wait-values-requires
 wait-values-requires c κs =
-    let e = c .before .before in
-    let s = e .before .before in
-    simp (toZ-ofZ w64 (s .args .start) (s .fits .start), toZ-ofZ w64 (s .args .stride) (s .fits .stride))
-    (ap (λ (w : Waiting). length (w .m)) (begun c), ap (λ (w : Waiting). length (w .least)) (begun c), le-trans (e .if1 .left) (lit≤ tt), s .pre .1)
+    let s = c .before .before .before .before in
+    simp (toZ-ofZ w64 (s .args .start) (s .fits .start), toZ-ofZ w64 (s .args .stride) (s .fits .stride), toZ-ofZ w64 (s .args .eight) (s .fits .eight))
+    (ap (λ (w : Waiting). length (w .m)) (begun c), ap (λ (w : Waiting). length (w .least)) (begun c), s .pre .0, s .pre .1)
 
 -- the entry, and the values of the piece
 abbrev entry : tie.After-wait-values → tie.Start
@@ -55,17 +52,17 @@ abbrev piece : tie.Start → List Float
 piece s = strided (s .args .values .now) (s .args .start) (s .args .stride) (s .args .len)
 
 -- the lanes of the piece
-waited : (c : tie.After-wait-values) → c .wait-values .result ≡ feed (waitStep true) 0 (startWaiting (replicate 8 one)) (padded (piece (entry c)))
+waited : (c : tie.After-wait-values) → c .wait-values .result .lanes ≡ feed (waitStep true) 0 (startWaiting (replicate 8 one)) (padded (piece (entry c)))
 waited c =
     let s = entry c in
-    simp (toZ-ofZ w64 (s .args .start) (s .fits .start), toZ-ofZ w64 (s .args .stride) (s .fits .stride)) at (c .wait-values .ensures)
+    simp (toZ-ofZ w64 (s .args .start) (s .fits .start), toZ-ofZ w64 (s .args .stride) (s .fits .stride)) at (c .wait-values .ensures .0)
     ∙ ap (λ (w : Waiting). feed (waitStep true) 0 w (padded (piece s))) (begun (c .before))
 
 short-least-requires : tie.Need-short-least-requires
 short-least-requires c κs = search needs
 
 chain-requires : tie.Need-chain-requires
-chain-requires c κs = ap (λ (w : Waiting). length (w .m)) (waited (c .before .before)) ∙ wait-m-long _ 0 (startWaiting (replicate 8 one)) _
+chain-requires c κs = ap (λ (w : Waiting). length (w .m)) (waited (c .before .before .before)) ∙ wait-m-long _ 0 (startWaiting (replicate 8 one)) _
 
 split-f64-requires : tie.Need-split-f64-requires
 split-f64-requires c κs = search needs
@@ -75,7 +72,7 @@ not-past-requires c κs = search needs
 
 none-below-requires : tie.Need-none-below-requires
 none-below-requires c κs =
-    ap (λ (w : Waiting). length (w .least)) (waited (c .before .before .before .before .before)) ∙ wait-least-long _ 0 (startWaiting (replicate 8 one)) _
+    ap (λ (w : Waiting). length (w .least)) (waited (c .before .before .before .before .before .before)) ∙ wait-least-long _ 0 (startWaiting (replicate 8 one)) _
 
 returns-2 : tie.Need-returns-2
 returns-2 c ok =
@@ -84,7 +81,7 @@ returns-2 c ok =
     let f = p .before in
     let h = f .before in
     let l = h .before .before in
-    let w = l .before in
+    let w = l .before .before in
     let e = w .before .before .before in
     let s = entry w in
     let t = and-both (p .not-past .result) (b .none-below .result) ok in
@@ -95,7 +92,7 @@ returns-2 c ok =
     (strided-values (s .args .values .now) (e .before .shared-slice-known .given) (s .args .start) (s .args .stride) (s .args .len)) (l .short-least .result)
     (subst (λ (n : ℕ). ShortLeast true n (l .short-least .result))
     (sym (length-strided (s .args .values .now) (s .args .start) (s .args .stride) (s .args .len))) (l .short-least .ensures (e .if1 .left)))
-    (w .wait-values .result) (waited w) (sym (b .none-below .ensures) ∙ t .1) (ap notPast (sym (h .chain .ensures)) ∙ sym (p .not-past .ensures) ∙ t .0)
+    (w .wait-values .result .lanes) (waited w) (sym (b .none-below .ensures) ∙ t .1) (ap notPast (sym (h .chain .ensures)) ∙ sym (p .not-past .ensures) ∙ t .0)
 
 pub middle-piece-spec : {M : Type 1} → statement M
 middle-piece-spec =

@@ -3,9 +3,12 @@ use Prim.Native.Nat.{ℕ, _^_, _≤_}
 use mathlib.Core.Path.{_≡_, sym, ap, _∙_, subst}
 use mathlib.Core.Bool.{not, false}
 use mathlib.Core.List.{List}
+use native.Mathlib.Omega.{arith}
 use lib.Ieee.{Float, ofBits}
 use lib.IntN.{ℤ}
-use mir.Val.{SFits}
+use lib.Dec.{lit≤}
+use lib.ListN.{length}
+use mir.Val.{toZ, ofZ, SFits}
 use mir.ValLaws.{toZ-ofZ}
 use mir.Syntax.{w64}
 use borrow.Author.Needs.{needs}
@@ -18,7 +21,9 @@ use Rattle.kernels.specs.InnerLanes.{SmallLanes, LanesAfter}
 use Rattle.kernels.proofs.Blocking.{Value}
 use Rattle.kernels.proofs.Striding.{strided-values}
 use Rattle.kernels.specs.InnerStepped.{firstBad}
+use Rattle.vectors.specs.InnerVectors.{EightApart}
 use Rattle.vectors.specs.InnerMarked.{productBefore}
+use Rattle.vectors.proofs.Vectorwise.{step-fits}
 use Rattle.vectors.proofs.Feds.{fed-eight, fed-worked, stepped-worked, unmarked-worked, vectors-small}
 use Rattle.kernels.proofs.Stepping.{first-few}
 use Rattle.vectors.proofs.Parting.{stepped-first, stepped-marked}
@@ -31,16 +36,30 @@ piece s = strided (s .args .values .now) (s .args .start) (s .args .stride) (s .
 values : (c : tie.After-shared-slice-known) → Each Value (piece (c .before))
 values c = let s = c .before in strided-values (s .args .values .now) (c .shared-slice-known .given) (s .args .start) (s .args .stride) (s .args .len)
 
+far-stride-requires : tie.Need-far-stride-requires
+far-stride-requires c κs =
+    let s = c .before in (
+      lit≤ tt,
+      λ l. simp (toZ-ofZ w64 (s .args .stride) (s .fits .stride))
+          (step-fits (length (s .args .values .now)) (s .args .start) (s .args .stride) (s .args .len) (s .pre .2) 8 l (omega (arith, s .good .0 .1))),
+    )
+
+-- the stride of eight values, as the code holds it
+eight : (c : tie.After-far-stride) → let s = c .before .before in EightApart (s .args .stride) (s .args .len) (toZ w64 (ofZ w64 (c .far-stride .result)))
+eight c l =
+    let s = c .before .before in
+    toZ-ofZ w64 _ (record { sfits = c .far-stride .ok }) ∙ simp (toZ-ofZ w64 (s .args .stride) (s .fits .stride)) at (c .far-stride .ensures l)
+
 middle-piece-requires : tie.Need-middle-piece-requires
 middle-piece-requires c κs =
-    let s = c .before in
-    simp (toZ-ofZ w64 (s .args .start) (s .fits .start), toZ-ofZ w64 (s .args .stride) (s .fits .stride)) (s .pre .0, s .pre .2)
+    let s = c .before .before in
+    simp (toZ-ofZ w64 (s .args .start) (s .fits .start), toZ-ofZ w64 (s .args .stride) (s .fits .stride)) (eight c, s .pre .2)
 
 returns : tie.Need-returns
 returns c =
     let t = c .before in
     let r = t .before in
-    let k = r .before in
+    let k = r .before .before in
     let s = k .before in
     let fits : SFits w64 (r .middle-piece .result .e) = record { sfits = c .struct-told .given .1 .1 .0 .1 } in
     let e =
@@ -50,13 +69,16 @@ returns c =
     ∙ unmarked-worked (s .args .in-blocks) (piece s) (values k) (ap (λ (a : StableProductFloatAcc). a .bad) (sym e))
 
 soon-bad-requires : tie.Need-soon-bad-requires
-soon-bad-requires c κs = search needs
+soon-bad-requires c κs =
+    let f = c .before .before .before in
+    let s = f .before .before in
+    simp (toZ-ofZ w64 (s .args .start) (s .fits .start), toZ-ofZ w64 (s .args .stride) (s .fits .stride)) (eight f, s .pre .2)
 
 returns-2 : tie.Need-returns-2
 unfolding ofBits
 returns-2 c =
     let f = c .before in
-    let k = f .before .before .before .before in
+    let k = f .before .before .before .before .before in
     let s = k .before in
     stepped-worked (s .args .in-blocks) (piece s) _ (f .before .if2 .taken)
     (sym
@@ -64,11 +86,14 @@ returns-2 c =
     (simp (toZ-ofZ w64 (s .args .start) (s .fits .start), toZ-ofZ w64 (s .args .stride) (s .fits .stride)) at (f .soon-bad .ensures (c .if3 .taken)))))
 
 fed-lanes-requires : tie.Need-fed-lanes-requires
-fed-lanes-requires c κs = search needs
+fed-lanes-requires c κs =
+    let f = c .before .before .before in
+    let s = f .before .before in
+    simp (toZ-ofZ w64 (s .args .start) (s .fits .start), toZ-ofZ w64 (s .args .stride) (s .fits .stride)) (s .pre .1, eight f, s .pre .2)
 
 -- what the function was called with, from where its lanes are fed
 abbrev entry : tie.After-fed-lanes → tie.Start
-entry f = f .before .before .before .before .before
+entry f = f .before .before .before .before .before .before
 
 -- the lanes of the piece
 fed : (f : tie.After-fed-lanes) → LanesAfter startLanes (piece (entry f)) (f .fed-lanes .result)
@@ -95,7 +120,7 @@ product-before-requires c κs =
     let f = c .before .before .before in (
       small f,
       fed-eight _ (f .fed-lanes .result) (fed f),
-      subst (λ (k : ℕ). k ≤ 8) (sym (first c)) (first-few _ (values (f .before .before .before .before))),
+      subst (λ (k : ℕ). k ≤ 8) (sym (first c)) (first-few _ (values (f .before .before .before .before .before))),
     )
 
 returns-3 : tie.Need-returns-3
@@ -107,7 +132,7 @@ returns-3 c =
     stepped-worked (s .args .in-blocks) (piece s) _ (t .0)
     (c .product-before .ensures
     ∙ ap (productBefore (f .fed-lanes .result)) (first q)
-    ∙ stepped-marked (piece s) (values (f .before .before .before .before)) (f .fed-lanes .result) (fed f) (t .1))
+    ∙ stepped-marked (piece s) (values (f .before .before .before .before .before)) (f .fed-lanes .result) (fed f) (t .1))
 
 lanes-product-requires : tie.Need-lanes-product-requires
 lanes-product-requires c κs = let f = c .before .before in (small f, fed-eight _ (f .fed-lanes .result) (fed f))
@@ -117,12 +142,13 @@ returns-4 c =
     let f = c .before .before .before in
     let s = entry f in
     c .lanes-product .ensures
-    ∙ fed-worked (s .args .in-blocks) (piece s) (f .fed-lanes .result) (fed f) (values (f .before .before .before .before)) (c .before .if4 .left)
+    ∙ fed-worked (s .args .in-blocks) (piece s) (f .fed-lanes .result) (fed f) (values (f .before .before .before .before .before)) (c .before .if4 .left)
 
 pub worked-piece-spec : {M : Type 1} → statement M
 worked-piece-spec =
     tie.close
     (tie.spec
+    far-stride-requires
     middle-piece-requires
     returns
     soon-bad-requires

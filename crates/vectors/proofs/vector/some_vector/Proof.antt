@@ -1,15 +1,15 @@
 -- `vectors::vector::some_vector` meets its contract: eight values side by side, or those that are left, a stride apart. Assumes nothing.
 use Prim.Native.Nat.{ℕ, min}
-use mathlib.Core.Path.{_≡_, sym, ap, _∙_}
+use mathlib.Core.Path.{_≡_, sym, ap, _∙_, subst}
 use native.Mathlib.Omega.{arith}
 use lib.ListN.{length}
-use lib.IntN.{pos}
+use lib.IntN.{ℤ, pos}
 use lib.Dec.{lit≤}
 use mir.ValLaws.{toZ-ofZ}
 use mir.Syntax.{w64}
 use Rattle.integers.proofs.Machine.{same-bits, pos-fits}
-use Rattle.kernels.specs.InnerStrided.{strided}
-use Rattle.kernels.proofs.Striding.{Beside, beside, inside-less}
+use Rattle.kernels.specs.InnerStrided.{strided, PlacesInside}
+use Rattle.kernels.proofs.Striding.{inside-less}
 use Rattle.vectors.specs.InnerWaiting.{vectorOf}
 use Rattle.vectors.proofs.Vectors.{vector-whole}
 use Rattle.vectors.proofs.vector.some_vector.Statement.{statement}
@@ -19,26 +19,23 @@ use Rattle.vectors.proofs.vector.some_vector.Tie as tie
 abbrev entry : tie.Then2 → tie.Start
 entry c = c .before .before .before
 
-side : (c : tie.Then2) → let s = entry c in Beside (s .args .values .now) (s .args .at) (s .args .stride) 8
-side c =
+beside : (c : tie.Then2) → entry c .args .stride ≡ pos 1
+beside c = same-bits _ (pos 1) (entry c .fits .stride) (pos-fits 1 (omega arith)) (c .before .if1 .taken)
+
+vector-beside-requires : tie.Need-vector-beside-requires
+vector-beside-requires c κs =
     let s = entry c in
-    beside (s .args .values .now) (s .args .at) (s .args .stride) 8 (s .fits .at)
-    (same-bits _ (pos 1) (s .fits .stride) (pos-fits 1 (omega arith)) (c .before .if1 .taken))
-    (inside-less (length (s .args .values .now)) (s .args .at) (s .args .stride) (s .args .left) 8 (s .pre) (c .if2 .taken)) (lit≤ tt)
-
-cast-vector-at : tie.Need-cast-vector-at
-cast-vector-at c = (side c .natural, omega (arith, side c .ends, entry c .good .0 .1))
-
-vector-at-requires : tie.Need-vector-at-requires
-vector-at-requires c κs = side c .ends
+    simp (toZ-ofZ w64 (s .args .at) (s .fits .at))
+    (subst (λ (d : ℤ). PlacesInside (length (s .args .values .now)) (s .args .at) d 8) (beside c)
+    (inside-less (length (s .args .values .now)) (s .args .at) (s .args .stride) (s .args .left) 8 (s .pre) (c .if2 .taken)))
 
 returns : tie.Need-returns
 returns c =
     let t = c .before in
     let s = entry t in
     let h = t .if2 .taken in
-    c .vector-at .ensures
-    ∙ side t .same
+    simp (toZ-ofZ w64 (s .args .at) (s .fits .at)) at (c .vector-beside .ensures)
+    ∙ ap (λ (d : ℤ). strided (s .args .values .now) (s .args .at) d 8) (sym (beside t))
     ∙ sym (vector-whole (s .args .values .now) (s .args .at) (s .args .stride))
     ∙ ap (λ (n : ℕ). vectorOf (strided (s .args .values .now) (s .args .at) (s .args .stride) n)) (let e : 8 ≡ min 8 (s .args .left) = omega arith in e)
 
@@ -78,4 +75,4 @@ returns-3 c =
 pub some-vector-spec : {M : Type 1} → statement M
 some-vector-spec =
     tie.close
-    (tie.spec cast-vector-at vector-at-requires returns vector-of-requires returns-2 vector-of-requires-2 returns-3)
+    (tie.spec vector-beside-requires returns vector-of-requires returns-2 vector-of-requires-2 returns-3)

@@ -1,7 +1,7 @@
 -- `vectors::vector::vector_of` meets its contract. The loop's invariant: k lanes have their values, and the next value, if there is one, is at `place`.
 -- Assumes nothing.
 use Prim.Native.Nat.{ℕ, _+_, _-_, _≤_, _<_, min}
-use mathlib.Core.Path.{_≡_, refl, sym, ap, _∙_, subst}
+use mathlib.Core.Path.{_≡_, sym, ap, _∙_, subst}
 use mathlib.Core.List.{List}
 use mathlib.Core.Logic.{⊎-elim}
 use native.Mathlib.Omega.{arith}
@@ -10,16 +10,15 @@ use lib.IntN.{ℤ, pos, natAbs, _+ℤ_, _*ℤ_}
 use lib.Dec.{T}
 use lib.Signed.{nonNeg}
 use lib.Ieee.{Float, nan, ofBits}
-use mir.Val.{SFits, toZ, ofZ}
+use mir.Val.{toZ, ofZ}
 use mir.Syntax.{w64}
 use mir.ValLaws.{toZ-ofZ}
 use Rattle.kernels.specs.Lanes.{feed}
 use Rattle.kernels.specs.InnerStrided.{strided, PlacesInside}
-use Rattle.integers.proofs.Places.{place-first}
+use Rattle.integers.proofs.Places.{place-first, place-next}
 use Rattle.vectors.specs.declared.vector.Vector.{Vector}
 use Rattle.vectors.specs.InnerWaiting.{vectorOf}
-use Rattle.integers.proofs.Places.{place-next}
-use Rattle.vectors.proofs.Vectorwise.{place-natural, place-below, place-fits, vector-more}
+use Rattle.vectors.proofs.Vectorwise.{place-natural, place-below, fits-from, vector-more}
 use Rattle.vectors.proofs.vector.vector_of.Statement.{statement}
 use Rattle.vectors.proofs.vector.vector_of.Tie as tie
 
@@ -32,29 +31,33 @@ abbrev μ-loop : tie.MeasureT-loop
 
 loop-holds : tie.Need-loop-holds Inv-loop μ-loop
 unfolding ofBits vectorOf strided feed
-loop-holds c = (
-  omega arith,
-  ap (λ (k : ℕ). vectorOf (strided (c .args .values .now) (toZ w64 (ofZ w64 (c .args .at))) (toZ w64 (ofZ w64 (c .args .stride))) k))
-      (let e : 0 ≡ min 0 (c .args .n) = omega arith in e),
-  λ h. place-first (toZ w64 (ofZ w64 (c .args .at))) (toZ w64 (ofZ w64 (c .args .stride))),
-)
+loop-holds c =
+    let s = c .before in (
+      omega arith,
+      ap (λ (k : ℕ). vectorOf (strided (s .args .values .now) (toZ w64 (ofZ w64 (s .args .at))) (toZ w64 (ofZ w64 (s .args .stride))) k))
+          (let e : 0 ≡ min 0 (s .args .n) = omega arith in e),
+      λ h. place-first (toZ w64 (ofZ w64 (s .args .at))) (toZ w64 (ofZ w64 (s .args .stride))),
+    )
 
--- a turn of the loop, as it is entered: the values, and the numbers as the code holds them
+-- a turn of the loop, as it is entered: the entry, its values, and its numbers as the code holds them
+abbrev entry : tie.At-loop Inv-loop μ-loop → tie.Start Inv-loop μ-loop
+entry t = t .before .before
+
 abbrev values : tie.At-loop Inv-loop μ-loop → List Float
-values t = t .before .args .values .now
+values t = entry t .args .values .now
 
 abbrev first : tie.At-loop Inv-loop μ-loop → ℤ
-first t = toZ w64 (ofZ w64 (t .before .args .at))
+first t = toZ w64 (ofZ w64 (entry t .args .at))
 
 abbrev apart : tie.At-loop Inv-loop μ-loop → ℤ
-apart t = toZ w64 (ofZ w64 (t .before .args .stride))
+apart t = toZ w64 (ofZ w64 (entry t .args .stride))
 
 abbrev count : tie.At-loop Inv-loop μ-loop → ℕ
-count t = t .before .args .n
+count t = entry t .args .n
 
 -- what is required, of the numbers as the code holds them
 inside : (t : tie.At-loop Inv-loop μ-loop) → PlacesInside (length (values t)) (first t) (apart t) (count t)
-inside t = let s = t .before in simp (toZ-ofZ w64 (s .args .at) (s .fits .at), toZ-ofZ w64 (s .args .stride) (s .fits .stride)) (s .pre .1)
+inside t = let s = entry t in simp (toZ-ofZ w64 (s .args .at) (s .fits .at), toZ-ofZ w64 (s .args .stride) (s .fits .stride)) (s .pre .1)
 
 -- the place of the next value
 here : (t : tie.At-loop Inv-loop μ-loop) → t .loop .k < count t → natAbs (toZ w64 (t .loop .place)) < length (values t)
@@ -68,11 +71,11 @@ cast-index c =
     let l = c .if1 .taken in (
       subst (λ (z : ℤ). T (nonNeg z)) (sym (t .loop .inv .2 l))
           (place-natural (length (values t)) (first t) (apart t) (count t) (inside t) (t .loop .k) l),
-      record { fits = omega (arith, here t l, t .before .good .0 .0) },
+      record { fits = omega (arith, here t l, entry t .good .0 .0) },
     )
 
 mul-r : tie.Need-mul-r Inv-loop μ-loop
-mul-r c = let t = c .before .before in omega (arith, here t (c .if1 .taken), t .before .good .0 .1)
+mul-r c = let t = c .before .before in omega (arith, here t (c .if1 .taken), entry t .good .0 .1)
 
 shared-slice-read-r : tie.Need-shared-slice-read-r Inv-loop μ-loop
 shared-slice-read-r c = here (c .before .before .before) (c .before .if1 .taken)
@@ -109,27 +112,34 @@ more c = ⊎-elim (λ p. ap (λ (u : Vector). u .v) (p .2) ∙ taken (p .0 .take
         ∙ ap (λ (k : ℕ). vectorOf (strided (values t) (first t) (apart t) k))
         (let e : min (t .loop .k) (count t) ≡ min (t .loop .k + 1) (count t) = omega arith in e)
 
--- the place a stride further
-next : (c : tie.Then2 Inv-loop μ-loop) → let t = c .before .before .before in toZ w64 (t .loop .place) +ℤ apart t ≡ first t +ℤ apart t *ℤ pos (t .loop .k + 1)
-next c =
+sub-next-place : tie.Need-sub-next-place Inv-loop μ-loop
+sub-next-place c = omega arith
+
+-- the place a stride further, of a value
+next-place-requires : tie.Need-next-place-requires Inv-loop μ-loop
+next-place-requires c κs h =
     let t = c .before .before .before in
     let l = c .if2 .taken in
-    ap (λ (z : ℤ). z +ℤ apart t) (t .loop .inv .2 (omega arith)) ∙ place-next (first t) (apart t) (t .loop .k)
+    fits-from (length (values t)) (first t) (apart t) (count t) (inside t) (omega (arith, entry t .good .0 .1)) (toZ w64 (t .loop .place)) (t .loop .k) _
+    (t .loop .inv .2 (omega arith)) (omega arith)
 
-add-place : tie.Need-add-place Inv-loop μ-loop
-add-place c =
-    let t = c .before .before .before in
-    subst (SFits w64) (sym (next c))
-    (place-fits (length (values t)) (first t) (apart t) (count t) (inside t) (t .loop .k + 1) (c .if2 .taken) (omega (arith, t .before .good .0 .1)))
+next : (c : tie.After-next-place Inv-loop μ-loop) → let t = c .before .before .before .before in
+    toZ w64 (ofZ w64 (c .next-place .result)) ≡ first t +ℤ apart t *ℤ pos (t .loop .k + 1)
+next c =
+    let t = c .before .before .before .before in
+    let l = c .before .if2 .taken in
+    toZ-ofZ w64 (c .next-place .result) (record { sfits = c .next-place .ok })
+    ∙ c .next-place .ensures .0 (omega arith)
+    ∙ ap (λ (z : ℤ). z +ℤ apart t) (t .loop .inv .2 (omega arith))
+    ∙ place-next (first t) (apart t) (t .loop .k)
 
 loop-less : tie.Need-loop-less Inv-loop μ-loop
-loop-less c = let l = c .before .before .loop-test .taken in omega arith
+loop-less c = let l = c .before .before .before .loop-test .taken in omega arith
 
 loop-again : tie.Need-loop-again Inv-loop μ-loop
 loop-again c =
-    let t = c .before .before .before in
-    let l = c .before .before .loop-test .taken in
-    (omega arith, more (c .before), λ h. toZ-ofZ w64 (toZ w64 (t .loop .place) +ℤ apart t) (add-place c) ∙ next c)
+    let l = c .before .before .before .loop-test .taken in
+    (omega arith, more (c .before .before), λ h. next c)
 
 loop-less-2 : tie.Need-loop-less-2 Inv-loop μ-loop
 loop-less-2 c = let l = c .before .before .loop-test .taken in omega arith
@@ -144,7 +154,7 @@ loop-again-2 c =
 returns : tie.Need-returns Inv-loop μ-loop
 returns c =
     let t = c .before in
-    let s = t .before in
+    let s = entry t in
     let a = t .loop .inv .0 in
     let l = c .loop-test .left in
     let h = s .pre .0 in
@@ -165,7 +175,8 @@ vector-of-spec =
     mul-r-2
     element-write-r
     add-k
-    add-place
+    sub-next-place
+    next-place-requires
     loop-less
     loop-again
     loop-less-2
