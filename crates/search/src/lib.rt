@@ -100,9 +100,7 @@ fn look_closer(values: &[f64], element: u64, first: i64, stride: i64, len: usize
             };
         }
         i += 1;
-        if i < len {
-            at = integers::next_place(at, stride, len - i);
-        }
+        at = integers::next_place(at, stride, len - i);
     }
     none_bad(true)
 }

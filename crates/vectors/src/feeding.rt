@@ -153,9 +153,7 @@ fn vectors_in(
         e = t.e;
         bad = t.bad;
         i += 1;
-        if i < vectors {
-            at = integers::next_place(at, eight, vectors - i);
-        }
+        at = integers::next_place(at, eight, vectors - i);
     }
     Step {
         lanes: Lanes { m, e, bad },

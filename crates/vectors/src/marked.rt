@@ -42,9 +42,7 @@ pub fn first_bad(values: &[f64], start: i64, stride: i64, len: usize) -> usize
             return 0;
         }
         i += 1;
-        if i < len {
-            at = integers::next_place(at, stride, len - i);
-        }
+        at = integers::next_place(at, stride, len - i);
     }
     first
 }
@@ -64,9 +62,7 @@ pub fn soon_bad(values: &[f64], start: i64, stride: i64, eight: i64, len: usize)
             return true;
         }
         i += 1;
-        if i < vectors {
-            at = integers::next_place(at, eight, vectors - i);
-        }
+        at = integers::next_place(at, eight, vectors - i);
     }
     false
 }

@@ -64,10 +64,10 @@ abbrev held : tie.At-loop Inv-loop μ-loop → Lanes
 held t = record { m = t .loop .m; e = t .loop .e; bad = t .loop .bad }
 
 -- the vector worked, and the turn that it began
-abbrev worked : tie.Then1 Inv-loop μ-loop → tie.After-guarded-vector Inv-loop μ-loop
-worked c = c .before .before .before
+abbrev worked : tie.After-e2 Inv-loop μ-loop → tie.After-guarded-vector Inv-loop μ-loop
+worked c = c .before .before
 
-abbrev turn : tie.Then1 Inv-loop μ-loop → tie.In-loop Inv-loop μ-loop
+abbrev turn : tie.After-e2 Inv-loop μ-loop → tie.In-loop Inv-loop μ-loop
 turn c = worked c .before .before
 
 -- what is required, of the numbers as the code holds them
@@ -105,39 +105,49 @@ add-i : tie.Need-add-i Inv-loop μ-loop
 add-i c = omega arith
 
 sub-next-place : tie.Need-sub-next-place Inv-loop μ-loop
-sub-next-place c = omega arith
+sub-next-place c = let l = turn c .loop-test .taken in omega arith
 
--- eight is there: a further vector is left
-eight-is : (c : tie.Then1 Inv-loop μ-loop) → let s = entry (turn c .before) in toZ w64 (ofZ w64 (s .args .eight)) ≡ apart (turn c .before) *ℤ pos 8
-eight-is c =
+-- eight is there if a further vector is left
+eight-is : (c : tie.After-e2 Inv-loop μ-loop) → let t = turn c .before in let s = entry t in 0 < (s .args .len + 7) / 8 - (t .loop .i + 1)
+    → toZ w64 (ofZ w64 (s .args .eight)) ≡ apart t *ℤ pos 8
+eight-is c l =
     let s = entry (turn c .before) in
-    let l = c .if1 .taken in
     simp (toZ-ofZ w64 (s .args .stride) (s .fits .stride), toZ-ofZ w64 (s .args .eight) (s .fits .eight)) (s .pre .3 (omega arith))
 
 next-place-requires : tie.Need-next-place-requires Inv-loop μ-loop
-next-place-requires c κs h =
+next-place-requires c κs l =
     let i = turn c in
     let t = i .before in
     let s = entry t in
-    let l = c .if1 .taken in
     let g = left i in
-    subst (λ (z : ℤ). PlacesFit (toZ w64 (t .loop .at)) z ((s .args .len + 7) / 8 - (t .loop .i + 1) + 1)) (sym (eight-is c))
+    subst (λ (z : ℤ). PlacesFit (toZ w64 (t .loop .at)) z ((s .args .len + 7) / 8 - (t .loop .i + 1) + 1)) (sym (eight-is c l))
     (fit-eighths (toZ w64 (t .loop .at)) (apart t) (s .args .len - 8 * t .loop .i) _ (omega arith)
     (fits-from (size t) (first t) (apart t) (s .args .len) (inside t) (omega (arith, s .good .1 .1)) (toZ w64 (t .loop .at)) (8 * t .loop .i)
     (s .args .len - 8 * t .loop .i) (t .loop .inv .2 (i .loop-test .taken)) (omega arith)))
 
--- the place a vector further
-next : (c : tie.After-next-place Inv-loop μ-loop) → let t = turn (c .before) .before in
-    toZ w64 (ofZ w64 (c .next-place .result)) ≡ first t +ℤ apart t *ℤ pos (8 * (t .loop .i + 1))
-next c =
+-- the place a vector further, if one is left; else that of the last
+next : (c : tie.After-next-place Inv-loop μ-loop) → let t = turn (c .before) .before in t .loop .i + 1 < (entry t .args .len + 7) / 8
+    → toZ w64 (ofZ w64 (c .next-place .result)) ≡ first t +ℤ apart t *ℤ pos (8 * (t .loop .i + 1))
+next c l =
     let q = c .before in
     let t = turn q .before in
+    let some : 0 < (entry t .args .len + 7) / 8 - (t .loop .i + 1) = omega arith in
     toZ-ofZ w64 (c .next-place .result) (record { sfits = c .next-place .ok })
-    ∙ c .next-place .ensures .0 (let l = q .if1 .taken in omega arith)
-    ∙ ap (λ (z : ℤ). toZ w64 (t .loop .at) +ℤ z) (eight-is q)
+    ∙ c .next-place .ensures .0 some
+    ∙ ap (λ (z : ℤ). toZ w64 (t .loop .at) +ℤ z) (eight-is q some)
     ∙ ap (λ (z : ℤ). z +ℤ apart t *ℤ pos 8) (t .loop .inv .2 (turn q .loop-test .taken))
     ∙ place-sum (first t) (apart t) (8 * t .loop .i) 8
     ∙ ap (λ (n : ℕ). first t +ℤ apart t *ℤ pos n) (let e : 8 * t .loop .i + 8 ≡ 8 * (t .loop .i + 1) = omega arith in e)
+
+last : (c : tie.After-next-place Inv-loop μ-loop) → let t = turn (c .before) .before in t .loop .i + 1 ≡ (entry t .args .len + 7) / 8
+    → toZ w64 (ofZ w64 (c .next-place .result)) ≡ first t +ℤ apart t *ℤ pos (8 * (t .loop .i + 1 - 1))
+last c e =
+    let q = c .before in
+    let t = turn q .before in
+    toZ-ofZ w64 (c .next-place .result) (record { sfits = c .next-place .ok })
+    ∙ c .next-place .ensures .1 (omega arith)
+    ∙ t .loop .inv .2 (turn q .loop-test .taken)
+    ∙ ap (λ (n : ℕ). first t +ℤ apart t *ℤ pos (8 * n)) (let z : t .loop .i ≡ t .loop .i + 1 - 1 = omega arith in z)
 
 -- the vector is in
 more : (c : tie.After-guarded-vector Inv-loop μ-loop) → let t = c .before .before .before in
@@ -159,29 +169,10 @@ more c =
     (c .before .some-vector .ensures ∙ ap (λ (z : ℤ). vectorOf (strided xs z (apart t) (min 8 (n - 8 * i)))) (t .loop .inv .2 (q .loop-test .taken)))))
 
 loop-less : tie.Need-loop-less Inv-loop μ-loop
-loop-less c = omega arith
+loop-less c = let l = turn (c .before) .loop-test .taken in omega arith
 
 loop-again : tie.Need-loop-again Inv-loop μ-loop
-loop-again c =
-    let l = c .before .if1 .taken in
-    (omega arith, more (worked (c .before)), λ h. next c, λ h. absurd (omega arith))
-
-loop-less-2 : tie.Need-loop-less-2 Inv-loop μ-loop
-loop-less-2 c = omega arith
-
--- the last vector: no further place is formed
-loop-again-2 : tie.Need-loop-again-2 Inv-loop μ-loop
-loop-again-2 c =
-    let w = c .before .before .before in
-    let i = w .before .before in
-    let t = i .before in
-    let g = c .if1 .left in (
-      omega arith,
-      more w,
-      λ h. absurd (omega arith),
-      λ h. t .loop .inv .2 (i .loop-test .taken)
-          ∙ ap (λ (n : ℕ). first t +ℤ apart t *ℤ pos (8 * n)) (let e : t .loop .i ≡ t .loop .i + 1 - 1 = omega arith in e),
-    )
+loop-again c = let l = turn (c .before) .loop-test .taken in (omega arith, more (worked (c .before)), next c, last c)
 
 returns : tie.Need-returns Inv-loop μ-loop
 returns c =
@@ -218,6 +209,4 @@ vectors-in-spec =
     next-place-requires
     loop-less
     loop-again
-    loop-less-2
-    loop-again-2
     returns)

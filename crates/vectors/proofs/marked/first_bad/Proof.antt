@@ -109,42 +109,35 @@ returns c =
 add-i : tie.Need-add-i Inv-loop μ-loop
 add-i c = omega arith
 
-sub-next-place : tie.Need-sub-next-place Inv-loop μ-loop
-sub-next-place c = omega arith
+-- the turn in which the next place is formed
+abbrev turn : tie.Else1 Inv-loop μ-loop → tie.In-loop Inv-loop μ-loop
+turn c = c .before .before .before .before
 
--- the turn in which a further place is formed
-abbrev turn : tie.Then2 Inv-loop μ-loop → tie.In-loop Inv-loop μ-loop
-turn c = c .before .before .before .before .before
+sub-next-place : tie.Need-sub-next-place Inv-loop μ-loop
+sub-next-place c = let l = turn c .loop-test .taken in omega arith
 
 next-place-requires : tie.Need-next-place-requires Inv-loop μ-loop
 next-place-requires c κs h =
     let t = turn c .before in
     let s = entry t in
-    let l = c .if2 .taken in
     fits-from (length (values t)) (start t) (apart t) (s .args .len) (inside t) (omega (arith, s .good .0 .1)) (toZ w64 (t .loop .at)) (t .loop .i) _
     (here (turn c)) (omega arith)
 
 loop-less : tie.Need-loop-less Inv-loop μ-loop
-loop-less c = omega arith
+loop-less c = let l = turn (c .before) .loop-test .taken in omega arith
 
 loop-again : tie.Need-loop-again Inv-loop μ-loop
 loop-again c =
     let q = c .before in
-    let t = turn q .before in (
+    let t = turn q .before in
+    let l = turn q .loop-test .taken in (
       omega arith,
-      next (q .before .before),
+      next (q .before),
       λ h. toZ-ofZ w64 (c .next-place .result) (record { sfits = c .next-place .ok })
           ∙ c .next-place .ensures .0 (omega arith)
           ∙ ap (λ (z : ℤ). z +ℤ apart t) (here (turn q))
           ∙ place-next (start t) (apart t) (t .loop .i),
     )
-
-loop-less-2 : tie.Need-loop-less-2 Inv-loop μ-loop
-loop-less-2 c = omega arith
-
--- the last value: no further place is formed
-loop-again-2 : tie.Need-loop-again-2 Inv-loop μ-loop
-loop-again-2 c = (omega arith, next (c .before .before), λ h. absurd (omega arith))
 
 returns-2 : tie.Need-returns-2 Inv-loop μ-loop
 returns-2 c =
@@ -172,6 +165,4 @@ first-bad-spec =
     next-place-requires
     loop-less
     loop-again
-    loop-less-2
-    loop-again-2
     returns-2)

@@ -94,20 +94,21 @@ returns c q =
     ∙ c .if1 .taken) in
     simp (toZ-ofZ w64 (s .args .start) (s .fits .start), toZ-ofZ w64 (s .args .stride) (s .fits .stride)) at e
 
+-- the turn in which the next place is formed
+abbrev turn : tie.Else1 Inv-loop μ-loop → tie.In-loop Inv-loop μ-loop
+turn c = c .before .before .before
+
 add-i : tie.Need-add-i Inv-loop μ-loop
-add-i c = omega arith
+add-i c = let l = turn c .loop-test .taken in omega arith
 
 sub-next-place : tie.Need-sub-next-place Inv-loop μ-loop
-sub-next-place c = omega arith
+sub-next-place c = let l = turn c .loop-test .taken in omega arith
 
--- the turn in which a further place is formed; eight is there, since further values are left
-abbrev turn : tie.Then2 Inv-loop μ-loop → tie.In-loop Inv-loop μ-loop
-turn c = c .before .before .before .before
-
-eight-is : (c : tie.Then2 Inv-loop μ-loop) → let t = turn c .before in toZ w64 (ofZ w64 (entry t .args .eight)) ≡ apart t *ℤ pos 8
-eight-is c =
+-- eight is there if further values are looked at
+eight-is : (c : tie.Else1 Inv-loop μ-loop) → let t = turn c .before in let s = entry t in 0 < s .args .len / 128 - (t .loop .i + 1)
+    → toZ w64 (ofZ w64 (s .args .eight)) ≡ apart t *ℤ pos 8
+eight-is c l =
     let s = entry (turn c .before) in
-    let l = c .if2 .taken in
     simp (toZ-ofZ w64 (s .args .stride) (s .fits .stride), toZ-ofZ w64 (s .args .eight) (s .fits .eight)) (s .pre .0 (omega arith))
 
 next-place-requires : tie.Need-next-place-requires Inv-loop μ-loop
@@ -115,34 +116,28 @@ next-place-requires c κs h =
     let t = turn c .before in
     let s = entry t in
     let v = s .args .len / 128 in
-    let l = c .if2 .taken in
-    subst (λ (z : ℤ). PlacesFit (toZ w64 (t .loop .at)) z (v - (t .loop .i + 1) + 1)) (sym (eight-is c))
+    let l = turn c .loop-test .taken in
+    subst (λ (z : ℤ). PlacesFit (toZ w64 (t .loop .at)) z (v - (t .loop .i + 1) + 1)) (sym (eight-is c h))
     (fit-eighths (toZ w64 (t .loop .at)) (apart t) (8 * (v - t .loop .i)) _ (omega arith)
     (fits-from (length (values t)) (start t) (apart t) (s .args .len) (inside t) (omega (arith, s .good .0 .1)) (toZ w64 (t .loop .at)) (8 * t .loop .i)
     (8 * (v - t .loop .i)) (here (turn c)) (omega arith)))
 
 loop-less : tie.Need-loop-less Inv-loop μ-loop
-loop-less c = omega arith
+loop-less c = let l = turn (c .before) .loop-test .taken in omega arith
 
 loop-again : tie.Need-loop-again Inv-loop μ-loop
 loop-again c =
     let q = c .before in
-    let t = turn q .before in (
+    let t = turn q .before in
+    let l = turn q .loop-test .taken in (
       omega arith,
       λ h. toZ-ofZ w64 (c .next-place .result) (record { sfits = c .next-place .ok })
           ∙ c .next-place .ensures .0 (omega arith)
-          ∙ ap (λ (z : ℤ). toZ w64 (t .loop .at) +ℤ z) (eight-is q)
+          ∙ ap (λ (z : ℤ). toZ w64 (t .loop .at) +ℤ z) (eight-is q (omega arith))
           ∙ ap (λ (z : ℤ). z +ℤ apart t *ℤ pos 8) (here (turn q))
           ∙ place-sum (start t) (apart t) (8 * t .loop .i) 8
           ∙ ap (λ (n : ℕ). start t +ℤ apart t *ℤ pos n) (let e : 8 * t .loop .i + 8 ≡ 8 * (t .loop .i + 1) = omega arith in e),
     )
-
-loop-less-2 : tie.Need-loop-less-2 Inv-loop μ-loop
-loop-less-2 c = omega arith
-
--- the last of those that are looked at: no further place is formed
-loop-again-2 : tie.Need-loop-again-2 Inv-loop μ-loop
-loop-again-2 c = (omega arith, λ h. absurd (omega arith))
 
 returns-2 : tie.Need-returns-2 Inv-loop μ-loop
 returns-2 c q = absurd (true≢false (sym q))
@@ -164,6 +159,4 @@ soon-bad-spec =
     next-place-requires
     loop-less
     loop-again
-    loop-less-2
-    loop-again-2
     returns-2)
