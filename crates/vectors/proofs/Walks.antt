@@ -13,12 +13,12 @@ use Rattle.integers.specs.InnerPlaces.{PlacesFit}
 use Rattle.integers.proofs.Places.{place-first, place-sum, fit-eighths}
 use Rattle.kernels.specs.Lanes.{feed}
 use Rattle.kernels.specs.InnerStrided.{strided, PlacesInside}
-use Rattle.kernels.proofs.Striding.{inside-part}
+use Rattle.kernels.proofs.Striding.{inside-part, length-strided}
 use Rattle.vectors.specs.declared.vector.Waiting.{Waiting}
-use Rattle.vectors.specs.InnerWaiting.{waitStep}
+use Rattle.vectors.specs.InnerWaiting.{vectorOf, waitStep, padded}
 use Rattle.vectors.specs.InnerVectors.{lastVector}
 use Rattle.vectors.proofs.Vectorwise.{fits-from}
-use Rattle.vectors.proofs.Vectors.{vectors-more, wait-again, wait-m-long, wait-least-long}
+use Rattle.vectors.proofs.Vectors.{vectors-then, vectors-more, wait-again, wait-m-long, wait-least-long, rest-padded}
 
 -- of v vectors `left` are left: t has the others, the last of which is at `at`; the next is at `next`, if there is one
 pub record Walk (signs : Bool) (w : Waiting) (xs : List Float) (s d : ℤ) (v : ℕ) (t : Waiting) (at next : ℤ) (left : ℕ) : Type 0 where
@@ -106,3 +106,16 @@ module _ (s d at eight : ℤ) (m : ℕ) (whole : m % 8 ≡ 0) (last : at ≡ las
       go false t =
           let l = ltb-false 0 m t in
           none (omega arith) ∙ last ∙ ap (λ (n : ℕ). s +ℤ d *ℤ pos n) (let z : 8 * ((m - 1) / 8) ≡ m = omega arith in z)
+
+-- ---- the values that fill no vector, behind those that do
+module _ (signs : Bool) (w : Waiting) (xs : List Float) (s d : ℤ) (n : ℕ) (t u : Waiting) where
+  pub rest-fed : (n % 8 ≡ 0 → ⊥) → t ≡ feed (waitStep signs) 0 w (strided xs s d (8 * (n / 8)))
+      → u ≡ feed (waitStep signs) 0 t (vectorOf (strided xs (s +ℤ d *ℤ pos (8 * (n / 8))) d (n % 8))) → u ≡ feed (waitStep signs) 0 w (padded (strided xs s d n))
+  rest-fed h p q =
+      vectors-then (waitStep signs) (wait-again signs) w t u (strided xs s d (8 * (n / 8)))
+      (vectorOf (strided xs (s +ℤ d *ℤ pos (8 * (n / 8))) d (n % 8)))
+      (n / 8)
+      (length-strided xs s d (8 * (n / 8)))
+      p
+      q
+      ∙ ap (feed (waitStep signs) 0 w) (rest-padded xs s d n h)

@@ -100,8 +100,8 @@ fn tried(s: Lanes, values: &[f64], start: i64, stride: i64, eight: i64, len: usi
         values,
         start,
         stride,
-        eight,
         len,
+        eight,
         y.signs,
     );
     let w = r.lanes;

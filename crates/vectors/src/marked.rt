@@ -5,7 +5,7 @@ ghost use Prim.Native.Nat.{_^_, _≤_};
 ghost use lib.ListN.{length};
 ghost use Rattle.kernels.specs.InnerLanes.{SmallLanes};
 ghost use Rattle.kernels.specs.InnerStrided.{strided, PlacesInside};
-ghost use Rattle.kernels.specs.InnerStepped.{lower, firstBad};
+ghost use Rattle.kernels.specs.InnerStepped.{firstBad};
 ghost use Rattle.vectors.specs.InnerVectors.{EightApart};
 ghost use Rattle.vectors.specs.InnerMarked.{productBefore};
 use accumulator::StableProductFloatAcc;
@@ -15,16 +15,6 @@ const LANES: usize = StableProductFloatAcc::LANES;
 
 // Of so many values one is looked at beforehand: the first of each vector in the first sixteenth of the piece.
 const SELDOM: usize = 128;
-
-// The lower of two lanes, if the value is bad.
-fn lower(k: usize, lane: usize, bad: bool) -> usize
-    ensures { λ r. ⌜ r ≡ lower k lane bad ⌝ }
-{
-    if bad {
-        return integers::min_usize(k, lane);
-    }
-    k
-}
 
 // The first lane that met a bad value; 8 if none did. Once it is lane 0, the values that are left do not count.
 pub fn first_bad(values: &[f64], start: i64, stride: i64, len: usize) -> usize
@@ -37,9 +27,11 @@ pub fn first_bad(values: &[f64], start: i64, stride: i64, len: usize) -> usize
     while i < len {
         let index = at as usize;
         let p = floats::split_f64(values[index]);
-        first = lower(first, i % LANES, p.bad);
-        if first == 0 {
-            return 0;
+        if p.bad {
+            first = integers::min_usize(first, i % LANES);
+            if first == 0 {
+                return 0;
+            }
         }
         i += 1;
         at = integers::next_place(at, stride, len - i);

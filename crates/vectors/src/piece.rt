@@ -97,24 +97,28 @@ fn short_apart(values: &[f64], start: i64, stride: i64, eight: i64, vectors: usi
     Waited { lanes, at }
 }
 
-fn short_vectors(values: &[f64], start: i64, stride: i64, eight: i64, vectors: usize) -> Waited
-    requires { ⌜ EightApart stride (8 * vectors) eight × PlacesInside (length (now values)) start stride (8 * vectors) ⌝ }
-    ensures { λ r. ⌜ r .lanes ≡ feed (waitStep false) 0 (startWaiting (replicate 8 one)) (strided (now (values .entry)) start stride (8 * vectors)) ⌝ }
-    ensures at { λ r. ⌜ r .at ≡ lastVector start stride (8 * vectors) ⌝ }
+// Their lanes, and a last vector of the values that are left. Side by side it is read without a stride.
+fn short_lanes_beside(values: &[f64], start: i64, len: usize) -> Waiting
+    requires { ⌜ PlacesInside (length (now values)) start (pos 1) len ⌝ }
+    ensures { λ r. ⌜ r ≡ feed (waitStep false) 0 (startWaiting (replicate 8 one)) (padded (strided (now (values .entry)) start (pos 1) len)) ⌝ }
 {
-    if stride == 1 {
-        return short_beside(values, start, vectors);
+    let vectors = len / LANES;
+    let r = short_beside(values, start, vectors);
+    let rest = len % LANES;
+    if rest == 0 {
+        return r.lanes;
     }
-    short_apart(values, start, stride, eight, vectors)
+    let at = crate::unsplit::behind(r.at, 8, vectors);
+    let vector = crate::vector::vector_of(values, at, 1, rest);
+    crate::vector::wait_vector(r.lanes, vector, false)
 }
 
-// Their lanes, and a last vector of the values that are left.
-fn short_lanes(values: &[f64], start: i64, stride: i64, eight: i64, len: usize) -> Waiting
+fn short_lanes_apart(values: &[f64], start: i64, stride: i64, eight: i64, len: usize) -> Waiting
     requires { ⌜ EightApart stride len eight × PlacesInside (length (now values)) start stride len ⌝ }
     ensures { λ r. ⌜ r ≡ feed (waitStep false) 0 (startWaiting (replicate 8 one)) (padded (strided (now (values .entry)) start stride len)) ⌝ }
 {
     let vectors = len / LANES;
-    let r = short_vectors(values, start, stride, eight, vectors);
+    let r = short_apart(values, start, stride, eight, vectors);
     let rest = len % LANES;
     if rest == 0 {
         return r.lanes;
@@ -122,6 +126,16 @@ fn short_lanes(values: &[f64], start: i64, stride: i64, eight: i64, len: usize) 
     let at = crate::unsplit::behind(r.at, eight, vectors);
     let vector = crate::vector::vector_of(values, at, stride, rest);
     crate::vector::wait_vector(r.lanes, vector, false)
+}
+
+fn short_lanes(values: &[f64], start: i64, stride: i64, eight: i64, len: usize) -> Waiting
+    requires { ⌜ EightApart stride len eight × PlacesInside (length (now values)) start stride len ⌝ }
+    ensures { λ r. ⌜ r ≡ feed (waitStep false) 0 (startWaiting (replicate 8 one)) (padded (strided (now (values .entry)) start stride len)) ⌝ }
+{
+    if stride == 1 {
+        return short_lanes_beside(values, start, len);
+    }
+    short_lanes_apart(values, start, stride, eight, len)
 }
 
 // The product of such a piece. The lanes need not be brought back: multiplied, they stay normal, or the product is infinite or a NaN.
@@ -151,7 +165,7 @@ fn middle_piece(values: &[f64], start: i64, stride: i64, eight: i64, len: usize)
         };
     }
     let t = crate::unsplit::start_waiting(kernels::lanes::start_lanes());
-    let r = crate::unsplit::wait_values(t, values, start, stride, eight, len, true);
+    let r = crate::unsplit::wait_values(t, values, start, stride, len, eight, true);
     let w = r.lanes;
     let least = short_least(len, true);
     let v = w.m;

@@ -116,8 +116,8 @@ pub fn wait_values(
     values: &[f64],
     start: i64,
     stride: i64,
-    eight: i64,
     len: usize,
+    eight: i64,
     signs: bool,
 ) -> Waited
     requires { ⌜ (length (w .m) ≡ 8) × (length (w .least) ≡ 8) × EightApart stride len eight × PlacesInside (length (now values)) start stride len ⌝ }

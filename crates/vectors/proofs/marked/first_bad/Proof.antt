@@ -1,7 +1,9 @@
 -- `vectors::marked::first_bad` meets its contract. The loop's invariant: i values are looked at. Assumes nothing.
 use Prim.Native.Nat.{ℕ, _+_, _-_, _≤_, _<_}
 use mathlib.Core.Path.{_≡_, refl, sym, ap, _∙_, subst}
+use mathlib.Core.Bool.{Bool, true, false}
 use mathlib.Core.List.{List}
+use mathlib.Core.Logic.{⊎-elim}
 use native.Mathlib.Omega.{arith}
 use lib.ListN.{length, getD}
 use lib.IntN.{ℤ, pos, natAbs, _+ℤ_, _*ℤ_}
@@ -81,37 +83,49 @@ shared-slice-read-split-f64 c = below (c .before)
 split-f64-requires : tie.Need-split-f64-requires Inv-loop μ-loop
 split-f64-requires c κs = search needs
 
-lower-requires : tie.Need-lower-requires Inv-loop μ-loop
-lower-requires c κs = search needs
+min-usize-requires : tie.Need-min-usize-requires Inv-loop μ-loop
+min-usize-requires c κs = search needs
 
--- the value is looked at
-next : (c : tie.After-lower Inv-loop μ-loop) → let t = c .before .before .before .before in
-    c .lower .result ≡ firstBad (strided (values t) (start t) (apart t) (t .loop .i + 1))
-next c =
-    let f = c .before in
-    let p = f .before .before in
-    let t = p .before in
-    c .lower .ensures
-    ∙ ap (lower (t .loop .first) (laneOf (t .loop .i)))
-    (ap (λ (q : Split). q .bad) (f .split-f64 .ensures) ∙ split-bad _ ∙ ap (λ (z : ℤ). isBad (getD (values t) (natAbs z) nan)) (here p))
+-- whether the value is bad
+looked : (c : tie.After-split-f64 Inv-loop μ-loop) → let t = c .before .before .before in
+    c .split-f64 .result .bad ≡ isBad (getD (values t) (natAbs (start t +ℤ apart t *ℤ pos (t .loop .i))) nan)
+looked c =
+    let i = c .before .before in
+    ap (λ (q : Split). q .bad) (c .split-f64 .ensures) ∙ split-bad _ ∙ ap (λ (z : ℤ). isBad (getD (values (i .before)) (natAbs z) nan)) (here i)
+
+-- the lower of two lanes, if it is
+after : (c : tie.After-split-f64 Inv-loop μ-loop) (b : Bool) (k : ℕ) → c .split-f64 .result .bad ≡ b → let t = c .before .before .before in
+    k ≡ lower (t .loop .first) (laneOf (t .loop .i)) b → k ≡ firstBad (strided (values t) (start t) (apart t) (t .loop .i + 1))
+after c b k e q =
+    let t = c .before .before .before in
+    q
+    ∙ ap (lower (t .loop .first) (laneOf (t .loop .i))) (sym e ∙ looked c)
     ∙ first-more (values t) (start t) (apart t) (t .loop .i) (t .loop .first) (t .loop .inv .1)
 
 returns : tie.Need-returns Inv-loop μ-loop
 returns c =
     let q = c .before in
-    let p = q .before .before .before in
-    let t = p .before in
+    let f = q .before .before in
+    let i = f .before .before in
+    let t = i .before in
     let s = entry t in
-    let l : t .loop .i + 1 ≤ s .args .len = (let m = p .loop-test .taken in omega arith) in
-    let e = sym (first-stays (values t) (start t) (apart t) (t .loop .i + 1) (sym (next q) ∙ c .if1 .taken) (s .args .len) l) in
+    let l : t .loop .i + 1 ≤ s .args .len = (let m = i .loop-test .taken in omega arith) in
+    let e = sym (first-stays (values t) (start t) (apart t) (t .loop .i + 1)
+    (sym (after f true (q .min-usize .result) (q .before .if1 .taken) (q .min-usize .ensures)) ∙ c .if2 .taken) (s .args .len) l) in
     simp (toZ-ofZ w64 (s .args .start) (s .fits .start), toZ-ofZ w64 (s .args .stride) (s .fits .stride)) at e
 
-add-i : tie.Need-add-i Inv-loop μ-loop
-add-i c = omega arith
+next : (c : tie.Joined1 Inv-loop μ-loop) → let t = c .before .before .before .before in
+    c .if1 .first ≡ firstBad (strided (values t) (start t) (apart t) (t .loop .i + 1))
+next c =
+    ⊎-elim (λ p. after (c .before) true (c .if1 .first) (p .0 .taken) (p .3 ∙ p .1 .ensures)) (λ p. after (c .before) false (c .if1 .first) (p .0 .left) (p .1))
+    (c .if1 .came)
 
 -- the turn in which the next place is formed
-abbrev turn : tie.Else1 Inv-loop μ-loop → tie.In-loop Inv-loop μ-loop
-turn c = c .before .before .before .before
+abbrev turn : tie.Joined1 Inv-loop μ-loop → tie.In-loop Inv-loop μ-loop
+turn c = c .before .before .before
+
+add-i : tie.Need-add-i Inv-loop μ-loop
+add-i c = let l = turn c .loop-test .taken in omega arith
 
 sub-next-place : tie.Need-sub-next-place Inv-loop μ-loop
 sub-next-place c = let l = turn c .loop-test .taken in omega arith
@@ -132,7 +146,7 @@ loop-again c =
     let t = turn q .before in
     let l = turn q .loop-test .taken in (
       omega arith,
-      next (q .before),
+      next q,
       λ h. toZ-ofZ w64 (c .next-place .result) (record { sfits = c .next-place .ok })
           ∙ c .next-place .ensures .0 (omega arith)
           ∙ ap (λ (z : ℤ). z +ℤ apart t) (here (turn q))
@@ -158,7 +172,7 @@ first-bad-spec =
     mul-split-f64
     shared-slice-read-split-f64
     split-f64-requires
-    lower-requires
+    min-usize-requires
     returns
     add-i
     sub-next-place

@@ -12,12 +12,12 @@ use mir.ValLaws.{toZ-ofZ}
 use Rattle.integers.specs.InnerPlaces.{PlacesFit}
 use Rattle.kernels.specs.Lanes.{feed}
 use Rattle.kernels.specs.InnerStrided.{strided, PlacesInside}
-use Rattle.kernels.proofs.Striding.{length-strided, inside-part, inside-less}
+use Rattle.kernels.proofs.Striding.{inside-part, inside-less}
 use Rattle.vectors.specs.declared.vector.Waiting.{Waiting}
 use Rattle.vectors.specs.InnerWaiting.{vectorOf, waitStep}
 use Rattle.vectors.specs.InnerVectors.{lastVector}
-use Rattle.vectors.proofs.Vectors.{vector-long, vectors-then, wait-again, wait-m-long, wait-least-long, vectors-padded, rest-padded}
-use Rattle.vectors.proofs.Walks.{behind-fits, behind-is}
+use Rattle.vectors.proofs.Vectors.{vector-long, wait-m-long, wait-least-long, vectors-padded}
+use Rattle.vectors.proofs.Walks.{behind-fits, behind-is, rest-fed}
 use Rattle.vectors.proofs.unsplit.wait_values.Statement.{statement}
 use Rattle.vectors.proofs.unsplit.wait_values.Tie as tie
 
@@ -125,13 +125,8 @@ returns-2 c =
     ∙ ap (λ (z : ℤ). vectorOf (strided xs z (toZ w64 (ofZ w64 (s .args .stride))) (n % 8))) (at-is p)
     ∙ ap (λ (z : ℤ). vectorOf (strided xs (rest s) z (n % 8))) (toZ-ofZ w64 (s .args .stride) (s .fits .stride)) in
     let left = q .if1 .left in (
-      vectors-then (waitStep (s .args .signs)) (wait-again (s .args .signs)) (s .args .w) (t .wait-vectors .result .lanes) (c .wait-vector .result) (values s)
-          (vectorOf (strided xs (rest s) (s .args .stride) (n % 8)))
-          (n / 8)
-          (length-strided xs (s .args .start) (s .args .stride) (whole s))
-          (vectors t)
-          (c .wait-vector .ensures ∙ ap (feed (waitStep (s .args .signs)) 0 (t .wait-vectors .result .lanes)) vector)
-          ∙ ap (feed (waitStep (s .args .signs)) 0 (s .args .w)) (rest-padded xs (s .args .start) (s .args .stride) n (q .if1 .left)),
+      rest-fed (s .args .signs) (s .args .w) xs (s .args .start) (s .args .stride) n (t .wait-vectors .result .lanes) (c .wait-vector .result) (q .if1 .left) (vectors t)
+          (c .wait-vector .ensures ∙ ap (feed (waitStep (s .args .signs)) 0 (t .wait-vectors .result .lanes)) vector),
       at-is p ∙ ap (λ (k : ℕ). s .args .start +ℤ s .args .stride *ℤ pos k) (let e : whole s ≡ 8 * ((n - 1) / 8) = omega arith in e),
     )
 
