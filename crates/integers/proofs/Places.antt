@@ -1,5 +1,5 @@
 -- Places a stride apart, and the exponents of a product. Assumes nothing.
-use Prim.Native.Nat.{ℕ, zero, suc, _+_, _*_, _≤_, _<_}
+use Prim.Native.Nat.{ℕ, suc, _+_, _*_, _≤_, _<_}
 use mathlib.Core.Path.{_≡_, sym, ap, _∙_, subst}
 use native.Mathlib.Omega.{arith}
 use lib.IntN.{ℤ, pos, _+ℤ_, _*ℤ_}
@@ -31,12 +31,6 @@ place-one z s = simp ints (simp atoms (omega arith))
 -- the next, if there is one
 pub next-fits : (z s : ℤ) (n : ℕ) → 0 < n → PlacesFit z s (n + 1) → SFits w64 (z +ℤ s)
 next-fits z s n l h = subst (SFits w64) (place-one z s) (h 1 (omega arith))
-
--- a place and the next
-pub fit-two : (z s : ℤ) → SFits w64 z → SFits w64 (z +ℤ s) → PlacesFit z s 2
-fit-two z s f g zero l = subst (SFits w64) (place-first z s) f
-fit-two z s f g (suc zero) l = subst (SFits w64) (sym (place-one z s)) g
-fit-two z s f g (suc (suc i)) l = absurd (omega arith)
 
 -- from number j on
 pub fit-later : (z s at : ℤ) (n j m : ℕ) → at ≡ z +ℤ s *ℤ pos j → j + m ≤ n → PlacesFit z s n → PlacesFit at s m

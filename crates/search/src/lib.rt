@@ -9,6 +9,7 @@ ghost use lib.IntN.{pos, _+ℤ_, _*ℤ_};
 ghost use Rattle.floats.specs.Splitting.{isBad};
 ghost use Rattle.kernels.specs.Lanes.{some};
 ghost use Rattle.kernels.specs.InnerStrided.{strided, PlacesInside};
+ghost use Rattle.vectors.specs.InnerVectors.{EightApart};
 ghost use Rattle.offsets.specs.Elements.{allInside};
 ghost use Rattle.offsets.specs.InnerCursors.{Bounded, Traversal};
 ghost use Rattle.offsets.specs.InnerLists.{steps, runsPlaces};
@@ -63,15 +64,14 @@ fn none_bad(signs: bool) -> Look
 
 // If so, none of the values of these vectors is bad: lanes that begin as 0 are still 0, and not a NaN, so none is infinite or a NaN; and no value, or with
 // `signs` no square, is too low. Otherwise one may be.
-fn passes(values: &[f64], first: i64, stride: i64, vectors: usize, signs: bool) -> bool
-    requires { ⌜ (vectors ≤ 2 ^ 40) × PlacesInside (length (now values)) first stride (8 * vectors) ⌝ }
+fn passes(values: &[f64], first: i64, stride: i64, eight: i64, vectors: usize, signs: bool) -> bool
+    requires { ⌜ EightApart stride (8 * vectors) eight × PlacesInside (length (now values)) first stride (8 * vectors) ⌝ }
     ensures { λ r. ⌜ (r ≡ true → some isBad (strided (now (values .entry)) first stride (8 * vectors)) ≡ false) ⌝ }
 {
     let zero = Waiting {
         m: [0.0; LANES],
         least: [1.0; LANES],
     };
-    let eight = vectors::vector::far_stride(stride, LANES, LANES * vectors);
     let r = vectors::unsplit::wait_vectors(zero, values, first, stride, eight, vectors, signs);
     let w = r.lanes;
     let v = w.m;
@@ -100,7 +100,9 @@ fn look_closer(values: &[f64], element: u64, first: i64, stride: i64, len: usize
             };
         }
         i += 1;
-        at = integers::next_place(at, stride, len - i);
+        if i < len {
+            at += stride;
+        }
     }
     none_bad(true)
 }
@@ -111,13 +113,15 @@ fn first_in_chunk(
     element: u64,
     first: i64,
     stride: i64,
+    eight: i64,
     vectors: usize,
     signs: bool,
 ) -> Look
-    requires { ⌜ (vectors ≤ 2 ^ 40) × (element + 8 * vectors < 2 ^ 64) × PlacesInside (length (now values)) first stride (8 * vectors) ⌝ }
+    requires { ⌜ (vectors ≤ 2 ^ 40) × (element + 8 * vectors < 2 ^ 64) × EightApart stride (8 * vectors) eight
+        × PlacesInside (length (now values)) first stride (8 * vectors) ⌝ }
     ensures { λ r. ⌜ lookAnswer r ≡ lowestBad (now (values .entry)) element (steps first stride (8 * vectors)) ⌝ }
 {
-    if passes(values, first, stride, vectors, signs) {
+    if passes(values, first, stride, eight, vectors, signs) {
         return none_bad(signs);
     }
     look_closer(values, element, first, stride, LANES * vectors)
@@ -129,10 +133,12 @@ fn first_in_vectors(
     element: u64,
     first: i64,
     stride: i64,
+    eight: i64,
     vectors: usize,
     signs: bool,
 ) -> Look
-    requires { ⌜ (vectors ≤ 2 ^ 40) × (element + 8 * vectors < 2 ^ 64) × PlacesInside (length (now values)) first stride (8 * vectors) ⌝ }
+    requires { ⌜ (vectors ≤ 2 ^ 40) × (element + 8 * vectors < 2 ^ 64) × EightApart stride (8 * vectors) eight
+        × PlacesInside (length (now values)) first stride (8 * vectors) ⌝ }
     ensures { λ r. ⌜ lookAnswer r ≡ lowestBad (now (values .entry)) element (steps first stride (8 * vectors)) ⌝ }
 {
     let apart = vectors::vector::far_stride(stride, LANES * CHUNK, LANES * vectors);
@@ -141,14 +147,22 @@ fn first_in_vectors(
     let mut i: usize = 0;
     while i < vectors {
         let n = integers::min_usize(CHUNK, vectors - i);
-        let r = first_in_chunk(values, element + (LANES * i) as u64, at, stride, n, signs);
+        let r = first_in_chunk(
+            values,
+            element + (LANES * i) as u64,
+            at,
+            stride,
+            eight,
+            n,
+            signs,
+        );
         if r.bad {
             return r;
         }
         signs = r.signs;
         i += n;
         if i < vectors {
-            at = integers::next_place(at, apart, 1);
+            at += apart;
         }
     }
     none_bad(signs)
@@ -167,7 +181,8 @@ fn first_in_run(
     ensures { λ r. ⌜ lookAnswer r ≡ lowestBad (now (values .entry)) element (steps first stride len) ⌝ }
 {
     let vectors = len / LANES;
-    let r = first_in_vectors(values, element, first, stride, vectors, signs);
+    let eight = vectors::vector::far_stride(stride, LANES, len);
+    let r = first_in_vectors(values, element, first, stride, eight, vectors, signs);
     if r.bad {
         return r;
     }

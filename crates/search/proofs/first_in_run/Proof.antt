@@ -3,6 +3,7 @@ use Prim.Native.Nat.{ℕ, _+_, _*_, _/_, _%_, _<_}
 use mathlib.Core.Path.{_≡_, refl, sym, _∙_, ap, subst}
 use mathlib.Core.List.{List, _++_}
 use native.Mathlib.Omega.{arith}
+use lib.Dec.{lit≤}
 use lib.ListN.{length}
 use lib.IntN.{ℤ, pos, _+ℤ_, _*ℤ_}
 use lib.Ieee.{Float}
@@ -36,11 +37,17 @@ done s = 8 * (s .args .len / 8)
 inside : (s : tie.Start) → PlacesInside (length (values s)) (first s) (stride s) (s .args .len)
 inside s = simp (toZ-ofZ (s .fits .first), toZ-ofZ (s .fits .stride)) (s .pre .2)
 
+far-stride-requires : tie.Need-far-stride-requires
+far-stride-requires c κs =
+    let s = c .before in
+    (lit≤ tt, λ l. step-fits (length (values s)) (first s) (stride s) (s .args .len) (inside s) 8 l (omega (arith, s .good .0 .1)))
+
 first-in-vectors-requires : tie.Need-first-in-vectors-requires
 first-in-vectors-requires c κs =
-    let s = c .before in (
+    let s = c .before .before in (
       omega (arith, s .pre .0),
       omega (arith, s .pre .1),
+      λ l. toZ-ofZ (record { sfits = c .far-stride .ok }) ∙ c .far-stride .ensures (omega arith),
       inside-less (length (values s)) (first s) (stride s) (s .args .len) (done s) (inside s) (omega arith),
     )
 
@@ -54,57 +61,57 @@ cut s =
 returns : tie.Need-returns
 returns c =
     let r = c .before in
-    let s = r .before .before in
+    let s = r .before .before .before in
     let e = met (values s) (s .args .element) _ _ _ (cut s) _ refl (r .first-in-vectors .result) (r .first-in-vectors .ensures) (c .if1 .taken) in
     simp (toZ-ofZ (s .fits .first), toZ-ofZ (s .fits .stride)) at e
 
 returns-2 : tie.Need-returns-2
 returns-2 c =
     let r = c .before .before in
-    let s = r .before .before in
+    let s = r .before .before .before in
     let h = c .if2 .taken in
     let e = r .first-in-vectors .ensures
     ∙ ap (λ (n : ℕ). lowestBad (values s) (s .args .element) (steps (first s) (stride s) n)) (let k : done s ≡ s .args .len = omega arith in k) in
     simp (toZ-ofZ (s .fits .first), toZ-ofZ (s .fits .stride)) at e
 
 mul-done : tie.Need-mul-done
-mul-done c = let s = c .before .before .before .before in omega (arith, s .pre .0)
+mul-done c = let s = c .before .before .before .before .before in omega (arith, s .pre .0)
 
 -- some values are left
-some-left : (c : tie.Else2) → let s = c .before .before .before .before in done s < s .args .len
+some-left : (c : tie.Else2) → let s = c .before .before .before .before .before in done s < s .args .len
 some-left c = let h = c .if2 .left in omega arith
 
-far-stride-requires : tie.Need-far-stride-requires
-far-stride-requires c κs =
-    let s = c .before .before .before .before in (
+far-stride-requires-2 : tie.Need-far-stride-requires-2
+far-stride-requires-2 c κs =
+    let s = c .before .before .before .before .before in (
       omega (arith, s .pre .0),
       λ l. step-fits (length (values s)) (first s) (stride s) (s .args .len) (inside s) (done s) l (omega (arith, s .good .0 .1)),
     )
 
 -- the place of the next
-next : (c : tie.After-far-stride) → let s = c .before .before .before .before .before in
-    first s +ℤ toZ w64 (ofZ w64 (c .far-stride .result)) ≡ first s +ℤ stride s *ℤ pos (done s)
+next : (c : tie.After-far-stride2) → let s = c .before .before .before .before .before .before in
+    first s +ℤ toZ w64 (ofZ w64 (c .far-stride2 .result)) ≡ first s +ℤ stride s *ℤ pos (done s)
 next c =
-    let s = c .before .before .before .before .before in
-    ap (λ (z : ℤ). first s +ℤ z) (toZ-ofZ (record { sfits = c .far-stride .ok }) ∙ c .far-stride .ensures (some-left (c .before)))
+    let s = c .before .before .before .before .before .before in
+    ap (λ (z : ℤ). first s +ℤ z) (toZ-ofZ (record { sfits = c .far-stride2 .ok }) ∙ c .far-stride2 .ensures (some-left (c .before)))
 
 add-at : tie.Need-add-at
 add-at c =
-    let s = c .before .before .before .before .before in
+    let s = c .before .before .before .before .before .before in
     subst (SFits w64) (sym (next c))
     (place-fits (length (values s)) (first s) (stride s) (s .args .len) (inside s) (done s) (some-left (c .before)) (omega (arith, s .good .0 .1)))
 
 -- the same, as the code holds it
-at-is : (c : tie.After-far-stride) → let s = c .before .before .before .before .before in
-    toZ w64 (ofZ w64 (first s +ℤ toZ w64 (ofZ w64 (c .far-stride .result)))) ≡ first s +ℤ stride s *ℤ pos (done s)
+at-is : (c : tie.After-far-stride2) → let s = c .before .before .before .before .before .before in
+    toZ w64 (ofZ w64 (first s +ℤ toZ w64 (ofZ w64 (c .far-stride2 .result)))) ≡ first s +ℤ stride s *ℤ pos (done s)
 at-is c = toZ-ofZ (add-at c) ∙ next c
 
 add-look-closer : tie.Need-add-look-closer
-add-look-closer c = let s = c .before .before .before .before .before in omega (arith, s .pre .1)
+add-look-closer c = let s = c .before .before .before .before .before .before in omega (arith, s .pre .1)
 
 look-closer-requires : tie.Need-look-closer-requires
 look-closer-requires c κs =
-    let s = c .before .before .before .before .before in (
+    let s = c .before .before .before .before .before .before in (
       omega (arith, s .pre .1),
       subst (λ (z : ℤ). PlacesInside (length (values s)) z (stride s) (s .args .len % 8)) (sym (at-is c))
           (inside-part (length (values s)) (first s) (stride s) (s .args .len) (done s) (s .args .len % 8) (inside s) (omega arith)),
@@ -115,7 +122,7 @@ returns-3 c =
     let p = c .before in
     let f = p .before .before in
     let r = f .before in
-    let s = r .before .before in
+    let s = r .before .before .before in
     let e = c .look-closer .ensures
     ∙ ap (λ (z : ℤ). lowestBad (values s) (s .args .element + done s) (steps z (stride s) (s .args .len % 8))) (at-is p)
     ∙ passed (values s) (s .args .element) _ _ _ (cut s) _ refl (r .first-in-vectors .result) (r .first-in-vectors .ensures) (f .if1 .left)
@@ -126,11 +133,12 @@ pub first-in-run-spec : {M : Type 1} → statement M
 first-in-run-spec =
     tie.close
     (tie.spec
+    far-stride-requires
     first-in-vectors-requires
     returns
     returns-2
     mul-done
-    far-stride-requires
+    far-stride-requires-2
     add-at
     add-look-closer
     look-closer-requires

@@ -12,10 +12,10 @@ use mir.Val.{toZ, ofZ, SFits}
 use mir.Facts.{toZ-ofZ}
 use mir.Syntax.{w64}
 use borrow.Author.Needs.{needs}
-use Rattle.integers.specs.InnerPlaces.{PlacesFit}
-use Rattle.integers.proofs.Places.{place-first, place-sum, fit-two}
+use Rattle.integers.proofs.Places.{place-first, place-sum}
 use Rattle.kernels.specs.InnerStrided.{PlacesInside}
 use Rattle.kernels.proofs.Striding.{inside-part}
+use Rattle.vectors.specs.InnerVectors.{EightApart}
 use Rattle.vectors.proofs.Vectorwise.{place-fits, step-fits}
 use Rattle.offsets.specs.InnerLists.{steps}
 use Rattle.offsets.proofs.Writing.{length-steps}
@@ -26,14 +26,14 @@ use Rattle.search.proofs.first_in_vectors.Statement.{statement}
 use Rattle.search.proofs.first_in_vectors.Tie as tie
 
 abbrev Inv-loop : tie.InvT-loop
-Inv-loop values element first stride vectors signs apart signs₀ at₀ i₀ signs' at i =
+Inv-loop values element first stride eight vectors signs apart signs₀ at₀ i₀ signs' at i =
     (i ≤ vectors)
     × (i < vectors → toZ w64 at ≡ toZ w64 first +ℤ toZ w64 stride *ℤ pos (8 * i))
     × (lowestBad values (element + 8 * i) (steps (toZ w64 first +ℤ toZ w64 stride *ℤ pos (8 * i)) (toZ w64 stride) (8 * vectors - 8 * i))
     ≡ lowestBad values element (steps (toZ w64 first) (toZ w64 stride) (8 * vectors)))
 
 abbrev μ-loop : tie.MeasureT-loop
-μ-loop values element first stride vectors signs apart signs₀ at₀ i₀ signs' at i = vectors - i
+μ-loop values element first stride eight vectors signs apart signs₀ at₀ i₀ signs' at i = vectors - i
 
 -- a turn of the loop, as it is entered: the entry, and its numbers as the code holds them
 abbrev entry : tie.At-loop Inv-loop μ-loop → tie.Start Inv-loop μ-loop
@@ -54,7 +54,7 @@ all s = 8 * s .args .vectors
 
 -- what is required, of the numbers as the code holds them
 inside : (s : tie.Start Inv-loop μ-loop) → PlacesInside (length (values s)) (first s) (stride s) (all s)
-inside s = simp (toZ-ofZ (s .fits .first), toZ-ofZ (s .fits .stride)) (s .pre .2)
+inside s = simp (toZ-ofZ (s .fits .first), toZ-ofZ (s .fits .stride)) (s .pre .3)
 
 mul-far-stride : tie.Need-mul-far-stride Inv-loop μ-loop
 mul-far-stride c = omega arith
@@ -124,10 +124,15 @@ mul-first-in-chunk c = omega (arith, s c .pre .1, ends c)
 add-first-in-chunk : tie.Need-add-first-in-chunk Inv-loop μ-loop
 add-first-in-chunk c = omega (arith, s c .pre .1, ends c)
 
+-- the stride of eight values, as the code holds it
+eight-held : (c : tie.After-min-usize Inv-loop μ-loop) → EightApart (stride (s c)) (all (s c)) (toZ w64 (ofZ w64 (s c .args .eight)))
+eight-held c = simp (toZ-ofZ (s c .fits .stride), toZ-ofZ (s c .fits .eight)) (s c .pre .2)
+
 first-in-chunk-requires : tie.Need-first-in-chunk-requires Inv-loop μ-loop
 first-in-chunk-requires c κs = (
   omega (arith, s c .pre .0, ends c),
   omega (arith, s c .pre .1, ends c),
+  λ l. eight-held c (omega (arith, l, ends c)),
   subst (λ (z : ℤ). PlacesInside (length (values (s c))) z (stride (s c)) (8 * n c)) (sym (at-is c))
       (inside-part (length (values (s c))) (first (s c)) (stride (s c)) (all (s c)) (8 * i c) (8 * n c) (inside (s c)) (omega (arith, ends c))),
 )
@@ -184,28 +189,24 @@ next c =
     ∙ place-sum (first (s m)) (stride (s m)) (8 * i m) 2048
     ∙ ap (λ (k : ℕ). first (s m) +ℤ stride (s m) *ℤ pos k) (let e : 8 * i m + 2048 ≡ 8 * (i m + n m) = omega arith in e)
 
-fits : (s : tie.Start Inv-loop μ-loop) → PlacesFit (first s) (stride s) (all s)
-fits s i l = place-fits (length (values s)) (first s) (stride s) (all s) (inside s) i l (omega (arith, s .good .0 .1))
+-- the same, of what the code holds
+next-held : (c : tie.Then2 Inv-loop μ-loop) → let m = c .before .before .before in
+    toZ w64 (t m .loop .at) +ℤ toZ w64 (ofZ w64 (t m .before .far-stride .result)) ≡ first (s m) +ℤ stride (s m) *ℤ pos (8 * (i m + n m))
+next-held c = let m = c .before .before .before in ap (λ (z : ℤ). toZ w64 (t m .loop .at) +ℤ z) (apart c) ∙ next c
 
-next-place-requires : tie.Need-next-place-requires Inv-loop μ-loop
-next-place-requires c κs l =
+add-at : tie.Need-add-at Inv-loop μ-loop
+add-at c =
     let m = c .before .before .before in
     let h = c .if2 .taken in
-    subst (λ (z : ℤ). PlacesFit (toZ w64 (t m .loop .at)) z 2) (sym (apart c))
-    (fit-two (toZ w64 (t m .loop .at)) (stride (s m) *ℤ pos 2048) (subst (SFits w64) (sym (at-is m)) (fits (s m) (8 * i m) (omega arith)))
-    (subst (SFits w64) (sym (next c)) (fits (s m) (8 * (i m + n m)) (omega arith))))
+    subst (SFits w64) (sym (next-held c))
+    (place-fits (length (values (s m))) (first (s m)) (stride (s m)) (all (s m)) (inside (s m)) (8 * (i m + n m)) (omega arith)
+    (omega (arith, s m .good .0 .1)))
 
 loop-less : tie.Need-loop-less Inv-loop μ-loop
-loop-less c = let m = c .before .before .before .before in omega (arith, some m, ends m)
+loop-less c = let m = c .before .before .before in omega (arith, some m, ends m)
 
 loop-again : tie.Need-loop-again Inv-loop μ-loop
-loop-again c =
-    let q = c .before in
-    let m = q .before .before .before in (
-      ends m,
-      λ h. toZ-ofZ (record { sfits = c .next-place .ok }) ∙ c .next-place .ensures .0 (omega arith) ∙ ap (λ (z : ℤ). toZ w64 (t m .loop .at) +ℤ z) (apart q) ∙ next q,
-      left (q .before),
-    )
+loop-again c = (ends (c .before .before .before), λ h. toZ-ofZ (add-at c) ∙ next-held c, left (c .before))
 
 loop-less-2 : tie.Need-loop-less-2 Inv-loop μ-loop
 loop-less-2 c = let m = c .before .before .before in omega (arith, some m, ends m)
@@ -245,7 +246,7 @@ first-in-vectors-spec =
     first-in-chunk-requires
     returns
     add-i
-    next-place-requires
+    add-at
     loop-less
     loop-again
     loop-less-2

@@ -9,7 +9,7 @@ use lib.Dec.{T}
 use lib.IntN.{ℤ, pos, natAbs, _+ℤ_, _*ℤ_}
 use lib.Signed.{nonNeg}
 use lib.Ieee.{Float}
-use mir.Val.{toZ, ofZ}
+use mir.Val.{toZ, ofZ, SFits}
 use mir.Facts.{toZ-ofZ}
 use mir.Syntax.{w64}
 use borrow.Author.Needs.{needs}
@@ -18,7 +18,7 @@ use Rattle.floats.specs.declared.Split.{Split}
 use Rattle.floats.specs.Splitting.{isBad}
 use Rattle.floats.proofs.Splitting.{split-bad}
 use Rattle.kernels.specs.InnerStrided.{PlacesInside}
-use Rattle.vectors.proofs.Vectorwise.{place-natural, place-below, fits-from}
+use Rattle.vectors.proofs.Vectorwise.{place-fits, place-natural, place-below}
 use Rattle.offsets.specs.InnerLists.{steps}
 use Rattle.offsets.specs.Values.{valueAt}
 use Rattle.search.specs.Searching.{found, lowestBad}
@@ -111,7 +111,14 @@ returns c =
 add-i : tie.Need-add-i Inv-loop μ-loop
 add-i c = omega arith
 
--- what is left
+-- the place of the next value, and what is left
+next : (c : tie.Else1 Inv-loop μ-loop) → let t = c .before .before .before .before in
+    toZ w64 (t .loop .at) +ℤ apart t ≡ first t +ℤ apart t *ℤ pos (t .loop .i + 1)
+next c =
+    let i = c .before .before .before in
+    let t = i .before in
+    ap (λ (z : ℤ). z +ℤ apart t) (here i) ∙ place-next (first t) (apart t) (t .loop .i)
+
 left : (c : tie.Else1 Inv-loop μ-loop) → let t = c .before .before .before .before in
     lowestBad (values t) (entry t .args .element + (t .loop .i + 1))
     (steps (first t +ℤ apart t *ℤ pos (t .loop .i + 1)) (apart t) (entry t .args .len - (t .loop .i + 1)))
@@ -126,35 +133,23 @@ left c =
     ∙ good-next (values t) (s .args .element + t .loop .i) _ (first t +ℤ apart t *ℤ pos (t .loop .i)) _
     (run-next (first t) (apart t) (s .args .len) (t .loop .i) (i .loop-test .taken)) _ (t .loop .inv .2) (sym (looked q) ∙ c .if1 .left)
 
--- the turn in which the next place is formed
-abbrev turn : tie.Else1 Inv-loop μ-loop → tie.In-loop Inv-loop μ-loop
-turn c = c .before .before .before
-
-sub-next-place : tie.Need-sub-next-place Inv-loop μ-loop
-sub-next-place c = let l = turn c .loop-test .taken in omega arith
-
-next-place-requires : tie.Need-next-place-requires Inv-loop μ-loop
-next-place-requires c κs l =
-    let t = turn c .before in
-    let n = entry t .args .len in
-    fits-from (length (values t)) (first t) (apart t) n (inside t) (omega (arith, entry t .good .0 .1)) (toZ w64 (t .loop .at)) (t .loop .i) _ (here (turn c))
-    (omega arith)
+add-at : tie.Need-add-at Inv-loop μ-loop
+add-at c =
+    let t = c .before .before .before .before .before in
+    subst (SFits w64) (sym (next (c .before)))
+    (place-fits (length (values t)) (first t) (apart t) (entry t .args .len) (inside t) (t .loop .i + 1) (c .if2 .taken) (omega (arith, entry t .good .0 .1)))
 
 loop-less : tie.Need-loop-less Inv-loop μ-loop
-loop-less c = let l = turn (c .before) .loop-test .taken in omega arith
+loop-less c = omega arith
 
 loop-again : tie.Need-loop-again Inv-loop μ-loop
-loop-again c =
-    let q = c .before in
-    let t = turn q .before in
-    let l = turn q .loop-test .taken in (
-      omega arith,
-      λ h. toZ-ofZ (record { sfits = c .next-place .ok })
-          ∙ c .next-place .ensures .0 (omega arith)
-          ∙ ap (λ (z : ℤ). z +ℤ apart t) (here (turn q))
-          ∙ place-next (first t) (apart t) (t .loop .i),
-      left q,
-    )
+loop-again c = (omega arith, λ h. toZ-ofZ (add-at c) ∙ next (c .before), left (c .before))
+
+loop-less-2 : tie.Need-loop-less-2 Inv-loop μ-loop
+loop-less-2 c = omega arith
+
+loop-again-2 : tie.Need-loop-again-2 Inv-loop μ-loop
+loop-again-2 c = (omega arith, λ h. absurd (omega arith), left (c .before))
 
 none-bad-requires : tie.Need-none-bad-requires Inv-loop μ-loop
 none-bad-requires c κs = search needs
@@ -183,9 +178,10 @@ look-closer-spec =
     add-number
     returns
     add-i
-    sub-next-place
-    next-place-requires
+    add-at
     loop-less
     loop-again
+    loop-less-2
+    loop-again-2
     none-bad-requires
     returns-2)

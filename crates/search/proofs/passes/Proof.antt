@@ -3,46 +3,25 @@ use Prim.Native.Nat.{_*_}
 use mathlib.Core.Path.{_≡_, refl, sym, ap, _∙_}
 use mathlib.Core.Bool.{false}
 use mathlib.Core.List.{List}
-use native.Mathlib.Omega.{arith}
 use lib.ListN.{length, replicate}
 use lib.Dec.{lit≤}
 use lib.IntN.{pos}
 use lib.Ieee.{Float, fin, ofBits}
-use mir.Val.{toZ, ofZ}
 use mir.Facts.{toZ-ofZ}
-use mir.Syntax.{w64}
 use Rattle.laws.proofs.Tests.{and-both}
 use Rattle.kernels.specs.Lanes.{feed, every}
 use Rattle.kernels.specs.InnerStrided.{strided}
 use Rattle.kernels.proofs.Striding.{strided-values}
 use Rattle.vectors.specs.declared.vector.Waiting.{Waiting}
 use Rattle.vectors.specs.InnerWaiting.{one, waitStep, leastOf, notBelow, notPast}
-use Rattle.vectors.specs.InnerVectors.{EightApart}
-use Rattle.vectors.proofs.Vectorwise.{step-fits}
 use Rattle.vectors.proofs.Vectors.{wait-m-long, wait-least-long}
 use Rattle.search.proofs.Passing.{passed-good}
 use Rattle.search.proofs.passes.Statement.{statement}
 use Rattle.search.proofs.passes.Tie as tie
 
-mul-far-stride : tie.Need-mul-far-stride
-mul-far-stride c = omega (arith, c .before .pre .0)
-
-far-stride-requires : tie.Need-far-stride-requires
-far-stride-requires c κs =
-    let s = c .before in (
-      lit≤ tt,
-      λ l. simp (toZ-ofZ (s .fits .stride))
-          (step-fits (length (s .args .values .now)) (s .args .first) (s .args .stride) (8 * s .args .vectors) (s .pre .1) 8 l (omega (arith, s .good .0 .1))),
-    )
-
--- the stride of eight values, as the code holds it
-eight : (c : tie.After-far-stride) → let s = c .before .before in EightApart (s .args .stride) (8 * s .args .vectors) (toZ w64 (ofZ w64 (c .far-stride .result)))
-eight c l =
-    let s = c .before .before in toZ-ofZ (record { sfits = c .far-stride .ok }) ∙ simp (toZ-ofZ (s .fits .stride)) at (c .far-stride .ensures l)
-
 wait-vectors-requires : tie.Need-wait-vectors-requires
 wait-vectors-requires c κs =
-    let s = c .before .before in simp (toZ-ofZ (s .fits .first), toZ-ofZ (s .fits .stride)) (refl, refl, eight c, s .pre .1)
+    let s = c .before in simp (toZ-ofZ (s .fits .first), toZ-ofZ (s .fits .stride), toZ-ofZ (s .fits .eight)) (refl, refl, s .pre .0, s .pre .1)
 
 -- the values, and the lanes after them
 abbrev tested : tie.Start → List Float
@@ -52,9 +31,9 @@ tested s = strided (s .args .values .now) (s .args .first) (s .args .stride) (8 
 abbrev began : Waiting
 began = record { m = replicate 8 (fin false 0 (pos 0)); least = replicate 8 one }
 
-waited : (c : tie.After-wait-vectors) → let s = c .before .before .before in c .wait-vectors .result .lanes ≡ feed (waitStep (s .args .signs)) 0 began (tested s)
+waited : (c : tie.After-wait-vectors) → let s = c .before .before in c .wait-vectors .result .lanes ≡ feed (waitStep (s .args .signs)) 0 began (tested s)
 unfolding ofBits
-waited c = let s = c .before .before .before in simp (toZ-ofZ (s .fits .first), toZ-ofZ (s .fits .stride)) at (c .wait-vectors .ensures .0)
+waited c = let s = c .before .before in simp (toZ-ofZ (s .fits .first), toZ-ofZ (s .fits .stride)) at (c .wait-vectors .ensures .0)
 
 least-of-requires : tie.Need-least-of-requires
 least-of-requires c κs = (lit≤ tt, lit≤ tt)
@@ -70,11 +49,11 @@ returns c h =
     let b = c .before in
     let l = b .before in
     let w = l .before .before .before in
-    let s = w .before .before .before in
+    let s = w .before .before in
     let signs = s .args .signs in
     let both = and-both _ _ h in
     passed-good signs began refl refl (tested s)
-    (strided-values (s .args .values .now) (w .before .before .shared-slice-known .given) (s .args .first) (s .args .stride) (8 * s .args .vectors))
+    (strided-values (s .args .values .now) (w .before .shared-slice-known .given) (s .args .first) (s .args .stride) (8 * s .args .vectors))
     (ap (λ (u : Waiting). every (notBelow (leastOf signs 511)) (u .least)) (sym (waited w))
     ∙ ap (λ (z : Float). every (notBelow z) (w .wait-vectors .result .lanes .least)) (sym (l .least-of .ensures))
     ∙ sym (b .none-below .ensures)
@@ -85,8 +64,6 @@ pub passes-spec : {M : Type 1} → statement M
 passes-spec =
     tie.close
     (tie.spec
-    mul-far-stride
-    far-stride-requires
     wait-vectors-requires
     least-of-requires
     none-below-requires
