@@ -38,9 +38,10 @@ module _ (es : List ℕ) (ts : List ℤ) (w : Whole es ts) where
   -- one outer axis more
   pub outer-more : (i : ℕ) → 1 ≤ i → i < PLACES
       → set (placesOf PLACES (drop 1 (held i es ts))) (i - 1) (axisOf (getD es i 0) (getD ts i (pos 0))) ≡ placesOf PLACES (drop 1 (held (i + 1) es ts))
+  unfolding placesOf
   outer-more i h k =
       ap (λ (n : ℕ). set (placesOf PLACES (drop 1 (held i es ts))) n a) (sym short)
-      ∙ pushed (drop 1 (held i es ts)) a (omega (arith, short))
+      ∙ pushed PLACES noAxis (drop 1 (held i es ts)) a (omega (arith, short))
       ∙ ap (placesOf PLACES) (sym (drop-append-le 1 (held i es ts) (a ∷ []) (omega (arith, all))))
       ∙ ap (λ (l : List ReduceOuterAxis). placesOf PLACES (drop 1 l)) (sym (held-more es ts i (omega (arith, w .0)) (omega (arith, w .1))))
     where

@@ -10,27 +10,31 @@ use lib.ListN.{List·getD-append}
 use lib.Seq.{take-suc, length-take-le, set-at, drop-cons, getD-take, take-take, take-at}
 use lib.IntN.{ℤ, pos}
 use Rattle.layout.specs.declared.axis.ReduceOuterAxis.{ReduceOuterAxis}
-use Rattle.layout.specs.Axes.{PLACES, noAxis, placesOf, axisOf}
+use Rattle.layout.specs.Axes.{PLACES, noAxis, padded, placesOf, axisOf}
 use Rattle.layout.specs.InnerTables.{axesIn, held, opened}
+
+-- ---- a table with some of its places taken
+module _ {A : Type 0} (places : ℕ) (z : A) (xs : List A) where
+  pub length-padded : length xs ≤ places → length (padded places z xs) ≡ places
+  length-padded h = simp (length-append, length-replicate) (omega arith)
+
+  -- the store behind those that it holds
+  pub pushed : (a : A) → length xs < places → set (padded places z xs) (length xs) a ≡ padded places z (xs ++ a ∷ [])
+  pushed a k =
+      ap (λ (m : ℕ). set (xs ++ replicate m z) (length xs) a) e
+      ∙ set-at xs z (replicate (places - suc (length xs)) z) a (length xs) refl
+      ∙ sym (append-assoc xs (a ∷ []) (replicate (places - suc (length xs)) z))
+      ∙ ap (λ (m : ℕ). xs ++ a ∷ [] ++ replicate (places - m) z) (sym longer)
+    where
+      e : places - length xs ≡ suc (places - suc (length xs))
+      e = omega arith
+
+      longer : length (xs ++ a ∷ []) ≡ suc (length xs)
+      longer = simp length-append (omega arith)
 
 pub length-placesOf : (xs : List ReduceOuterAxis) → length xs ≤ PLACES → length (placesOf PLACES xs) ≡ PLACES
 unfolding placesOf
-length-placesOf xs h = simp (length-append, length-replicate) (omega arith)
-
--- the store behind the axes that are held
-pub pushed : (xs : List ReduceOuterAxis) (a : ReduceOuterAxis) → length xs < PLACES → set (placesOf PLACES xs) (length xs) a ≡ placesOf PLACES (xs ++ a ∷ [])
-unfolding placesOf
-pushed xs a k =
-    ap (λ (m : ℕ). set (xs ++ replicate m noAxis) (length xs) a) e
-    ∙ set-at xs noAxis (replicate (PLACES - suc (length xs)) noAxis) a (length xs) refl
-    ∙ sym (append-assoc xs (a ∷ []) (replicate (PLACES - suc (length xs)) noAxis))
-    ∙ ap (λ (m : ℕ). xs ++ a ∷ [] ++ replicate (PLACES - m) noAxis) (sym longer)
-  where
-    e : PLACES - length xs ≡ suc (PLACES - suc (length xs))
-    e = omega arith
-
-    longer : length (xs ++ a ∷ []) ≡ suc (length xs)
-    longer = simp length-append (omega arith)
+length-placesOf = length-padded PLACES noAxis
 
 -- ---- the first n places of a list: none is past them, and those before the n-th are inside
 module _ {A : Type 0} (l : List A) (n : ℕ) where

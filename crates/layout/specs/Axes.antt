@@ -27,6 +27,10 @@ resetFits n s = fitsI64 (pos (n - 1)) && fitsI64 (span n s) && fitsI64 (negℤ (
 abbrev pub noAxis : ReduceOuterAxis
 noAxis = record { extent = 0; «source_step» = pos 0; «source_reset» = pos 0 }
 
--- a table of so many places, with these axes in its first ones
+-- a table of so many places, with these in its first ones and z in each of the others
+abbrev pub padded : {A : Type 0} → ℕ → A → List A → List A
+padded places z xs = xs ++ replicate (places - length xs) z
+
+-- a table of axes
 unfoldable pub placesOf : ℕ → List ReduceOuterAxis → List ReduceOuterAxis
-placesOf places xs = xs ++ replicate (places - length xs) noAxis
+placesOf places xs = padded places noAxis xs
