@@ -13,7 +13,8 @@ use Rattle.offsets.specs.Values.{visitedRates}
 use Rattle.floats.specs.Splitting.{isBad}
 use Rattle.accumulator.specs.declared.StableProductFloatAcc.{StableProductFloatAcc}
 use Rattle.accumulator.specs.Joining.{factorOfAcc}
-use Rattle.kernels.specs.Lanes.{Each, some}
+use Rattle.laws.specs.Lists.{Each}
+use Rattle.kernels.specs.Lanes.{some}
 use Rattle.finishing.specs.Once.{roundedOnce}
 use Rattle.finishing.specs.Finishing.{value, valueOfAcc}
 use Rattle.reduction.specs.Ranges.{rangeProduct}

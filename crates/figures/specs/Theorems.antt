@@ -14,7 +14,8 @@ use Rattle.offsets.specs.Values.{visitedRates}
 use Rattle.floats.specs.Splitting.{isBad}
 use Rattle.accumulator.specs.declared.Reduced.{Reduced}
 use Rattle.accumulator.specs.Joining.{answerOf, factorOfAcc}
-use Rattle.kernels.specs.Lanes.{Each, some}
+use Rattle.laws.specs.Lists.{Each}
+use Rattle.kernels.specs.Lanes.{some}
 use Rattle.kernels.specs.Plain.{plainProduct}
 use Rattle.kernels.specs.Pieces.{patternsOf, accOf}
 use Rattle.finishing.specs.Once.{roundedOnce}

@@ -17,7 +17,8 @@ use Rattle.floats.proofs.Factor.{times-normal}
 use Rattle.floats.proofs.Fields.{factor-normal}
 use Rattle.accumulator.specs.declared.StableProductFloatAcc.{StableProductFloatAcc}
 use Rattle.accumulator.specs.Joining.{combined, withinLimit, inLimits}
-use Rattle.kernels.specs.Lanes.{Each, none, more, some}
+use Rattle.laws.specs.Lists.{Each, none, more}
+use Rattle.kernels.specs.Lanes.{some}
 use Rattle.kernels.specs.Plain.{plainPiece, listProduct, plainProduct}
 use Rattle.kernels.specs.InnerPlain.{pieceProduct}
 use Rattle.kernels.proofs.Plain.{plain-piece}

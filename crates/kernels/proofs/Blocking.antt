@@ -19,7 +19,8 @@ use Rattle.floats.proofs.Splitting.{split-bad}
 use Rattle.accumulator.specs.declared.StableProductFloatAcc.{StableProductFloatAcc}
 use Rattle.accumulator.specs.Joining.{identityAcc}
 use Rattle.kernels.specs.declared.lanes.Lanes.{Lanes}
-use Rattle.kernels.specs.Lanes.{Each, none, more, feed, laneOf, every, some}
+use Rattle.laws.specs.Lists.{Each, none, more}
+use Rattle.kernels.specs.Lanes.{feed, laneOf, every, some}
 use Rattle.kernels.specs.InnerPlain.{laneTimes, lanes, pieceProduct}
 use Rattle.kernels.specs.InnerLanes.{inBounds}
 use Rattle.kernels.specs.Blocks.{startLanes, mOf, eOf, unsplitStep, splitStep, renormLane, renorm, unsplit, block, blocks, laneIn, lanesIn}

@@ -23,7 +23,8 @@ use Rattle.accumulator.specs.declared.StableProductFloatAcc.{StableProductFloat
 use Rattle.accumulator.specs.Joining.{identityAcc, combined}
 use Rattle.accumulator.proofs.Combining.{combined-bad, combined-good}
 use Rattle.accumulator.proofs.Joins.{multiplied-unit, multiplied-fits}
-use Rattle.kernels.specs.Lanes.{Each, none, more, feed, laneOf, inOrder}
+use Rattle.laws.specs.Lists.{Each, none, more}
+use Rattle.kernels.specs.Lanes.{feed, laneOf, inOrder}
 use Rattle.kernels.specs.InnerPlain.{laneTimes, lanes, pieceProduct}
 use Rattle.kernels.specs.Stepped.{rateAcc, accAt, laneJoined, steppedLanes, lanesJoined, stepped}
 use Rattle.kernels.specs.InnerStepped.{Sound}

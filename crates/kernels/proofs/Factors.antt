@@ -8,7 +8,8 @@ use lib.ListN.{length, getD, set, replicate, length-set, length-replicate, getD-
 use lib.Seq.{getD-set-same, getD-set-other}
 use Rattle.floats.specs.Factor.{Factor, Normalised, unit, times}
 use Rattle.floats.proofs.Factor.{unit-normal, times-normal}
-use Rattle.kernels.specs.Lanes.{Each, laneOf}
+use Rattle.laws.specs.Lists.{Each}
+use Rattle.kernels.specs.Lanes.{laneOf}
 use Rattle.kernels.specs.InnerPlain.{laneTimes, lanes, pieceProduct}
 use Rattle.kernels.proofs.Feeding.{feed-keeps, order-keeps}
 

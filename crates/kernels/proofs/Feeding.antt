@@ -10,7 +10,8 @@ use native.Mathlib.Omega.{arith}
 use lib.ListN.{length, getD, set, take, drop, drop-of-length-le}
 use lib.Seq.{drop-cons}
 use Rattle.laws.proofs.Tests.{and-both}
-use Rattle.kernels.specs.Lanes.{Each, none, more, feed, inOrder, every, some}
+use Rattle.laws.specs.Lists.{Each, none, more}
+use Rattle.kernels.specs.Lanes.{feed, inOrder, every, some}
 
 -- ---- feeding
 -- two states, kept in step: value x goes to the one, g x to the other, with the numbers from i up to n

@@ -19,7 +19,8 @@ use Rattle.floats.proofs.Splitting.{rate-normal}
 use Rattle.accumulator.specs.declared.StableProductFloatAcc.{StableProductFloatAcc}
 use Rattle.accumulator.specs.Joining.{identityAcc, combined}
 use Rattle.accumulator.proofs.Combining.{combined-bad}
-use Rattle.kernels.specs.Lanes.{Each, none, more, feed, laneOf, inOrder, some}
+use Rattle.laws.specs.Lists.{Each, none, more}
+use Rattle.kernels.specs.Lanes.{feed, laneOf, inOrder, some}
 use Rattle.kernels.specs.InnerPlain.{laneTimes, lanes, pieceProduct}
 use Rattle.kernels.specs.Stepped.{rateAcc, accAt, laneJoined, steppedLanes, lanesJoined, stepped}
 use Rattle.kernels.specs.InnerStepped.{lower, badStep, firstBad}

@@ -15,7 +15,7 @@ use mir.ValLaws.{toZ-ofZ}
 use mir.Syntax.{w64}
 use Rattle.integers.proofs.Places.{place-first}
 use Rattle.integers.proofs.Difference.{ints, atoms}
-use Rattle.kernels.specs.Lanes.{Each, none, more}
+use Rattle.laws.specs.Lists.{Each, none, more}
 use Rattle.kernels.specs.InnerStrided.{strided, PlacesInside}
 use Rattle.kernels.proofs.Blocking.{Value}
 

@@ -25,8 +25,3 @@ every p (x ∷ xs) = p x && every p xs
 unfoldable pub some : {X : Type 0} → (X → Bool) → List X → Bool
 some p [] = false
 some p (x ∷ xs) = p x || some p xs
-
--- every value of a list is one of P
-pub data Each {X : Type 0} (P : X → Type 0) : List X → Type 0 where
-  none : Each P []
-  more : {x : X} {xs : List X} → P x → Each P xs → Each P (x ∷ xs)

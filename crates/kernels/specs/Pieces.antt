@@ -12,7 +12,7 @@ use Rattle.floats.specs.Magnitude.{withExponent}
 use Rattle.floats.specs.Splitting.{bitsOf, isBad}
 use Rattle.accumulator.specs.declared.StableProductFloatAcc.{StableProductFloatAcc}
 use Rattle.accumulator.specs.Joining.{identityAcc, combined}
-use Rattle.kernels.specs.Lanes.{Each}
+use Rattle.laws.specs.Lists.{Each}
 use Rattle.kernels.specs.Stepped.{stepped}
 use Rattle.kernels.specs.Blocks.{contiguous}
 

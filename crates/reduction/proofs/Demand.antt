@@ -19,7 +19,8 @@ use Rattle.offsets.specs.Pieces.{runOf, outerOf, pieceLength}
 use Rattle.offsets.specs.Lists.{offsetsFrom}
 use Rattle.offsets.proofs.Walking.{len-pos, len-end}
 use Rattle.offsets.proofs.Writing.{length-offsets}
-use Rattle.kernels.specs.Lanes.{Each, none, more, some}
+use Rattle.laws.specs.Lists.{Each, none, more}
+use Rattle.kernels.specs.Lanes.{some}
 use Rattle.kernels.specs.Plain.{plainProduct}
 use Rattle.kernels.specs.Pieces.{Piece, joinedPieces, GoodPiece, patternsOf, accOf, ratesOf}
 use Rattle.kernels.proofs.Feeding.{each-map, some-append, neither}

@@ -22,7 +22,8 @@ use Rattle.finishing.specs.Finishing.{finishedOf}
 use Rattle.finishing.proofs.Answers.{finished-bad, finished-once}
 use Rattle.offsets.specs.Lists.{rangeCode}
 use Rattle.offsets.proofs.Ranges.{ranged, ranged-accepted, ranged-bounded, ranged-few, offsets-same}
-use Rattle.kernels.specs.Lanes.{Each, some}
+use Rattle.laws.specs.Lists.{Each}
+use Rattle.kernels.specs.Lanes.{some}
 use Rattle.offsets.specs.Values.{valueAt}
 use Rattle.reduction.specs.Ranges.{rangeProduct}
 use Rattle.reduction.specs.Theorems.{RuleD3, RuleD3Law}

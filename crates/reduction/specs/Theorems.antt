@@ -16,7 +16,8 @@ use Rattle.accumulator.specs.declared.StableProductFloatAcc.{StableProductFloat
 use Rattle.accumulator.specs.declared.Reduced.{Reduced}
 use Rattle.accumulator.specs.declared.Reduced.the-variants.{Acc}
 use Rattle.accumulator.specs.Joining.{answerOf, factorOfAcc}
-use Rattle.kernels.specs.Lanes.{Each, some}
+use Rattle.laws.specs.Lists.{Each}
+use Rattle.kernels.specs.Lanes.{some}
 use Rattle.kernels.specs.Plain.{plainProduct}
 use Rattle.kernels.specs.Pieces.{patternsOf, accOf, ratesOf}
 use Rattle.finishing.specs.Once.{roundedOnce}

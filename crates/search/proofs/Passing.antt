@@ -9,7 +9,8 @@ use lib.Dec.{lit≤}
 use lib.IntN.{pos}
 use lib.Ieee.{Float}
 use Rattle.floats.specs.Splitting.{isBad}
-use Rattle.kernels.specs.Lanes.{Each, feed, every, some}
+use Rattle.laws.specs.Lists.{Each}
+use Rattle.kernels.specs.Lanes.{feed, every, some}
 use Rattle.kernels.specs.Pieces.{GoodRate}
 use Rattle.kernels.proofs.Blocking.{Value}
 use Rattle.kernels.proofs.Feeding.{each-map, some-none}

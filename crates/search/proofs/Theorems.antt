@@ -18,7 +18,7 @@ use Rattle.offsets.specs.Values.{valueAt}
 use Rattle.offsets.proofs.Checked.{accepted-range}
 use Rattle.floats.specs.Splitting.{isBad}
 use Rattle.accumulator.specs.Joining as joining
-use Rattle.kernels.specs.Lanes.{Each}
+use Rattle.laws.specs.Lists.{Each}
 use Rattle.reduction.specs.Ranges.{rangeProduct}
 use Rattle.reduction.proofs.Calls.{reduce-refused, reduce-accepted}
 use Rattle.reduction.proofs.Whole.{answer-bad, is-accumulator, rule-D3}

@@ -12,7 +12,7 @@ use Rattle.offsets.specs.Elements.{offset}
 use Rattle.offsets.specs.Values.{valueAt}
 use Rattle.floats.specs.Splitting.{isBad}
 use Rattle.accumulator.specs.Joining as joining
-use Rattle.kernels.specs.Lanes.{Each}
+use Rattle.laws.specs.Lists.{Each}
 use Rattle.reduction.specs.Ranges.{reduceOf}
 use Rattle.search.specs.Searching.{found, noneBad, refusal, searchOf}
 

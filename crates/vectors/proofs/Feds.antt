@@ -17,7 +17,8 @@ use Rattle.floats.proofs.Factor.{times-unit-right}
 use Rattle.floats.proofs.Splitting.{rate-normal}
 use Rattle.accumulator.specs.declared.StableProductFloatAcc.{StableProductFloatAcc}
 use Rattle.kernels.specs.declared.lanes.Lanes.{Lanes}
-use Rattle.kernels.specs.Lanes.{Each, none, more, feed, laneOf, some}
+use Rattle.laws.specs.Lists.{Each, none, more}
+use Rattle.kernels.specs.Lanes.{feed, laneOf, some}
 use Rattle.kernels.specs.InnerPlain.{laneTimes, lanes, pieceProduct}
 use Rattle.kernels.specs.Stepped.{stepped}
 use Rattle.kernels.specs.Pieces.{GoodRate, accOf, worked}

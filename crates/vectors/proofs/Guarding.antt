@@ -10,7 +10,8 @@ use lib.Ieee.{Float}
 use Rattle.floats.specs.Factor.{Factor, unit}
 use Rattle.floats.specs.Splitting.{isBad}
 use Rattle.kernels.specs.declared.lanes.Lanes.{Lanes}
-use Rattle.kernels.specs.Lanes.{Each, feed, every, some}
+use Rattle.laws.specs.Lists.{Each}
+use Rattle.kernels.specs.Lanes.{feed, every, some}
 use Rattle.kernels.specs.Pieces.{GoodRate}
 use Rattle.kernels.specs.Blocks.{mOf, eOf, renorm}
 use Rattle.kernels.specs.InnerLanes.{LanesRepresent, LanesAfter, zeros, plainAfter}

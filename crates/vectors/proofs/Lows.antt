@@ -8,7 +8,7 @@ use native.Mathlib.Omega.{arith}
 use lib.ListN.{length, getD}
 use lib.Ieee.{Float, nan, isNan, lt}
 use Rattle.floats.proofs.Overflow.{isLost}
-use Rattle.kernels.specs.Lanes.{Each, none, more}
+use Rattle.laws.specs.Lists.{Each, none, more}
 use Rattle.kernels.proofs.Feeding.{each-map, each-both}
 use Rattle.kernels.proofs.Least.{least-lesser}
 use Rattle.kernels.proofs.Blocking.{Value}

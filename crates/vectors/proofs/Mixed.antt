@@ -14,7 +14,8 @@ use Rattle.floats.specs.Product.{productOf}
 use Rattle.floats.specs.Factor.{Factor, unit}
 use Rattle.floats.specs.Splitting.{isBad, rateFactor, split}
 use Rattle.kernels.specs.declared.lanes.Lanes.{Lanes}
-use Rattle.kernels.specs.Lanes.{Each, feed, laneOf, every, some}
+use Rattle.laws.specs.Lists.{Each}
+use Rattle.kernels.specs.Lanes.{feed, laneOf, every, some}
 use Rattle.kernels.specs.InnerPlain.{laneTimes}
 use Rattle.kernels.specs.Pieces.{GoodRate}
 use Rattle.kernels.specs.Blocks.{mOf, eOf, unsplitStep, splitStep, renorm}

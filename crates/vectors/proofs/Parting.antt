@@ -14,7 +14,8 @@ use Rattle.floats.specs.Splitting.{isBad, rateFactor, split}
 use Rattle.accumulator.specs.declared.StableProductFloatAcc.{StableProductFloatAcc}
 use Rattle.accumulator.specs.Joining.{identityAcc}
 use Rattle.kernels.specs.declared.lanes.Lanes.{Lanes}
-use Rattle.kernels.specs.Lanes.{Each, feed, laneOf, inOrder}
+use Rattle.laws.specs.Lists.{Each}
+use Rattle.kernels.specs.Lanes.{feed, laneOf, inOrder}
 use Rattle.kernels.specs.InnerPlain.{lanes}
 use Rattle.kernels.specs.Blocks.{startLanes, eOf}
 use Rattle.kernels.specs.Stepped.{stepped}

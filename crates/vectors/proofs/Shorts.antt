@@ -14,7 +14,8 @@ use Rattle.floats.specs.Factor.{Factor, unit}
 use Rattle.floats.specs.Splitting.{rateFactor, split}
 use Rattle.floats.proofs.Overflow.{isLost}
 use Rattle.accumulator.specs.declared.StableProductFloatAcc.{StableProductFloatAcc}
-use Rattle.kernels.specs.Lanes.{Each, none, more, feed, inOrder, every}
+use Rattle.laws.specs.Lists.{Each, none, more}
+use Rattle.kernels.specs.Lanes.{feed, inOrder, every}
 use Rattle.kernels.specs.InnerPlain.{lanes, pieceProduct}
 use Rattle.kernels.specs.Pieces.{GoodRate, accOf}
 use Rattle.kernels.specs.Blocks.{startLanes, contiguous}

@@ -11,7 +11,8 @@ use lib.Dec.{T, ltb, lit≤}
 use lib.Ieee.{Float, nan, binary64, fits}
 use borrow.Author.Tests.{ltb-true, ltb-false}
 use Rattle.kernels.specs.declared.lanes.Lanes.{Lanes}
-use Rattle.kernels.specs.Lanes.{Each, every}
+use Rattle.laws.specs.Lists.{Each}
+use Rattle.kernels.specs.Lanes.{every}
 use Rattle.kernels.specs.InnerStrided.{strided}
 use Rattle.kernels.specs.Blocks.{startLanes, renorm}
 use Rattle.kernels.specs.InnerLanes.{SmallLanes, LanesAfter, plainAfter}

@@ -9,7 +9,8 @@ use lib.ListN.{length, length-append, length-replicate}
 use lib.Dec.{lit≤}
 use lib.Ieee.{Float}
 use Rattle.kernels.specs.declared.lanes.Lanes.{Lanes}
-use Rattle.kernels.specs.Lanes.{Each, feed, every}
+use Rattle.laws.specs.Lists.{Each}
+use Rattle.kernels.specs.Lanes.{feed, every}
 use Rattle.kernels.specs.Blocks.{renorm}
 use Rattle.kernels.specs.InnerLanes.{LanesAfter}
 use Rattle.kernels.proofs.Blocking.{Value}

@@ -16,7 +16,8 @@ use Rattle.floats.specs.Product.{productOf}
 use Rattle.floats.specs.Factor.{Factor, unit, times}
 use Rattle.floats.specs.Splitting.{isBad, rateFactor}
 use Rattle.floats.proofs.Overflow.{isLost, lost-product, lost-factor}
-use Rattle.kernels.specs.Lanes.{Each, none, more, feed, laneOf, every}
+use Rattle.laws.specs.Lists.{Each, none, more}
+use Rattle.kernels.specs.Lanes.{feed, laneOf, every}
 use Rattle.kernels.specs.InnerPlain.{laneTimes}
 use Rattle.kernels.specs.Pieces.{GoodRate}
 use Rattle.kernels.proofs.Feeding.{feed-holds, feed-related}

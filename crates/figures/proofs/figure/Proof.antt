@@ -13,7 +13,7 @@ use Rattle.layout.specs.declared.traversal.FullTraversal.{FullTraversal}
 use Rattle.accumulator.specs.declared.StableProductFloatAcc.{StableProductFloatAcc}
 use Rattle.accumulator.specs.declared.Reduced.the-variants.{Acc}
 use Rattle.accumulator.specs.Joining.{answerOf}
-use Rattle.kernels.specs.Lanes.{Each}
+use Rattle.laws.specs.Lists.{Each}
 use Rattle.kernels.specs.Pieces.{joinedPieces}
 use Rattle.kernels.proofs.Striding.{strided-values, strided-all}
 use Rattle.finishing.specs.Finishing.{value, refusal}

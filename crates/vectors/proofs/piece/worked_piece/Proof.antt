@@ -14,7 +14,7 @@ use mir.Syntax.{w64}
 use borrow.Author.Needs.{needs}
 use Rattle.laws.proofs.Tests.{and-both}
 use Rattle.accumulator.specs.declared.StableProductFloatAcc.{StableProductFloatAcc}
-use Rattle.kernels.specs.Lanes.{Each}
+use Rattle.laws.specs.Lists.{Each}
 use Rattle.kernels.specs.InnerStrided.{strided}
 use Rattle.kernels.specs.Blocks.{startLanes}
 use Rattle.kernels.specs.InnerLanes.{SmallLanes, LanesAfter}

@@ -1,0 +1,2 @@
+-- What every crate's definitions may use. Definitions only.
+pub mod Lists
