@@ -1,6 +1,6 @@
 -- Truth values, and tests on numbers as comparisons of floats come out. Assumes nothing.
 use mathlib.Core.Path.{_≡_, refl, sym, ap, _∙_}
-use mathlib.Core.Bool.{Bool, true, false, _&&_, _||_, and-eq-true-iff}
+use mathlib.Core.Bool.{Bool, true, false, cond, _&&_, _||_, and-eq-true-iff}
 use mathlib.Core.Logic.{_⊎_, inl, inr}
 use Prim.Native.Nat.{ℕ, _<_}
 use native.Mathlib.Nat.{le-of-lt, le-of-eq, eq-or-lt-of-le, ne-of-gt}
@@ -25,3 +25,8 @@ le-test a b = go (leb a b) refl
         ap (λ (t : Bool). t || (eqb a b && true)) (le-ltb a b (le-of-lt l))
         ∙ ap (λ (t : Bool). t && true) (ne-eqb a b (ne-of-gt l))
         ∙ sym e
+
+-- what holds of either holds of the one that a test chooses
+pub by-test : {A : Type 0} (P : A → Type 0) (b : Bool) {x y : A} → (b ≡ true → P x) → (b ≡ false → P y) → P (cond b x y)
+by-test P true f g = f refl
+by-test P false f g = g refl

@@ -1,4 +1,4 @@
--- Rules R0 to R10: a name for each refusal's number, as in src/lib, and which of several is given.
+-- Rules R0 to R13: a name for each refusal's number, as in src/lib, and which of several is given.
 use Prim.Native.Nat.{ℕ}
 use mathlib.Core.Bool.{Bool, cond}
 use mathlib.Core.List.{List, [], _∷_}
@@ -32,6 +32,15 @@ ACCUMULATOR_OUT_OF_RANGE = 9
 
 abbrev pub EXPONENT_OUT_OF_RANGE : ℕ
 EXPONENT_OUT_OF_RANGE = 10
+
+abbrev pub BAD_WORD : ℕ
+BAD_WORD = 11
+
+abbrev pub NUMBER_TOO_LONG : ℕ
+NUMBER_TOO_LONG = 12
+
+abbrev pub JOB_BUFFER_TOO_SHORT : ℕ
+JOB_BUFFER_TOO_SHORT = 13
 
 -- a refusal: its number, and whether its condition holds
 abbrev pub Refusal : Type 0

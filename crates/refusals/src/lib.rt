@@ -1,4 +1,4 @@
-// The refusals of every call, one number and one name each (docs/RULES.md, R1 to R10). The line above a constant is its condition in plain words:
+// The refusals of every call, one number and one name each (docs/RULES.md, R1 to R13). The line above a constant is its condition in plain words:
 // `./run` prints it, and specs/Refusals has the same numbers for the definitions.
 
 // sizes and strides differ in number
@@ -30,3 +30,12 @@ pub const ACCUMULATOR_OUT_OF_RANGE: u32 = 9;
 
 // the joined exponent would pass 2^52
 pub const EXPONENT_OUT_OF_RANGE: u32 = 10;
+
+// a word of the job is missing, cut off, out of order, or the last one and not empty; or bytes follow the last
+pub const BAD_WORD: u32 = 11;
+
+// a number of the job passes 64 bits, or has a third word of kind 0
+pub const NUMBER_TOO_LONG: u32 = 12;
+
+// the buffer is shorter than the job
+pub const JOB_BUFFER_TOO_SHORT: u32 = 13;
