@@ -67,8 +67,8 @@ number-reads kind {ps = p ∷ ps} rest k c s =
     (further-reads 2 (2 ^ 29) p rest (parts (c .small) .1) (omega arith) (omega arith) s ∙ ap (λ (m : ℕ). number m rest) (omega arith))
 
 -- ---- what was read is what was written
-abbrev pub Refused : ℕ → Type 0
-Refused code = (code ≡ TOO_MANY_AXES) ⊎ (code ≡ BAD_WORD) ⊎ (code ≡ NUMBER_TOO_LONG)
+abbrev pub ReadRefusal : ℕ → Type 0
+ReadRefusal code = (code ≡ TOO_MANY_AXES) ⊎ (code ≡ BAD_WORD) ⊎ (code ≡ NUMBER_TOO_LONG)
 
 payload-small : (bytes : List ℕ) → Payload (firstPayload bytes)
 payload-small bytes = omega arith
@@ -91,9 +91,9 @@ record Adds (allowed scale n : ℕ) (bytes : List ℕ) (m : ℕ) (rest : List �
   written : bytes ≡ numberBytes MORE ps ++ rest
   bytes-left : Each Byte rest
 
-abbrev FurtherTold : ℕ → ℕ → ℕ → List ℕ → NumberRead → Type 0
-FurtherTold allowed scale n bytes (number m rest) = Adds allowed scale n bytes m rest
-FurtherTold allowed scale n bytes (faulty code) = Refused code
+abbrev FurtherEncoded : ℕ → ℕ → ℕ → List ℕ → NumberRead → Type 0
+FurtherEncoded allowed scale n bytes (number m rest) = Adds allowed scale n bytes m rest
+FurtherEncoded allowed scale n bytes (faulty code) = ReadRefusal code
 
 ends : (allowed scale n : ℕ) {bytes : List ℕ} → Each Byte bytes → n < 2 ^ 64 → Adds allowed scale n bytes n bytes
 unfolding carried numberBytes
@@ -101,7 +101,7 @@ ends allowed scale n e f =
     record { ps = []; few = omega arith; small = none; is = omega arith; fits = f; written = refl; bytes-left = e }
 
 goes-on : (allowed scale n : ℕ) {bytes : List ℕ} (r : NumberRead) → Each Byte bytes → firstKind bytes ≡ MORE
-    → FurtherTold allowed (scale * 2 ^ 29) (n + scale * firstPayload bytes) (drop 4 bytes) r → FurtherTold (suc allowed) scale n bytes r
+    → FurtherEncoded allowed (scale * 2 ^ 29) (n + scale * firstPayload bytes) (drop 4 bytes) r → FurtherEncoded (suc allowed) scale n bytes r
 unfolding carried
 goes-on allowed scale n {bytes} (number m rest) e k a =
     record {
@@ -115,16 +115,16 @@ goes-on allowed scale n {bytes} (number m rest) e k a =
     }
 goes-on allowed scale n (faulty code) e k a = a
 
-further-told : (allowed scale n : ℕ) {bytes : List ℕ} → Each Byte bytes → n < 2 ^ 64 → FurtherTold allowed scale n bytes (further allowed scale n bytes)
+further-encoded : (allowed scale n : ℕ) {bytes : List ℕ} → Each Byte bytes → n < 2 ^ 64 → FurtherEncoded allowed scale n bytes (further allowed scale n bytes)
 unfolding further
-further-told zero scale n {bytes} e f =
-    by-test (FurtherTold zero scale n bytes) (eqb (firstKind bytes) MORE) (λ t. inr (inr refl)) (λ t. ends zero scale n e f)
-further-told (suc allowed) scale n {bytes} e f =
+further-encoded zero scale n {bytes} e f =
+    by-test (FurtherEncoded zero scale n bytes) (eqb (firstKind bytes) MORE) (λ t. inr (inr refl)) (λ t. ends zero scale n e f)
+further-encoded (suc allowed) scale n {bytes} e f =
     let longer = n + scale * firstPayload bytes in
-    by-test (FurtherTold (suc allowed) scale n bytes) (eqb (firstKind bytes) MORE)
-    (λ k. by-test (FurtherTold (suc allowed) scale n bytes) (ltb longer (2 ^ 64))
+    by-test (FurtherEncoded (suc allowed) scale n bytes) (eqb (firstKind bytes) MORE)
+    (λ k. by-test (FurtherEncoded (suc allowed) scale n bytes) (ltb longer (2 ^ 64))
     (λ l. goes-on allowed scale n (further allowed (scale * 2 ^ 29) longer (drop 4 bytes)) e (eqb-true (firstKind bytes) MORE k)
-    (further-told allowed (scale * 2 ^ 29) longer (each-behind e) (ltb-true longer (2 ^ 64) l)))
+    (further-encoded allowed (scale * 2 ^ 29) longer (each-behind e) (ltb-true longer (2 ^ 64) l)))
     (λ l. inr (inr refl)))
     (λ k. ends (suc allowed) scale n e f)
 
@@ -135,19 +135,19 @@ pub record Carries (kind : ℕ) (bytes : List ℕ) (n : ℕ) (rest : List ℕ) :
   pub written : bytes ≡ numberBytes kind ps ++ rest
   pub bytes-left : Each Byte rest
 
-abbrev pub NumberTold : ℕ → List ℕ → NumberRead → Type 0
-NumberTold kind bytes (number n rest) = Carries kind bytes n rest
-NumberTold kind bytes (faulty code) = Refused code
+abbrev pub NumberEncoded : ℕ → List ℕ → NumberRead → Type 0
+NumberEncoded kind bytes (number n rest) = Carries kind bytes n rest
+NumberEncoded kind bytes (faulty code) = ReadRefusal code
 
-pub number-told : (kind : ℕ) {bytes : List ℕ} → kind < 8 → Each Byte bytes → NumberTold kind bytes (numberFrom kind bytes)
+pub number-encoded : (kind : ℕ) {bytes : List ℕ} → kind < 8 → Each Byte bytes → NumberEncoded kind bytes (numberFrom kind bytes)
 unfolding numberFrom carried
-number-told kind {bytes} k e =
-    by-test (NumberTold kind bytes) (eqb (firstKind bytes) kind)
+number-encoded kind {bytes} k e =
+    by-test (NumberEncoded kind bytes) (eqb (firstKind bytes) kind)
     (λ t. go (further 2 (2 ^ 29) (firstPayload bytes) (drop 4 bytes)) (eqb-true (firstKind bytes) kind t)
-    (further-told 2 (2 ^ 29) (firstPayload bytes) (each-behind e) (omega arith)))
+    (further-encoded 2 (2 ^ 29) (firstPayload bytes) (each-behind e) (omega arith)))
     (λ t. inr (inl refl))
   where
-    go : (r : NumberRead) → firstKind bytes ≡ kind → FurtherTold 2 (2 ^ 29) (firstPayload bytes) (drop 4 bytes) r → NumberTold kind bytes r
+    go : (r : NumberRead) → firstKind bytes ≡ kind → FurtherEncoded 2 (2 ^ 29) (firstPayload bytes) (drop 4 bytes) r → NumberEncoded kind bytes r
     go (number n rest) q a =
         record {
           ps = firstPayload bytes ∷ a .ps;

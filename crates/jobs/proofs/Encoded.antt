@@ -19,8 +19,8 @@ use Rattle.jobs.specs.Reading.{ReadAnswer, job, refusal, behind, finishF
 use Rattle.jobs.specs.Theorems.{Carry, CarryAll, none, more, CarryJob}
 use Rattle.laws.proofs.Tests.{by-test}
 use Rattle.jobs.proofs.Signs.{sent-signed}
-use Rattle.jobs.proofs.Grammar.{Byte, word-at}
-use Rattle.jobs.proofs.Carrying.{Refused, Carries, NumberTold, number-told}
+use Rattle.jobs.proofs.Grammar.{Byte, word-in-front}
+use Rattle.jobs.proofs.Carrying.{ReadRefusal, Carries, NumberEncoded, number-encoded}
 
 -- ---- axes, one behind others
 length-carried : {ns : List ℕ} {ps : List (List ℕ)} → CarryAll ns ps → length ns ≡ length ps
@@ -31,13 +31,13 @@ carried-more : {ns : List ℕ} {ps : List (List ℕ)} {n : ℕ} {p : List ℕ} �
 carried-more none d = more d none
 carried-more (more c e) d = more c (carried-more e d)
 
-axes-more : (ps qs : List (List ℕ)) (p q : List ℕ) → length ps ≡ length qs
+axes-snoc : (ps qs : List (List ℕ)) (p q : List ℕ) → length ps ≡ length qs
     → axesBytes (ps ++ p ∷ []) (qs ++ q ∷ []) ≡ axesBytes ps qs ++ (numberBytes SIZE p ++ numberBytes STRIDE q)
 unfolding axesBytes
-axes-more [] [] p q h = append-nil (numberBytes SIZE p ++ numberBytes STRIDE q)
-axes-more [] (y ∷ qs) p q h = absurd (omega arith)
-axes-more (x ∷ ps) [] p q h = absurd (omega arith)
-axes-more (x ∷ ps) (y ∷ qs) p q h = rw (axes-more ps qs p q (omega arith)) (simp append-assoc)
+axes-snoc [] [] p q h = append-nil (numberBytes SIZE p ++ numberBytes STRIDE q)
+axes-snoc [] (y ∷ qs) p q h = absurd (omega arith)
+axes-snoc (x ∷ ps) [] p q h = absurd (omega arith)
+axes-snoc (x ∷ ps) (y ∷ qs) p q h = rw (axes-snoc ps qs p q (omega arith)) (simp append-assoc)
 
 -- ---- the last word
 finish-bytes : {bytes : List ℕ} → Each Byte bytes → (eqb (firstWord bytes) (FINISH * 2 ^ 29) && eqb (length bytes) 4) ≡ true
@@ -48,15 +48,15 @@ finish-bytes {bytes} e t =
     let w = eqb-true (firstWord bytes) (FINISH * 2 ^ 29) (both .0) in
     let l = eqb-true (length bytes) 4 (both .1) in
     let d = drop-of-length-le bytes {i = 4} (omega arith) in
-    word-at e (omega arith) ∙ rw (w, d)
+    word-in-front e (omega arith) ∙ rw (w, d)
 
 -- ---- what reading tells of all the bytes
-abbrev pub Told : List ℕ → ReadAnswer → Type 0
-Told whole (job j) = (p : Payloads) × CarryJob j p × (whole ≡ sentBytes p)
-Told whole (refusal code) = Refused code
+abbrev pub JobEncoded : List ℕ → ReadAnswer → Type 0
+JobEncoded whole (job j) = (p : Payloads) × CarryJob j p × (whole ≡ sentBytes p)
+JobEncoded whole (refusal code) = ReadRefusal code
 
 -- the axes that are read, in front of the bytes that are not
-record AxesRead (whole : List ℕ) (ns : List ℕ) (ss : List ℤ) (bytes : List ℕ) : Type 0 where
+record AxesEncoded (whole : List ℕ) (ns : List ℕ) (ss : List ℤ) (bytes : List ℕ) : Type 0 where
   pairs : length ns ≡ length ss
   sizes : List (List ℕ)
   strides : List (List ℕ)
@@ -67,18 +67,18 @@ record AxesRead (whole : List ℕ) (ns : List ℕ) (ss : List ℤ) (bytes : List
 
 module _ (whole : List ℕ) where
   -- behind a number
-  on-told : (kind : ℕ) {bytes : List ℕ} → kind < 8 → Each Byte bytes → (on : ℕ → List ℕ → ReadAnswer)
-      → ((n : ℕ) (rest : List ℕ) → Carries kind bytes n rest → Told whole (on n rest)) → Told whole (behind (numberFrom kind bytes) on)
+  behind-encoded : (kind : ℕ) {bytes : List ℕ} → kind < 8 → Each Byte bytes → (on : ℕ → List ℕ → ReadAnswer)
+      → ((n : ℕ) (rest : List ℕ) → Carries kind bytes n rest → JobEncoded whole (on n rest)) → JobEncoded whole (behind (numberFrom kind bytes) on)
   unfolding behind
-  on-told kind {bytes} k e on f = go (numberFrom kind bytes) (number-told kind k e)
+  behind-encoded kind {bytes} k e on f = go (numberFrom kind bytes) (number-encoded kind k e)
     where
-      go : (r : NumberRead) → NumberTold kind bytes r → Told whole (behind r on)
+      go : (r : NumberRead) → NumberEncoded kind bytes r → JobEncoded whole (behind r on)
       go (number n rest) c = f n rest c
       go (faulty code) c = c
 
   -- one axis more
-  axis-read : {ns : List ℕ} {ss : List ℤ} {bytes : List ℕ} {n s : ℕ} {bytes₁ bytes₂ : List ℕ} → AxesRead whole ns ss bytes → Carries SIZE bytes n bytes₁
-      → Carries STRIDE bytes₁ s bytes₂ → AxesRead whole (ns ++ n ∷ []) (ss ++ signedOf s ∷ []) bytes₂
+  axis-read : {ns : List ℕ} {ss : List ℤ} {bytes : List ℕ} {n s : ℕ} {bytes₁ bytes₂ : List ℕ} → AxesEncoded whole ns ss bytes → Carries SIZE bytes n bytes₁
+      → Carries STRIDE bytes₁ s bytes₂ → AxesEncoded whole (ns ++ n ∷ []) (ss ++ signedOf s ∷ []) bytes₂
   axis-read {ss} {s} a c d =
       record {
         pairs = simp length-append (omega arith);
@@ -89,7 +89,7 @@ module _ (whole : List ℕ) where
         written =
             a .written
             ∙ ap (λ (l : List ℕ). axesBytes (a .sizes) (a .strides) ++ l) (c .written ∙ ap (λ (l : List ℕ). numberBytes SIZE (c .ps) ++ l) (d .written))
-            ∙ rw (axes-more (a .sizes) (a .strides) (c .ps) (d .ps) same) (simp append-assoc);
+            ∙ rw (axes-snoc (a .sizes) (a .strides) (c .ps) (d .ps) same) (simp append-assoc);
         bytes-left = d .bytes-left;
       }
     where
@@ -97,12 +97,12 @@ module _ (whole : List ℕ) where
       same = sym (length-carried (a .carry-sizes)) ∙ a .pairs ∙ sym (length-map ss sentOf) ∙ length-carried (a .carry-strides)
 
   -- what comes behind the axes
-  range-told : {ns : List ℕ} {ss : List ℤ} {bytes : List ℕ} → length ns ≤ PLACES → AxesRead whole ns ss bytes → Told whole (rangeFrom ns ss bytes)
+  range-encoded : {ns : List ℕ} {ss : List ℤ} {bytes : List ℕ} → length ns ≤ PLACES → AxesEncoded whole ns ss bytes → JobEncoded whole (rangeFrom ns ss bytes)
   unfolding rangeFrom finishFrom sentBytes
-  range-told h a =
-      on-told BASE (omega arith) (a .bytes-left) _ λ b bytes₁ cb. on-told START (omega arith) (cb .bytes-left) _ λ s bytes₂ cs.
-      on-told END (omega arith) (cs .bytes-left) _ λ e bytes₃ ce.
-      by-test (Told whole) (eqb (firstWord bytes₃) (FINISH * 2 ^ 29) && eqb (length bytes₃) 4)
+  range-encoded h a =
+      behind-encoded BASE (omega arith) (a .bytes-left) _ λ b bytes₁ cb. behind-encoded START (omega arith) (cb .bytes-left) _ λ s bytes₂ cs.
+      behind-encoded END (omega arith) (cs .bytes-left) _ λ e bytes₃ ce.
+      by-test (JobEncoded whole) (eqb (firstWord bytes₃) (FINISH * 2 ^ 29) && eqb (length bytes₃) 4)
       (λ t. (
         record { sizes = a .sizes; strides = a .strides; base = cb .ps; start = cs .ps; end = ce .ps },
         record {
@@ -123,18 +123,18 @@ module _ (whole : List ℕ) where
       ))
       (λ t. inr (inl refl))
 
-  axes-told : (allowed : ℕ) {ns : List ℕ} {ss : List ℤ} {bytes : List ℕ} → length ns + allowed ≤ PLACES → AxesRead whole ns ss bytes
-      → Told whole (axesFrom allowed ns ss bytes)
+  axes-encoded : (allowed : ℕ) {ns : List ℕ} {ss : List ℤ} {bytes : List ℕ} → length ns + allowed ≤ PLACES → AxesEncoded whole ns ss bytes
+      → JobEncoded whole (axesFrom allowed ns ss bytes)
   unfolding axesFrom
-  axes-told zero {bytes} h a = by-test (Told whole) (eqb (firstKind bytes) SIZE) (λ t. inl refl) (λ t. range-told (omega arith) a)
-  axes-told (suc allowed) {bytes} h a =
-      by-test (Told whole) (eqb (firstKind bytes) SIZE)
-      (λ t. on-told SIZE (omega arith) (a .bytes-left) _ λ n bytes₁ c. on-told STRIDE (omega arith) (c .bytes-left) _ λ s bytes₂ d.
-      axes-told allowed (simp length-append (omega arith)) (axis-read a c d))
-      (λ t. range-told (omega arith) a)
+  axes-encoded zero {bytes} h a = by-test (JobEncoded whole) (eqb (firstKind bytes) SIZE) (λ t. inl refl) (λ t. range-encoded (omega arith) a)
+  axes-encoded (suc allowed) {bytes} h a =
+      by-test (JobEncoded whole) (eqb (firstKind bytes) SIZE)
+      (λ t. behind-encoded SIZE (omega arith) (a .bytes-left) _ λ n bytes₁ c. behind-encoded STRIDE (omega arith) (c .bytes-left) _ λ s bytes₂ d.
+      axes-encoded allowed (simp length-append (omega arith)) (axis-read a c d))
+      (λ t. range-encoded (omega arith) a)
 
-pub job-told : {bytes : List ℕ} → Each Byte bytes → Told bytes (jobFrom bytes)
+pub job-encoded : {bytes : List ℕ} → Each Byte bytes → JobEncoded bytes (jobFrom bytes)
 unfolding jobFrom axesBytes
-job-told {bytes} e =
-    axes-told bytes PLACES (omega arith)
+job-encoded {bytes} e =
+    axes-encoded bytes PLACES (omega arith)
     (record { pairs = refl; sizes = []; strides = []; carry-sizes = none; carry-strides = none; written = refl; bytes-left = e })

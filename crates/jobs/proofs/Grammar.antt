@@ -60,20 +60,20 @@ bytes-of-four a b c d w ha hb hc e =
     let s : d ≡ w / 2 ^ 24 = omega arith in
     cc
 
-pub word-at : {bytes : List ℕ} → Each Byte bytes → firstWord bytes < 2 ^ 32 → bytes ≡ bytesOf (firstWord bytes) ++ drop 4 bytes
+pub word-in-front : {bytes : List ℕ} → Each Byte bytes → firstWord bytes < 2 ^ 32 → bytes ≡ bytesOf (firstWord bytes) ++ drop 4 bytes
 unfolding firstWord
-word-at none k = absurd (omega arith)
-word-at (more a none) k = absurd (omega arith)
-word-at (more a (more b none)) k = absurd (omega arith)
-word-at (more a (more b (more c none))) k = absurd (omega arith)
-word-at (more {x = a} ha (more {x = b} hb (more {x = c} hc (more {x = d} {xs = rest} hd e)))) k =
+word-in-front none k = absurd (omega arith)
+word-in-front (more a none) k = absurd (omega arith)
+word-in-front (more a (more b none)) k = absurd (omega arith)
+word-in-front (more a (more b (more c none))) k = absurd (omega arith)
+word-in-front (more {x = a} ha (more {x = b} hb (more {x = c} hc (more {x = d} {xs = rest} hd e)))) k =
     ap (λ (l : List ℕ). l ++ rest) (bytes-of-four a b c d (firstWord (a ∷ b ∷ c ∷ d ∷ rest)) ha hb hc (word-of-four a b c d rest))
 
 -- by kind and payload
 pub word-of-kind : {bytes : List ℕ} → Each Byte bytes → (kind : ℕ) → kind < 8 → firstKind bytes ≡ kind
     → bytes ≡ bytesOf (wordOf kind (firstPayload bytes)) ++ drop 4 bytes
 unfolding wordOf
-word-of-kind {bytes} e kind k h = word-at e (omega arith) ∙ ap (λ (w : ℕ). bytesOf w ++ drop 4 bytes) w
+word-of-kind {bytes} e kind k h = word-in-front e (omega arith) ∙ ap (λ (w : ℕ). bytesOf w ++ drop 4 bytes) w
   where
     w : firstWord bytes ≡ wordOf kind (firstPayload bytes)
     w = omega arith

@@ -53,7 +53,7 @@ lay-two out at a b c =
 -- the buffer r is `out` with these bytes at its front, and `at` is the place behind them
 pub record Laid (out bytes r : List ℕ) (at : ℕ) : Type 0 where
   pub holds : r ≡ sets out 0 bytes
-  pub behind : at ≡ length bytes
+  pub place : at ≡ length bytes
 
 pub laid-length : (out bytes r : List ℕ) (at : ℕ) → Laid out bytes r at → length r ≡ length out
 laid-length out bytes r at l = ap length (l .holds) ∙ length-sets out 0 bytes
@@ -65,9 +65,9 @@ laid-more out bytes r at l more t next e f =
       holds =
           f
           ∙ ap (λ (o : List ℕ). sets o at more) (l .holds)
-          ∙ ap (λ (i : ℕ). sets (sets out 0 bytes) i more) (l .behind ∙ sym (zero-add (length bytes)))
+          ∙ ap (λ (i : ℕ). sets (sets out 0 bytes) i more) (l .place ∙ sym (zero-add (length bytes)))
           ∙ sym (sets-append out 0 bytes more);
-      behind = e ∙ ap (λ (n : ℕ). n + length more) (l .behind) ∙ sym (length-append bytes more);
+      place = e ∙ ap (λ (n : ℕ). n + length more) (l .place) ∙ sym (length-append bytes more);
     }
 
 -- ---- the whole job

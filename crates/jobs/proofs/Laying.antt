@@ -34,30 +34,23 @@ pub length-bytesOf : (w : ℕ) → length (bytesOf w) ≡ 4
 unfolding bytesOf
 length-bytesOf w = refl
 
--- ---- the payloads of a number of 64 bits
-module _ (n : ℕ) where
-  pub one-payload : n < 2 ^ 29 → payloadsOf n ≡ n ∷ []
+-- ---- the fewest payloads of a number
+module _ (more n : ℕ) where
+  pub fewest-one : n < 2 ^ 29 → fewest (suc more) n ≡ n ∷ []
   unfolding fewest
-  one-payload h = ap (λ (t : Bool). cond t (n ∷ []) (n % 2 ^ 29 ∷ fewest 1 (n / 2 ^ 29))) (lt-ltb n (2 ^ 29) h)
+  fewest-one h = ap (λ (t : Bool). cond t (n ∷ []) (n % 2 ^ 29 ∷ fewest more (n / 2 ^ 29))) (lt-ltb n (2 ^ 29) h)
 
-  pub more-payloads : 2 ^ 29 ≤ n → payloadsOf n ≡ n % 2 ^ 29 ∷ fewest 1 (n / 2 ^ 29)
+  pub fewest-more : 2 ^ 29 ≤ n → fewest (suc more) n ≡ n % 2 ^ 29 ∷ fewest more (n / 2 ^ 29)
   unfolding fewest
-  more-payloads h = ap (λ (t : Bool). cond t (n ∷ []) (n % 2 ^ 29 ∷ fewest 1 (n / 2 ^ 29))) (le-ltb n (2 ^ 29) h)
-
-  high-one : n < 2 ^ 29 → fewest 1 n ≡ n ∷ []
-  unfolding fewest
-  high-one h = ap (λ (t : Bool). cond t (n ∷ []) (n % 2 ^ 29 ∷ fewest 0 (n / 2 ^ 29))) (lt-ltb n (2 ^ 29) h)
-
-  high-two : 2 ^ 29 ≤ n → fewest 1 n ≡ n % 2 ^ 29 ∷ n / 2 ^ 29 ∷ []
-  unfolding fewest
-  high-two h = ap (λ (t : Bool). cond t (n ∷ []) (n % 2 ^ 29 ∷ fewest 0 (n / 2 ^ 29))) (le-ltb n (2 ^ 29) h)
+  fewest-more h = ap (λ (t : Bool). cond t (n ∷ []) (n % 2 ^ 29 ∷ fewest more (n / 2 ^ 29))) (le-ltb n (2 ^ 29) h)
 
 module _ (n : ℕ) (h : 2 ^ 29 ≤ n) where
   pub two-payloads : n / 2 ^ 29 < 2 ^ 29 → payloadsOf n ≡ n % 2 ^ 29 ∷ n / 2 ^ 29 ∷ []
-  two-payloads k = more-payloads n h ∙ ap (λ (ps : List ℕ). n % 2 ^ 29 ∷ ps) (high-one (n / 2 ^ 29) k)
+  two-payloads k = fewest-more 1 n h ∙ ap (λ (ps : List ℕ). n % 2 ^ 29 ∷ ps) (fewest-one 0 (n / 2 ^ 29) k)
 
   pub three-payloads : 2 ^ 29 ≤ n / 2 ^ 29 → payloadsOf n ≡ n % 2 ^ 29 ∷ n / 2 ^ 29 % 2 ^ 29 ∷ n / 2 ^ 29 / 2 ^ 29 ∷ []
-  three-payloads k = more-payloads n h ∙ ap (λ (ps : List ℕ). n % 2 ^ 29 ∷ ps) (high-two (n / 2 ^ 29) k)
+  unfolding fewest
+  three-payloads k = fewest-more 1 n h ∙ ap (λ (ps : List ℕ). n % 2 ^ 29 ∷ ps) (fewest-more 0 (n / 2 ^ 29) k)
 
 -- ---- the bytes of a number
 pub length-number : (kind : ℕ) (ps : List ℕ) → length (numberBytes kind ps) ≡ 4 * length ps
@@ -81,7 +74,7 @@ module _ (kind n : ℕ) where
   first-room = omega (arith, length-number kind (payloadsOf n), some-payload 2 n)
 
   pub second-room : 2 ^ 29 ≤ n → 8 ≤ length (numberBytes kind (payloadsOf n))
-  second-room h = omega (arith, length-number kind (payloadsOf n), ap length (more-payloads n h), some-payload 1 (n / 2 ^ 29))
+  second-room h = omega (arith, length-number kind (payloadsOf n), ap length (fewest-more 1 n h), some-payload 1 (n / 2 ^ 29))
 
   pub third-room : 2 ^ 29 ≤ n → 2 ^ 29 ≤ n / 2 ^ 29 → 12 ≤ length (numberBytes kind (payloadsOf n))
   third-room h k = omega (arith, length-number kind (payloadsOf n), ap length (three-payloads n h k))
@@ -108,7 +101,7 @@ module _ (out : List ℕ) (at kind n : ℕ) where
   pub put-one : n < 2 ^ 29 → (r : List ℕ) → r ≡ sets out at (bytesOf (wordOf kind (n % 2 ^ 29))) → PutNumber out at kind n (at + 4) r
   unfolding numberBytes
   put-one h r f =
-      let e = one-payload n h in
+      let e = fewest-one 1 n h in
       let m : n ≡ n % 2 ^ 29 = omega arith in
       rw (ap (λ (l : List ℕ). at + 4 * length l) e) at (put-first [] (e ∙ ap (λ (k : ℕ). k ∷ []) m) r f)
 

@@ -14,3 +14,4 @@ pub mod Encoded
 pub mod Decoded
 pub mod Shortest
 pub mod Theorems
+pub mod Cases

@@ -15,16 +15,16 @@ use Rattle.jobs.specs.Writing.{writeRefusals, writeOf, writeBuffer}
 use Rattle.jobs.specs.Reading.{job, jobFrom, recordOf, readOf}
 use Rattle.jobs.specs.Theorems.{RuleJ4Law, Sendable, RuleJ5Law, FewestWords, WrittenThenRead}
 use Rattle.jobs.proofs.Fewest.{least-words}
-use Rattle.jobs.proofs.Encoded.{Told, job-told}
+use Rattle.jobs.proofs.Encoded.{JobEncoded, job-encoded}
 use Rattle.jobs.proofs.Decoded.{job-reads}
 use Rattle.jobs.proofs.Shortest.{job-carries, job-least}
 
 pub rule-J4 : RuleJ4Law
 rule-J4 bytes e =
     record {
-      only = λ j q. subst (Told bytes) q (job-told e);
+      only = λ j q. subst (JobEncoded bytes) q (job-encoded e);
       all = λ j p c q. ap jobFrom q ∙ job-reads j p c;
-      else = λ code q. subst (Told bytes) q (job-told e);
+      else = λ code q. subst (JobEncoded bytes) q (job-encoded e);
     }
 
 written-back : (j : Job) → Sendable j → jobFrom (jobBytes j) ≡ job j

@@ -5,3 +5,4 @@ pub mod Writing
 pub mod Reading
 pub mod InnerParts
 pub mod Theorems
+pub mod Cases

@@ -6,12 +6,12 @@ use mathlib.Core.List.{List}
 use Prim.Native.Nat.{ℕ, _*_}
 use lib.ListN.{length}
 use borrow.Author.Needs.{needs}
-use Rattle.jobs.proofs.Laying.{one-payload, two-payloads, three-payloads}
+use Rattle.jobs.proofs.Laying.{fewest-one, two-payloads, three-payloads}
 use Rattle.jobs.proofs.numbers.bytes_of.Statement.{statement}
 use Rattle.jobs.proofs.numbers.bytes_of.Tie as tie
 
 returns : tie.Need-returns
-returns c = sym (ap (λ (ps : List ℕ). 4 * length ps) (one-payload (c .before .args .n) (c .if1 .taken)))
+returns c = sym (ap (λ (ps : List ℕ). 4 * length ps) (fewest-one 1 (c .before .args .n) (c .if1 .taken)))
 
 mul-result : tie.Need-mul-result
 mul-result c = search needs

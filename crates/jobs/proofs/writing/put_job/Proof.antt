@@ -47,7 +47,7 @@ put-axes-requires c κs = let s = c .before .before .before .before in (s .pre .
 
 laid-axes : (c : tie.After-put-axes) → let s = c .before .before .before .before .before in
     Laid (s .args .out .now) (axes s) (c .put-axes .last .0) (c .put-axes .result)
-laid-axes c = record { holds = c .put-axes .ensures .1; behind = c .put-axes .ensures .0 }
+laid-axes c = record { holds = c .put-axes .ensures .1; place = c .put-axes .ensures .0 }
 
 -- the base as it is sent
 sent-is : (c : tie.After-put-axes) → c .before .before .sent .result ≡ sentOf (c .before .before .before .before .before .args .base)
@@ -58,7 +58,7 @@ put-number-requires c κs =
     let p = c .before .before .before in
     let s = p .before .before .before .before .before in
     let e = ap (λ (n : ℕ). length (numberBytes BASE (payloadsOf n))) (sent-is p) in
-    (omega (arith, room s, laid-length _ _ _ _ (laid-axes p), laid-axes p .behind, e), omega arith)
+    (omega (arith, room s, laid-length _ _ _ _ (laid-axes p), laid-axes p .place, e), omega arith)
 
 laid-base : (c : tie.After-put-number) → let s = c .before .before .before .before .before .before .before .before .before in
     Laid (s .args .out .now) (axes s ++ base s) (c .put-number .last .0) (c .put-number .result)
@@ -75,7 +75,7 @@ put-number-requires-2 c κs =
     let p = c .before .before .before in
     let s = p .before .before .before .before .before .before .before .before .before in
     let l = laid-base p in
-    (omega (arith, room s, laid-length _ _ _ _ l, l .behind, length-append (axes s) (base s)), omega arith)
+    (omega (arith, room s, laid-length _ _ _ _ l, l .place, length-append (axes s) (base s)), omega arith)
 
 laid-start : (c : tie.After-put-number2) → let s = c .before .before .before .before .before .before .before .before .before .before .before .before .before in
     Laid (s .args .out .now) (axes s ++ base s ++ start s) (c .put-number2 .last .0) (c .put-number2 .result)
@@ -90,7 +90,7 @@ put-number-requires-3 c κs =
     let p = c .before .before .before in
     let s = p .before .before .before .before .before .before .before .before .before .before .before .before .before in
     let l = laid-start p in
-    (omega (arith, room s, laid-length _ _ _ _ l, l .behind, length-append (axes s) (base s), length-append (axes s ++ base s) (start s)), omega arith)
+    (omega (arith, room s, laid-length _ _ _ _ l, l .place, length-append (axes s) (base s), length-append (axes s ++ base s) (start s)), omega arith)
 
 laid-end : (c : tie.After-put-number3) → let p = c .before .before .before .before in
     let s = p .before .before .before .before .before .before .before .before .before .before .before .before .before in
@@ -107,7 +107,7 @@ put-word-requires c κs =
     let s = p .before .before .before .before .before .before .before .before .before .before .before .before .before .before .before .before .before in
     let l = laid-end p in
     let e = length-append (axes s ++ base s ++ start s) (end s) in (
-      omega (arith, room s, laid-length _ _ _ _ l, l .behind, length-append (axes s) (base s), length-append (axes s ++ base s) (start s), e),
+      omega (arith, room s, laid-length _ _ _ _ l, l .place, length-append (axes s) (base s), length-append (axes s ++ base s) (start s), e),
       omega arith,
       omega arith,
     )

@@ -1,0 +1,11 @@
+-- `jobs::writing::refused` meets its contract.
+-- Assumes nothing.
+use mathlib.Core.Path.{refl}
+use Rattle.jobs.proofs.writing.refused.Statement.{statement}
+use Rattle.jobs.proofs.writing.refused.Tie as tie
+
+returns : tie.Need-returns
+returns c = refl
+
+pub refused-spec : {M : Type 1} → statement M
+refused-spec = tie.close (tie.spec returns)
