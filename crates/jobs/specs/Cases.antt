@@ -35,7 +35,8 @@ FaultTable =
     × Reads 0 (0x60000000 ∷ 0x80000000 ∷ 0xa0000001 ∷ 0xc0000000 ∷ []) (0 ∷ []) (refusal 11)
     × ReadsWords (0x60000000 ∷ 0x80000000 ∷ 0xa0000001 ∷ 0xc0000001 ∷ []) (refusal 11)
     × ReadsWords (0x00000000 ∷ 0x60000000 ∷ 0x80000000 ∷ 0xa0000001 ∷ 0xc0000000 ∷ []) (refusal 11) × ReadsWords (0xe0000000 ∷ []) (refusal 11)
-    × ReadsWords (0x20000001 ∷ 0x20000001 ∷ []) (refusal 11) × ReadsWords (0x40000001 ∷ []) (refusal 11) × ReadsWords (0x60000000 ∷ 0x60000000 ∷ []) (refusal 11)
+    × ReadsWords (0x20000001 ∷ 0x20000001 ∷ []) (refusal 11) × ReadsWords (0x40000001 ∷ []) (refusal 11)
+    × ReadsWords (0x60000000 ∷ 0x60000000 ∷ []) (refusal 11)
     × ReadsWords (0x80000000 ∷ 0xa0000001 ∷ 0xc0000000 ∷ []) (refusal 11)
     × ReadsWords (0x60000000 ∷ 0x80000000 ∷ 0xa0000001 ∷ 0xc0000000 ∷ 0x00000000 ∷ []) (refusal 11)
 
