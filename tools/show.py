@@ -2,7 +2,7 @@
 """Prints each case of a file and its answer in plain words: show.py CASES ANSWERS.
 
 Exit codes: 0 every line is a case; 3 some are malformed; 2 a wrong call; 1 anything else, said on standard error.
-That a line is malformed is the program's word. What is wrong with it is this script's explanation of that word.
+That a line is malformed is the program's word. What is wrong with it is the explanation of show_faults.py.
 """
 
 import itertools
@@ -12,224 +12,20 @@ import signal
 import struct
 import sys
 
+from show_faults import ANSWERS, OVER_VALUES, fault_of, shown_line
+
 REFUSALS = os.path.join(os.path.dirname(os.path.abspath(__file__)), "..", "crates", "refusals", "src", "lib.rt")
-# How many of a case's values are shown, and how many bytes of a malformed line.
+# How many of a case's values are shown, and how many words of a job.
 FEW = 4
-LINE_SHOWN = 200
-# The limits of the case format.
-LINE_BYTES = 131072
-AXES = 32
-ITEMS = 4096
-U32 = (0, 2**32 - 1)
-U64 = (0, 2**64 - 1)
-I64 = (-(2**63), 2**63 - 1)
-# The calls, and how the answer to each begins where it is not `malformed`.
-ANSWERS = {
-    "compile": ("compile",),
-    "list": ("list",),
-    "reduce": ("acc", "refused"),
-    "join": ("acc", "refused"),
-    "finish": ("number", "refused"),
-    "product": ("number", "refused"),
-    "ordered": ("number", "refused"),
-    "figure": ("number", "refused"),
-    "first": ("bad", "none", "refused"),
-}
-# The calls over a range with its values, and those of them that multiply bad rates as IEEE 754 does.
-OVER_VALUES = ("reduce", "product", "ordered", "figure", "first")
+JOB_WORDS = 16
+# The calls over a range that multiply bad rates as IEEE 754 does.
 WITH_BAD_RATES = ("ordered", "figure")
+# The kinds of a job's words, by their number.
+KINDS = ("more", "size", "stride", "base", "start", "end", "finish", "unused")
 
 
 class Failure(Exception):
     """What keeps the script from showing the cases, and what to do about it."""
-
-
-class Fault(Exception):
-    """What is wrong with a line."""
-
-
-# ---- what is wrong with a malformed line
-
-
-def escaped(text):
-    """Bytes as one line of printable ASCII: the others by their codes, and a backslash doubled."""
-    names = {9: "\\t", 13: "\\r", 92: "\\\\"}
-    return "".join(chr(b) if 32 <= b < 127 and b != 92 else names.get(b, f"\\x{b:02x}") for b in text)
-
-
-def shown_line(line):
-    more = len(line) - LINE_SHOWN
-    return escaped(line[:LINE_SHOWN]) + (f" .. and {more} more bytes" if more > 0 else "")
-
-
-def quoted(word):
-    return f'"{word}"' if len(word) <= 40 else f'"{word[:40]}.."'
-
-
-def check_bytes(line):
-    """Faults that are seen before the line is taken apart into words."""
-    if len(line) > LINE_BYTES:
-        raise Fault(f"the line has {len(line)} bytes, and at most {LINE_BYTES} are read")
-    if not line:
-        raise Fault("the line is empty")
-    if line.startswith(b"\xef\xbb\xbf"):
-        raise Fault("a byte order mark stands in front; save the file without it, as plain ASCII")
-    if line.startswith((b"\xff\xfe", b"\xfe\xff")):
-        raise Fault("the file is UTF-16; save it as plain ASCII")
-    if line.endswith(b"\r"):
-        raise Fault("a carriage return stands at the end (a CRLF line end); end lines with a newline alone")
-    other = re.search(rb"[^\x20-\x7e]", line)
-    if other and other.group() == b"\t":
-        raise Fault(f"a tab stands at column {other.start() + 1}; words have one space between them")
-    if other:
-        raise Fault(f"the byte {escaped(other.group())} stands at column {other.start() + 1}; a line is plain ASCII")
-    check_spaces(line)
-
-
-def check_spaces(line):
-    if not line.strip():
-        raise Fault("the line has spaces and no word")
-    if line.startswith(b" "):
-        raise Fault("a space stands in front of the first word")
-    if line.endswith(b" "):
-        raise Fault("a space stands behind the last word")
-    double = line.find(b"  ")
-    if double >= 0:
-        raise Fault(f"two spaces stand at column {double + 1}; words have one space between them")
-
-
-def number_fault(word, least, most):
-    digits = word[1:] if word[:1] == "-" else word
-    if word[:1] == "+":
-        return "a number has no plus in front"
-    if not re.fullmatch("[0-9]+", digits):
-        return "it is no whole number in decimal digits"
-    if len(digits) > 1 and digits[0] == "0":
-        return "a number has no zero in front"
-    if word == "-0":
-        return "0 has no minus"
-    if word[0] == "-" and least == 0:
-        return "it may not be below 0"
-    if len(digits) > 20 or not least <= int(word) <= most:
-        return f"it does not lie in {least} to {most}"
-    return None
-
-
-def float_fault(word):
-    if re.fullmatch("[0-9a-f]{16}", word):
-        return None
-    if re.fullmatch("[0-9a-fA-F]{16}", word):
-        return "the hex digits of a float are lower case"
-    if word[:2] in ("0x", "0X"):
-        return "the hex digits of a float have no 0x in front"
-    if re.fullmatch("[0-9a-fA-F]+", word):
-        return f"a float has 16 hex digits, those of its bits, and this has {len(word)}"
-    if re.fullmatch(r"[+-]?[0-9]*\.?[0-9]+(e[+-]?[0-9]+)?", word):
-        return f"a float is written by the 16 hex digits of its bits, here {struct.pack('>d', float(word)).hex()}"
-    return "a float is the 16 lower-case hex digits of its bits"
-
-
-class Words:
-    """The words of a line, of which the first `at` are taken."""
-
-    def __init__(self, words):
-        self.words = words
-        self.at = 0
-
-    def take(self, what):
-        if self.at == len(self.words):
-            raise Fault(f"the line ends where {what} should stand")
-        self.at += 1
-        return self.words[self.at - 1]
-
-    def wrong(self, what, fault):
-        """A fault of the word that was taken last."""
-        return Fault(f"word {self.at}, {quoted(self.words[self.at - 1])}, stands for {what}: {fault}")
-
-    def number(self, what, limits):
-        fault = number_fault(self.take(what), *limits)
-        if fault:
-            raise self.wrong(what, fault)
-        return int(self.words[self.at - 1])
-
-    def float(self, what):
-        fault = float_fault(self.take(what))
-        if fault:
-            raise self.wrong(what, fault)
-
-    def items(self, name, most, take):
-        count = self.number(f"the count of the {name}s", U64)
-        if count > most:
-            raise self.wrong(f"the count of the {name}s", f"a line has at most {most} of them")
-        for done in range(count):
-            if self.at == len(self.words):
-                raise Fault(f"the line ends after {done} of {count} {name}s; the count does not match the items")
-            take(f"{name} {done + 1} of {count}")
-
-    def end(self):
-        more = len(self.words) - self.at
-        if more:
-            raise Fault(
-                f"{more} {'word' if more == 1 else 'words'} too many: the line should end before word {self.at + 1}, "
-                f"{quoted(self.words[self.at])}, unless a count does not match its items"
-            )
-
-
-def check_accumulator(words):
-    words.float("m")
-    words.number("the exponent e", I64)
-    words.number("the bad mark", (0, 1))
-
-
-def check_finish(words):
-    kind = words.take("acc or refused")
-    if kind == "acc":
-        check_accumulator(words)
-    elif kind == "refused":
-        words.number("the number of a refusal", U32)
-    else:
-        raise words.wrong("what is finished", "it is neither acc nor refused")
-
-
-def check_call(call, words):
-    """What stands behind the first word of a line."""
-    if call == "join":
-        check_accumulator(words)
-        check_accumulator(words)
-    elif call == "finish":
-        check_finish(words)
-    else:
-        words.items("size", AXES, lambda what: words.number(what, U64))
-        words.items("stride", AXES, lambda what: words.number(what, I64))
-        if call != "compile":
-            words.number("the base", I64)
-            words.number("the start of the range", U64)
-            words.number("the end of the range", U64)
-        if call == "list":
-            words.number("the length of the values", U64)
-            words.items("place", ITEMS, lambda what: words.number(what, I64))
-        if call in OVER_VALUES:
-            words.items("value", ITEMS, words.float)
-    words.end()
-
-
-def check_line(line):
-    check_bytes(line)
-    words = Words(line.decode("ascii").split(" "))
-    call = words.take("the call")
-    if call not in ANSWERS:
-        hint = "write it in lower case" if call.lower() in ANSWERS else "the calls are " + ", ".join(ANSWERS)
-        raise Fault(f"the first word, {quoted(call)}, is no call; {hint}")
-    check_call(call, words)
-
-
-def fault_of(line):
-    """What is wrong with a line, or None."""
-    try:
-        check_line(line)
-    except Fault as fault:
-        return str(fault)
-    return None
 
 
 # ---- a case in plain words
@@ -273,13 +69,28 @@ def shown_acc(words):
     return f"{float_of(words[0])!r} × 2^{words[1]}" + (", bad" if words[2] == "1" else "")
 
 
+def shown_sent(words):
+    """The words of a job as they were sent: not what is told by them, which is the reader's answer."""
+    sent = bytes(int(byte) for byte in take_list(words)[0])
+    whole = [int.from_bytes(sent[at : at + 4], "little") for at in range(0, len(sent) - 3, 4)]
+    text = ", ".join(f"{KINDS[word >> 29]} {word % 2**29}" for word in whole[:JOB_WORDS])
+    text = f"{len(whole)} words, by kind and payload: {text}" if whole else "no word"
+    text += f" .. and {len(whole) - JOB_WORDS} more" if len(whole) > JOB_WORDS else ""
+    return text + (f"; and {len(sent) % 4} of the 4 bytes of another" if len(sent) % 4 else "")
+
+
 def shown_case(words, refusals):
     call = words[0]
     if call == "compile":
         return "compile: " + shown_layout(words[1:])[0]
+    if call == "read":
+        return "read: " + shown_sent(words[1:])
     if call == "list":
         layout, rest = shown_range(words[1:])
         return f"list: {layout}, {rest[0]} values, a buffer of {rest[1]}"
+    if call == "write":
+        layout, rest = shown_range(words[1:])
+        return f"write: {layout}, a buffer of {rest[0]} bytes"
     if call in OVER_VALUES:
         layout, rest = shown_range(words[1:])
         return f"{call}: {layout}, {shown_values(rest)}"
@@ -372,12 +183,21 @@ def shown_bad(case, element, offset):
     return f"the first bad rate is element {element}, at offset {offset}: {what}"
 
 
+def shown_job(words):
+    """What was read: the places past the axes are left out."""
+    count, numbers = words[0], words[1:]
+    sizes, strides = (numbers[at : at + int(count)] for at in (0, 16))
+    return "a job: " + shown_range([count, *sizes, count, *strides, *numbers[32:]])[0]
+
+
 def shown_answer(case, words, refusals):
     kind, call = words[0], case[0]
-    if kind == "refused":
+    if kind == "refused" or (kind in ("compile", "list", "job", "write") and words[1] != "0"):
         return shown_refusal(words[1], refusals)
-    if kind in ("compile", "list") and words[1] != "0":
-        return shown_refusal(words[1], refusals)
+    if kind == "job":
+        return shown_job(words[2:])
+    if kind == "write":
+        return f"{words[2]} bytes: " + " ".join(take_list(words[3:])[0][: int(words[2])])
     if kind == "compile":
         return f"{words[2]} elements, runs of {words[3]} by {words[4]}, {shown_axes(words[5:])}"
     if kind == "list":

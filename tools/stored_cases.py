@@ -3,7 +3,7 @@
 
 The format has no comments, so this file says what each group is for: here layouts, joins and malformed lines,
 in stored_products.py reductions, products and finishes, in stored_figures.py ordered products and figures,
-in stored_search.py first bad rates.
+in stored_search.py first bad rates, in stored_jobs.py layouts sent as words.
 The answers are the oracle's: crates/replay/stdout.
 """
 
@@ -11,6 +11,7 @@ import math
 import sys
 
 import stored_figures
+import stored_jobs
 import stored_products
 import stored_search
 from case_lines import BAD, GAPS, INFINITE, LEAST, LIMIT, MANY, MOST, ONE, OUT, PLAN, SIGN, THREE_HALVES, TWO
@@ -578,6 +579,7 @@ def main():
         malformed,
         *stored_figures.GROUPS,
         *stored_search.GROUPS,
+        *stored_jobs.GROUPS,
     ]:
         group()
     # The last line has no newline, and counts all the same.

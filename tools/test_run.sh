@@ -227,6 +227,15 @@ readonly faulty=(
     'First 1 2 1 1' 'write it in lower case'
     'first 1 2 1 1 0 0 2' 'the line ends where the count of the values should stand'
     "first 1 2 1 1 0 0 2 2 $m ${m}0" 'word 11, "3ff80000000000000", stands for value 2 of 2: a float has 16 hex digits, those of its bits, and this has 17'
+    'read' 'the line ends where the count of the bytes should stand'
+    'read 2 1' 'the line ends after 1 of 2 bytes; the count does not match the items'
+    'read 1 256' 'word 3, "256", stands for byte 1 of 1: it does not lie in 0 to 255'
+    'read 4097' 'at most 4096 of them'
+    'Write 0 0 0 0 0 0' 'write it in lower case'
+    'write 1 4 1 1 0 0 4' 'the line ends where the count of the bytes should stand'
+    'write 33' 'at most 32 of them'
+    'write 0 0 0 -1 4 0' 'word 5, "-1", stands for the start of the range: it may not be below 0'
+    'write 0 0 0 0 4 1 7 7' '1 word too many: the line should end before word 9, "7"'
     "$(head -c 131073 /dev/zero | tr '\0' x)" 'the line has 131073 bytes'
 )
 
@@ -259,7 +268,7 @@ numbers() {
         "figure $two 7ff0000000000000 $zero" '    NaN: a rate is a NaN, or an infinity met a zero' \
         "figure 1 2 0 0 0 2 2 $m $m" '    refused 1 (STRIDE_LENGTH_MISMATCH)' \
         'list 1 2 1 1 4 0 2 6 3 -1 -2 -3' '    offsets 4 5' \
-        'finish refused 11' '    refused 11'
+        'finish refused 1000' '    refused 1000'
 }
 
 # Where the first bad rate stands, and what it is.
@@ -274,13 +283,32 @@ bad_rates() {
         "first 1 2 1 1 0 0 3 2 $m $zero" '    refused 6 (RANGE_PAST_END)'
 }
 
+# What a job holds, as words and as it was read; the bytes that were written, and no others of the buffer.
+jobs() {
+    local end='1 0 0 160 0 0 0 192' none='5 0 0 96 0 0 0 128'
+    check_lines 'jobs' 0 \
+        "read 16 $none $end" '    a job: sizes none, strides none, base -3, elements 0 to 1 (not included)' \
+        "read 24 4 0 0 32 3 0 0 64 $none $end" '    a job: sizes 4, strides -2, base -3, elements 0 to 1 (not included)' \
+        'read 0' '    refused 11 (BAD_WORD)' \
+        "read 17 $none $end 0" '    refused 11 (BAD_WORD)' \
+        "read 28 4 0 0 32 0 0 0 0 64 0 0 0 $none $end" '    refused 12 (NUMBER_TOO_LONG)' \
+        'write 0 0 -3 0 1 18 7 7 7 7 7 7 7 7 7 7 7 7 7 7 7 7 7 7' "    16 bytes: $none $end" \
+        'write 0 0 -3 0 1 3 7 7 7' '    refused 13 (JOB_BUFFER_TOO_SHORT)' \
+        'write 1 4 0 0 0 4 0' '    refused 1 (STRIDE_LENGTH_MISMATCH)'
+    has "$work/out" 'read: 4 words, by kind and payload: base 5, start 0, end 1, finish 0; and 1 of the 4 bytes of another' ||
+        die 'jobs: the words that were sent are not shown'
+    has "$work/out" 'read: no word' || die 'jobs: a job without bytes is not shown'
+    ! grep -q '16 bytes: .* 7$' "$work/out" || die 'jobs: bytes past the job are shown'
+    check 'an example of jobs' 0 '    a job: sizes 2 3, strides 6 1, base 7, elements 0 to 6 (not included)' '' run_sh 'examples/job.cases'
+}
+
 # Each refusal has a name and a condition, in the file that is their home.
 refusals() {
     local cases=() code said ones
-    for code in 1 2 3 4 5 6 7 8 9 10; do cases+=("finish refused $code" "    refused $code ("); done
+    for code in {1..13}; do cases+=("finish refused $code" "    refused $code ("); done
     check_lines 'refusals' 0 "${cases[@]}"
     said=$(grep -cE '^    refused [0-9]+ \([A-Z_]+\): .*[^.]$' "$work/out")
-    [ "$said" -eq 10 ] || die "refusals: $said of 10 have a name and a condition"
+    [ "$said" -eq 13 ] || die "refusals: $said of 13 have a name and a condition"
     # The condition says the limit that the program has.
     ones=$(printf ' 1%.0s' {1..16})
     check_lines 'the limit of axes' 0 "compile 16$ones 16$ones" '    1 elements' \
@@ -316,7 +344,7 @@ EOF
 [ -x target/bin/replay ] || die 'target/bin/replay is not there; build it by ./run or rt check replay'
 [ -f crates/refusals/src/lib.rt ] || die 'crates/refusals/src/lib.rt is not there; it names the refusals'
 make_copy
-for group in calls inputs outputs tools_missing builds programs replay_itself faults numbers bad_rates refusals stored; do
+for group in calls inputs outputs tools_missing builds programs replay_itself faults numbers bad_rates jobs refusals stored; do
     "$group"
 done
 printf 'test_run: ok, %s checks\n' "$count"

@@ -17,6 +17,7 @@ mod oracle {
     pub mod error;
     pub mod generate;
     pub mod inline;
+    pub mod jobs;
     pub mod rules;
     pub mod simd;
 }
@@ -40,7 +41,7 @@ mod timing;
 // The oracle's files name each other from the root of the crate.
 pub use oracle::complex::{Complex32, Complex64};
 pub use oracle::error::{Result, StridedError};
-use oracle::{erased, generate, inline, rules, simd};
+use oracle::{erased, generate, inline, jobs, rules, simd};
 
 fn usage() -> ! {
     eprintln!("usage: bench table, bench rare, bench figures, bench search, bench growth, bench check, or bench compare COUNT SEED");

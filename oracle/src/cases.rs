@@ -1,14 +1,17 @@
 //! Ours: the lines of a case file and their answers.
 
 use crate::erased::calls::{Acc, Layout};
+use crate::jobs::{self, Job};
 use crate::rules::{self, BadRate, Range};
 use crate::words::Words;
+use std::fmt::Display;
 use std::io::{Read, Result, Write};
 
 const MOST_LINE: usize = 128 * 1024;
 const MOST_AXES_GIVEN: u64 = 32;
 const MOST_VALUES: u64 = 4096;
 const MOST_PLACES: u64 = 4096;
+const MOST_BYTES: u64 = 4096;
 
 pub fn replay() -> Result<()> {
     let mut input = Vec::new();
@@ -44,6 +47,8 @@ fn answer(line: &[u8]) -> Option<String> {
         b"first" => Some(first_text(over_range(words, rules::first_bad_rate)?)),
         b"join" => join(words),
         b"finish" => finish(words),
+        b"read" => read_job(words),
+        b"write" => write_job(words),
         _ => None,
     }
 }
@@ -85,11 +90,16 @@ fn list(mut words: Words) -> Option<String> {
     words.end()?;
     let range = Range { base, start, end, length };
     let code = rules::list(&sizes, &strides, &range, &mut buffer);
-    let mut text = format!("list {code} {}", buffer.len());
-    for place in &buffer {
-        text += &format!(" {place}");
+    Some(format!("list {code}{}", items_text(&buffer)))
+}
+
+/// A list: its count and its items, with a space before each word.
+fn items_text<T: Display>(items: &[T]) -> String {
+    let mut text = format!(" {}", items.len());
+    for item in items {
+        text += &format!(" {item}");
     }
-    Some(text)
+    text
 }
 
 /// What a call over a range with its values gives.
@@ -144,4 +154,37 @@ fn first_text(answer: std::result::Result<Option<BadRate>, u32>) -> String {
         Ok(None) => String::from("none"),
         Err(code) => format!("refused {code}"),
     }
+}
+
+fn read_job(mut words: Words) -> Option<String> {
+    let bytes = words.list(MOST_BYTES, Words::byte)?;
+    words.end()?;
+    Some(match jobs::read(&bytes) {
+        Ok(job) => job_text(0, &job),
+        Err(code) => job_text(code, &Job::default()),
+    })
+}
+
+fn job_text(code: u32, job: &Job) -> String {
+    let mut text = format!("job {code} {}", job.sizes.len());
+    for place in 0..rules::MOST_AXES {
+        text += &format!(" {}", job.sizes.get(place).unwrap_or(&0));
+    }
+    for place in 0..rules::MOST_AXES {
+        text += &format!(" {}", job.strides.get(place).unwrap_or(&0));
+    }
+    text + &format!(" {} {} {}", job.base, job.start, job.end)
+}
+
+fn write_job(mut words: Words) -> Option<String> {
+    let (sizes, strides) = axes(&mut words)?;
+    let base = words.i64()?;
+    let (start, end) = (words.u64()?, words.u64()?);
+    let mut buffer = words.list(MOST_BYTES, Words::byte)?;
+    words.end()?;
+    let (code, count) = match jobs::write(&Job { sizes, strides, base, start, end }, &mut buffer) {
+        Ok(count) => (0, count),
+        Err(code) => (code, 0),
+    };
+    Some(format!("write {code} {count}{}", items_text(&buffer)))
 }

@@ -1,12 +1,14 @@
 //! Ours: random case lines, the same for the same seed.
 //!
 //! A kind names what is drawn: `layout` gives lines of `compile` and `list`, `join` of `join`, `reduce` of `reduce`
-//! and `product`, `ordered` of `ordered` and `figure`, `first` of `first`, `finish` of `finish`.
+//! and `product`, `ordered` of `ordered` and `figure`, `first` of `first`, `finish` of `finish`, `jobs` of `write` and
+//! `read`.
 
 mod accumulator;
 mod axes;
 mod finish;
 pub mod first;
+mod jobs;
 mod join;
 mod layout;
 pub mod ordered;
@@ -26,6 +28,7 @@ pub fn maker(kind: &str) -> Option<Maker> {
         "ordered" => Some(ordered::line),
         "first" => Some(first::line),
         "finish" => Some(finish::line),
+        "jobs" => Some(jobs::line),
         _ => None,
     }
 }

@@ -16,6 +16,7 @@ mod erased;
 mod error;
 mod generate;
 mod inline;
+mod jobs;
 mod rules;
 mod simd;
 mod words;

@@ -51,6 +51,10 @@ impl<'a> Words<'a> {
         u32::try_from(self.u64()?).ok()
     }
 
+    pub fn byte(&mut self) -> Option<u8> {
+        u8::try_from(self.u64()?).ok()
+    }
+
     pub fn i64(&mut self) -> Option<i64> {
         let word = self.word()?;
         let number = match word.strip_prefix(b"-") {
