@@ -1,3 +1,4 @@
 pub mod DigitCount
+pub mod Lists
 pub mod Reading
 pub mod Signs

@@ -1,5 +1,5 @@
 // Numbers and words put into a buffer, one after the other. Each call answers where the next one writes.
-ghost use Prim.Native.Nat.{_+_, _≤_, _<_};
+ghost use Prim.Native.Nat.{_+_, _*_, _≤_, _<_};
 ghost use mathlib.Core.Path.{_≡_};
 ghost use lib.ListN.{length};
 ghost use lib.Seq.{paste};
@@ -82,4 +82,44 @@ fn put_hex(out: &mut [u8], at: usize, bits: u64) -> usize
         rest /= 16;
     }
     at + 16
+}
+
+// Numbers one after the other, each with a space before it.
+pub fn put_u64s(out: &mut [u8], from: usize, items: &[u64]) -> usize
+    requires { ⌜ from + 21 * length (now items) ≤ length (now out) ⌝ }
+    ensures { λ r. ⌜ r ≤ from + 21 * length (now (items .entry)) ⌝ }
+{
+    let mut at = from;
+    let mut i: usize = 0;
+    while i < items.len() {
+        at = put_u64(&mut *out, at, items[i]);
+        i += 1;
+    }
+    at
+}
+
+pub fn put_i64s(out: &mut [u8], from: usize, items: &[i64]) -> usize
+    requires { ⌜ from + 22 * length (now items) ≤ length (now out) ⌝ }
+    ensures { λ r. ⌜ r ≤ from + 22 * length (now (items .entry)) ⌝ }
+{
+    let mut at = from;
+    let mut i: usize = 0;
+    while i < items.len() {
+        at = put_i64(&mut *out, at, items[i]);
+        i += 1;
+    }
+    at
+}
+
+pub fn put_bytes(out: &mut [u8], from: usize, items: &[u8]) -> usize
+    requires { ⌜ from + 21 * length (now items) ≤ length (now out) ⌝ }
+    ensures { λ r. ⌜ r ≤ from + 21 * length (now (items .entry)) ⌝ }
+{
+    let mut at = from;
+    let mut i: usize = 0;
+    while i < items.len() {
+        at = put_u64(&mut *out, at, items[i] as u64);
+        i += 1;
+    }
+    at
 }

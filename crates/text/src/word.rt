@@ -16,6 +16,11 @@ pub enum ReadI64 {
     Malformed,
 }
 
+pub enum ReadByte {
+    Is(u8, usize),
+    Malformed,
+}
+
 // A list that was read into a buffer: how many items, and where the next word begins.
 pub struct Items {
     pub ok: bool,
@@ -65,6 +70,17 @@ pub fn read_i64(line: &[u8], at: usize) -> ReadI64 {
         return ReadI64::Malformed;
     };
     ReadI64::Is(n, end + 1)
+}
+
+// A number that is at most 255.
+pub fn read_byte(line: &[u8], at: usize) -> ReadByte {
+    let ReadU64::Is(n, next) = read_u64(line, at) else {
+        return ReadByte::Malformed;
+    };
+    if 255 < n {
+        return ReadByte::Malformed;
+    }
+    ReadByte::Is(n as u8, next)
 }
 
 // The 16 hex digits of a bit pattern.
@@ -145,6 +161,31 @@ pub fn read_i64s(line: &[u8], at: usize, out: &mut [i64]) -> Items
     let mut i: usize = 0;
     while i < count {
         let ReadI64::Is(n, after) = read_i64(line, next) else {
+            return no_items();
+        };
+        out[i] = n;
+        next = after;
+        i += 1;
+    }
+    Items {
+        ok: true,
+        count,
+        next,
+    }
+}
+
+pub fn read_bytes(line: &[u8], at: usize, out: &mut [u8]) -> Items
+    ensures { λ r. ⌜ r .count ≤ length (now (out .entry)) ⌝ }
+{
+    let head = read_count(line, at, out.len());
+    if !head.ok {
+        return no_items();
+    }
+    let count = head.count;
+    let mut next = head.next;
+    let mut i: usize = 0;
+    while i < count {
+        let ReadByte::Is(n, after) = read_byte(line, next) else {
             return no_items();
         };
         out[i] = n;
