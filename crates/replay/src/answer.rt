@@ -35,6 +35,9 @@ pub fn answer(line: &[u8], out: &mut [u8]) -> usize
     if check::same(&line[..end], b"finish") {
         return put_answer(crate::product::read_finish(line, end + 1), &mut *out);
     }
+    if check::same(&line[..end], b"read") {
+        return crate::job::answer_read(line, end + 1, &mut *out);
+    }
     answer_axes(&line[..end], line, end + 1, &mut *out)
 }
 
@@ -101,6 +104,9 @@ fn answer_layout(
     }
     if check::same(call, b"first") {
         return answer_range(RangeCall::First, sizes, strides, line, at, &mut *out);
+    }
+    if check::same(call, b"write") {
+        return crate::job::answer_write(sizes, strides, line, at, &mut *out);
     }
     malformed(&mut *out)
 }
@@ -250,19 +256,6 @@ fn put_list(code: u32, places: &[i64], out: &mut [u8]) -> usize
     let mut at = text::print::put(&mut *out, 0, b"list");
     at = text::print::put_u64(&mut *out, at, code as u64);
     at = text::print::put_u64(&mut *out, at, places.len() as u64);
-    at = put_places(places, &mut *out, at);
+    at = text::print::put_i64s(&mut *out, at, places);
     text::print::put(&mut *out, at, b"\n")
-}
-
-fn put_places(places: &[i64], out: &mut [u8], from: usize) -> usize
-    requires { ⌜ (from ≤ 1000) × (length (now places) ≤ 4096) × (131072 ≤ length (now out)) ⌝ }
-    ensures { λ r. ⌜ r ≤ 100000 ⌝ }
-{
-    let mut at = from;
-    let mut i: usize = 0;
-    while i < places.len() {
-        at = text::print::put_i64(&mut *out, at, places[i]);
-        i += 1;
-    }
-    at
 }

@@ -3,6 +3,7 @@ mod acc;
 mod answer;
 mod float;
 mod input;
+mod job;
 mod product;
 mod range;
 

@@ -56,6 +56,27 @@ same-length-2 c = search needs
 returns-2 : tie.Need-returns-2
 returns-2 c = search needs
 
+slice-aggregate-same-5 : tie.Need-slice-aggregate-same-5
+slice-aggregate-same-5 c = counts _ _ (search needs)
+
+slice-aggregate-same-6 : tie.Need-slice-aggregate-same-6
+slice-aggregate-same-6 c = search needs
+
+same-requires-3 : tie.Need-same-requires-3
+same-requires-3 c κs = search needs
+
+add-answer-read : tie.Need-add-answer-read
+add-answer-read c = search needs
+
+answer-read-requires : tie.Need-answer-read-requires
+answer-read-requires c κs = search needs
+
+same-length-3 : tie.Need-same-length-3
+same-length-3 c = search needs
+
+returns-3 : tie.Need-returns-3
+returns-3 c = search needs
+
 slice-aggregate-answer-axes : tie.Need-slice-aggregate-answer-axes
 slice-aggregate-answer-axes c = counts _ _ (search needs)
 
@@ -65,11 +86,11 @@ add-answer-axes c = search needs
 answer-axes-requires : tie.Need-answer-axes-requires
 answer-axes-requires c κs = search needs
 
-same-length-3 : tie.Need-same-length-3
-same-length-3 c = search needs
+same-length-4 : tie.Need-same-length-4
+same-length-4 c = search needs
 
-returns-3 : tie.Need-returns-3
-returns-3 c = search needs
+returns-4 : tie.Need-returns-4
+returns-4 c = search needs
 
 pub answer-spec : {M : Type 1} → statement M
 answer-spec =
@@ -92,8 +113,15 @@ answer-spec =
     put-answer-requires-2
     same-length-2
     returns-2
+    slice-aggregate-same-5
+    slice-aggregate-same-6
+    same-requires-3
+    add-answer-read
+    answer-read-requires
+    same-length-3
+    returns-3
     slice-aggregate-answer-axes
     add-answer-axes
     answer-axes-requires
-    same-length-3
-    returns-3)
+    same-length-4
+    returns-4)

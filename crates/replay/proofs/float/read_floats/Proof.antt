@@ -1,14 +1,13 @@
--- `replay::float::read_floats` meets its contract. The invariant: the count is at most the buffer's length, which stays.
+-- `replay::float::read_floats` meets its contract. The invariant is that of every reader of a list.
 -- Assumes nothing.
-use Prim.Native.Nat.{_-_, _≤_}
-use mathlib.Core.Path.{_≡_}
-use lib.ListN.{length}
+use Prim.Native.Nat.{_-_}
 use borrow.Author.Needs.{needs}
+use Rattle.text.proofs.Lists.{Filling}
 use Rattle.replay.proofs.float.read_floats.Statement.{statement}
 use Rattle.replay.proofs.float.read_floats.Tie as tie
 
 abbrev Inv-loop : tie.InvT-loop
-Inv-loop line at out₀ count next₀ i₀ out next i = (i ≤ count) × (count ≤ length out₀) × (length out ≡ length out₀)
+Inv-loop line at out₀ count next₀ i₀ out next i = Filling count out₀ out i
 
 abbrev μ-loop : tie.MeasureT-loop
 μ-loop line at out₀ count next₀ i₀ out next i = count - i
