@@ -41,7 +41,7 @@ pub fn word_at(bytes: &[u8], at: usize) -> u64
     requires { ⌜ at ≤ length (now bytes) ⌝ }
     ensures { λ r. ⌜ r ≡ firstWord (drop at (now (bytes .entry))) ⌝ }
 {
-    if bytes.len() - at < WORD_BYTES {
+    if bytes.len() < at + WORD_BYTES {
         return NO_WORD;
     }
     let a = bytes[at] as u64;
@@ -51,14 +51,22 @@ pub fn word_at(bytes: &[u8], at: usize) -> u64
     a + BYTE * b + TWO_BYTES * c + THREE_BYTES * d
 }
 
+// Puts the four bytes of a word at a place. Here it is one number, so they are compiled to one store; of kind and payload together the compiler would take the
+// low bytes from the payload alone, and store each by itself.
+fn put_bytes(out: &mut [u8], at: usize, w: u64)
+    requires { ⌜ (at + 4 ≤ length (now out)) × (w < 2 ^ 32) ⌝ }
+    ensures { λ _. ⌜ now (out .exit) ≡ sets (now (out .entry)) at (bytesOf w) ⌝ }
+{
+    out[at] = (w % BYTE) as u8;
+    out[at + 1] = (w / BYTE % BYTE) as u8;
+    out[at + 2] = (w / TWO_BYTES % BYTE) as u8;
+    out[at + 3] = (w / THREE_BYTES) as u8;
+}
+
 // Puts a word at a place.
 pub fn put_word(out: &mut [u8], at: usize, kind: u64, payload: u64)
     requires { ⌜ (at + 4 ≤ length (now out)) × (kind < 8) × (payload < 2 ^ 29) ⌝ }
     ensures { λ _. ⌜ now (out .exit) ≡ sets (now (out .entry)) at (bytesOf (wordOf kind payload)) ⌝ }
 {
-    let w = kind * PAYLOADS + payload;
-    out[at] = (w % BYTE) as u8;
-    out[at + 1] = (w / BYTE % BYTE) as u8;
-    out[at + 2] = (w / TWO_BYTES % BYTE) as u8;
-    out[at + 3] = (w / THREE_BYTES) as u8;
+    put_bytes(&mut *out, at, kind * PAYLOADS + payload);
 }

@@ -1,75 +1,25 @@
--- `jobs::words::put_word` meets its contract: four stores, one for each byte.
+-- `jobs::words::put_word` meets its contract: the word's bytes.
 -- Assumes nothing.
-use native.Mathlib.Omega.{arith}
-use lib.ListN.{length-set}
 use borrow.Author.Needs.{needs}
-use Rattle.jobs.specs.Words.{bytesOf, wordOf}
-use Rattle.jobs.proofs.Laying.{sets-four}
+use Rattle.jobs.specs.Words.{wordOf}
 use Rattle.jobs.proofs.words.put_word.Statement.{statement}
 use Rattle.jobs.proofs.words.put_word.Tie as tie
 
-mul-w : tie.Need-mul-w
-mul-w c = search needs
+mul-put-bytes : tie.Need-mul-put-bytes
+mul-put-bytes c = search needs
 
-add-w : tie.Need-add-w
-add-w c = search needs
+add-put-bytes : tie.Need-add-put-bytes
+add-put-bytes c = search needs
 
-cast-out : tie.Need-cast-out
-cast-out c = search needs
-
-slice-write-out : tie.Need-slice-write-out
-slice-write-out c = search needs
-
-cast-out-2 : tie.Need-cast-out-2
-cast-out-2 c = search needs
-
-add-out : tie.Need-add-out
-add-out c = search needs
-
-slice-write-out-2 : tie.Need-slice-write-out-2
-slice-write-out-2 c = simp length-set (omega (arith, c .pre .0))
-
-cast-out-3 : tie.Need-cast-out-3
-cast-out-3 c = search needs
-
-add-out-2 : tie.Need-add-out-2
-add-out-2 c = search needs
-
-slice-write-out-3 : tie.Need-slice-write-out-3
-slice-write-out-3 c = simp length-set (omega (arith, c .pre .0))
-
-cast-out-4 : tie.Need-cast-out-4
-cast-out-4 c = search needs
-
-add-out-3 : tie.Need-add-out-3
-add-out-3 c = search needs
-
-slice-write-out-4 : tie.Need-slice-write-out-4
-slice-write-out-4 c = simp length-set (omega (arith, c .pre .0))
+put-bytes-requires : tie.Need-put-bytes-requires
+put-bytes-requires c κs = search needs
 
 same-length : tie.Need-same-length
 same-length c = search needs
 
 returns : tie.Need-returns
-unfolding bytesOf wordOf
-returns c = sets-four (c .args .out .now) (c .args .at) _ _ _ _
+unfolding wordOf
+returns c = c .before .before .put-bytes .ensures
 
 pub put-word-spec : {M : Type 1} → statement M
-put-word-spec =
-    tie.close
-    (tie.spec
-    mul-w
-    add-w
-    cast-out
-    slice-write-out
-    cast-out-2
-    add-out
-    slice-write-out-2
-    cast-out-3
-    add-out-2
-    slice-write-out-3
-    cast-out-4
-    add-out-3
-    slice-write-out-4
-    same-length
-    returns)
+put-word-spec = tie.close (tie.spec mul-put-bytes add-put-bytes put-bytes-requires same-length returns)

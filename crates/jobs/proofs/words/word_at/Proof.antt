@@ -8,11 +8,11 @@ use Rattle.jobs.proofs.Bytes.{no-word, word-is}
 use Rattle.jobs.proofs.words.word_at.Statement.{statement}
 use Rattle.jobs.proofs.words.word_at.Tie as tie
 
-sub-if1 : tie.Need-sub-if1
-sub-if1 c = search needs
+add-if1 : tie.Need-add-if1
+add-if1 c = search needs
 
 returns : tie.Need-returns
-returns c = let s = c .before in no-word (s .args .bytes .now) (s .args .at) (c .if1 .taken)
+returns c = let s = c .before in no-word (s .args .bytes .now) (s .args .at) (omega (arith, s .pre, c .if1 .taken))
 
 shared-slice-read-a : tie.Need-shared-slice-read-a
 shared-slice-read-a c = search needs
@@ -90,7 +90,7 @@ pub word-at-spec : {M : Type 1} → statement M
 word-at-spec =
     tie.close
     (tie.spec
-    sub-if1
+    add-if1
     returns
     shared-slice-read-a
     cast-a
