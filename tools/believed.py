@@ -14,8 +14,8 @@ from pathlib import Path
 ROOT = Path(__file__).resolve().parent.parent
 PAGE = ROOT / "docs" / "PROOFS.md"
 # A new rule raises it by the lines of its definitions, in the commit that adds them.
-MOST_LINES = 830
-# The exported calls: a file of src and the functions in it (docs/RULES.md, C1 to C9).
+MOST_LINES = 1085
+# The exported calls: a file of src and the functions in it (docs/RULES.md, C1 to C11).
 EXPORTED = {
     "layout/src/traversal.rt": ["compile"],
     "offsets/src/list.rt": ["offset_list"],
@@ -25,9 +25,12 @@ EXPORTED = {
     "ordered/src/lib.rt": ["ordered_product"],
     "search/src/lib.rt": ["first_bad_rate"],
     "figures/src/lib.rt": ["figure"],
+    "jobs/src/reading.rt": ["read_job"],
+    "jobs/src/writing.rt": ["write_job"],
     "probe/src/lib.rt": ["probe_reduce", "probe_list"],
     "figure_probe/src/lib.rt": ["probe_ordered", "probe_figure"],
     "search_probe/src/lib.rt": ["probe_first"],
+    "job_probe/src/lib.rt": ["probe_read", "probe_write"],
 }
 # Files whose every definition is a statement: theorems, and tables of cases that are proved.
 STATEMENTS = ("Theorems", "Cases")
