@@ -1,12 +1,13 @@
 //! Every case of both tables, of growth, and of short calls with several axes: those that take longer than the Rust.
-//! And every case of the calls that hand out a number, and of the search: those that take longer than aimed at.
+//! And every case of the calls that hand out a number, of the search, and of jobs of sixteen axes: those that take longer
+//! than aimed at.
 //!
 //! A busy machine makes a case look slow now and then, so one that does is timed again, and its best ratio counts.
 
 use crate::job::Job;
 use crate::rates::Rates;
 use crate::table::Row;
-use crate::{beside, figures, growth, rare, search, table, timing};
+use crate::{beside, figures, growth, rare, search, sent, table, timing};
 use std::time::Duration;
 
 const LEAST: Duration = Duration::from_millis(100);
@@ -49,8 +50,12 @@ pub fn print() -> bool {
     for table in figures::TABLES.iter().chain(&search::TABLES) {
         (table.rows)().iter().for_each(|row| seen.beside(table, row));
     }
+    eprintln!("jobs of sixteen axes ..");
+    for case in sent::aimed_at() {
+        seen.aims(&case.name, case.difference(), &sent::AIMS, || case.ratios(LEAST));
+    }
     println!("{} of {} cases take longer than the Rust", seen.slower, seen.cases);
-    println!("{} of {} ratios of figures and of searches are past their aim", seen.missed, seen.ratios);
+    println!("{} of {} ratios of figures, of searches and of jobs are past their aim", seen.missed, seen.ratios);
     seen.same && seen.slower == 0 && seen.missed == 0
 }
 
@@ -86,15 +91,19 @@ impl Seen {
 
     fn beside(&mut self, table: &beside::Table, row: &Row) {
         let name = format!("{}, {}, {}", table.name, row.name, row.rates);
-        self.ratios += table.ratios.len();
-        if let Some(difference) = (table.difference)(&row.job) {
+        self.aims(&name, (table.difference)(&row.job), table.ratios, || table.measure(&row.job, LEAST).1);
+    }
+
+    /// Ratios with an aim each, if the answers are the same.
+    fn aims(&mut self, name: &str, difference: Option<String>, aims: &[(&str, f64)], ratios: impl Fn() -> Vec<f64>) {
+        self.ratios += aims.len();
+        if let Some(difference) = difference {
             println!("{name}: {difference}");
             self.same = false;
             return;
         }
-        let aims: Vec<f64> = table.ratios.iter().map(|ratio| ratio.1).collect();
-        let found = best(&aims, || table.measure(&row.job, LEAST).1);
-        for (ratio, &(head, aim)) in found.into_iter().zip(table.ratios) {
+        let limits: Vec<f64> = aims.iter().map(|aim| aim.1).collect();
+        for (ratio, &(head, aim)) in best(&limits, ratios).into_iter().zip(aims) {
             if ratio > aim {
                 self.missed += 1;
                 println!("{name}: {head} is {ratio:.3}, and the aim {aim}");

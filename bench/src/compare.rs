@@ -1,7 +1,7 @@
 //! Random calls to the engine and to the Rust, whose answers must be the same to the bit: the number of the
 //! refusal, the accumulator, and every place of a buffer. The offsets of each range are listed and compared too, and
-//! its ordered product, its figure and its first bad rate; then these for calls that are drawn for them. Now and then
-//! comes a long piece.
+//! its ordered product, its figure and its first bad rate; then these for calls that are drawn for them. Jobs are read
+//! and written. Now and then comes a long piece.
 
 use crate::erased::calls::{self, Layout};
 use crate::generate::reduce::Call;
@@ -12,6 +12,7 @@ use crate::numbers::Counts;
 use crate::probe::{self, Bits, Place};
 use crate::rules;
 use crate::searches;
+use crate::sent_answers;
 use std::collections::BTreeMap;
 
 /// What an answer's place holds before a call.
@@ -53,6 +54,7 @@ struct Seen {
     kinds: BTreeMap<Kind, u64>,
     numbers: Counts,
     searches: searches::Counts,
+    jobs: sent_answers::Counts,
 }
 
 /// Whether all answers were the same.
@@ -76,6 +78,9 @@ pub fn run(count: u64, seed: u64) -> bool {
     seen.numbers.print();
     println!("their first bad rates, and those of {count} calls that are drawn for them: all answers are the same");
     seen.searches.print();
+    println!("{count} jobs that are read, and {count} that are written, beside the oracle's own reader and writer:");
+    println!("all answers are the same");
+    seen.jobs.print();
     true
 }
 
@@ -85,6 +90,7 @@ impl Seen {
         self.reduction(dice)?;
         self.numbers_alone(dice)?;
         self.search_alone(dice)?;
+        self.jobs.ask(dice)?;
         if long {
             long_piece(dice)?;
         }

@@ -1,9 +1,10 @@
 //! The benchmark: the engine, linked from its static libraries, and the Rust source, in one process.
 //!
 //! `bench table` prints a row for each kind of call, `bench rare` a row for those seldom met, `bench figures` the calls
-//! that hand out a number, `bench search` the search for the first bad rate, `bench growth` the time against the number
-//! of values, `bench check` the cases that take longer than the Rust, or than aimed at, `bench compare COUNT SEED` the
-//! answers to random calls, by kind. Each ends with 1 if two answers differ, and `bench check` if a case takes longer.
+//! that hand out a number, `bench search` the search for the first bad rate, `bench jobs` reading and writing jobs,
+//! `bench growth` the time against the number of values, `bench check` the cases that take longer than the Rust, or than
+//! aimed at, `bench compare COUNT SEED` the answers to random calls, by kind. Each ends with 1 if two answers differ, and
+//! `bench check` if a case takes longer.
 //!
 //! The Rust is the oracle's, included by its path, so that nothing is copied and both see the same source.
 
@@ -30,11 +31,14 @@ mod growth;
 mod job;
 mod long;
 mod numbers;
+mod plain;
 mod probe;
 mod rare;
 mod rates;
 mod search;
 mod searches;
+mod sent;
+mod sent_answers;
 mod table;
 mod timing;
 
@@ -44,7 +48,7 @@ pub use oracle::error::{Result, StridedError};
 use oracle::{erased, generate, inline, jobs, rules, simd};
 
 fn usage() -> ! {
-    eprintln!("usage: bench table, bench rare, bench figures, bench search, bench growth, bench check, or bench compare COUNT SEED");
+    eprintln!("usage: bench table | rare | figures | search | jobs | growth | check, or bench compare COUNT SEED");
     std::process::exit(2);
 }
 
@@ -56,6 +60,7 @@ fn main() {
         ["rare"] => rare::print(),
         ["figures"] => beside::print(&figures::TABLES),
         ["search"] => beside::print(&search::TABLES),
+        ["jobs"] => sent::print(),
         ["growth"] => growth::print(),
         ["check"] => check::print(),
         ["compare", count, seed] => match (count.parse(), seed.parse()) {

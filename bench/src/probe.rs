@@ -3,6 +3,9 @@
 
 use crate::generate::reduce::Call;
 
+/// A job has at most so many axes.
+pub const PLACES: usize = 16;
+
 extern "C" {
     fn probe_reduce(
         sizes: *const u64,
@@ -72,6 +75,30 @@ extern "C" {
         element: *mut u64,
         offset: *mut i64,
     ) -> u32;
+
+    fn probe_read(
+        bytes: *const u8,
+        bytes_len: usize,
+        count: *mut usize,
+        sizes: *mut [u64; PLACES],
+        strides: *mut [i64; PLACES],
+        base: *mut i64,
+        start: *mut u64,
+        end: *mut u64,
+    ) -> u32;
+
+    fn probe_write(
+        sizes: *const u64,
+        sizes_len: usize,
+        strides: *const i64,
+        strides_len: usize,
+        base: i64,
+        start: u64,
+        end: u64,
+        out: *mut u8,
+        out_len: usize,
+        count: *mut usize,
+    ) -> u32;
 }
 
 /// An accumulator, or a place for one. The mark is read as the byte it is, which must be 0 or 1.
@@ -100,6 +127,17 @@ pub struct BadPlace {
     pub found: u8,
     pub element: u64,
     pub offset: i64,
+}
+
+/// A job that was read, or places for one.
+#[derive(Clone, Copy, Debug, Default, Eq, PartialEq)]
+pub struct JobPlace {
+    pub count: usize,
+    pub sizes: [u64; PLACES],
+    pub strides: [i64; PLACES],
+    pub base: i64,
+    pub start: u64,
+    pub end: u64,
 }
 
 /// The bits of a number that is handed out, or the number of a refusal.
@@ -211,5 +249,33 @@ pub fn first_into(range: &Range, values: &[f64], place: &mut BadPlace) -> u32 {
     // SAFETY: each pointer goes with the length of its own slice, and only the fields of `place` are written.
     unsafe {
         over_range!(probe_first, range, values.as_ptr(), values.len(), &mut place.found, &mut place.element, &mut place.offset)
+    }
+}
+
+/// 0, with the job in `place`; or the refusal 2, 11 or 12, with `place` as it was.
+#[inline]
+pub fn read_into(bytes: &[u8], place: &mut JobPlace) -> u32 {
+    // SAFETY: the pointer goes with the length of its slice, and only the fields of `place` are written.
+    unsafe {
+        probe_read(
+            bytes.as_ptr(),
+            bytes.len(),
+            &mut place.count,
+            &mut place.sizes,
+            &mut place.strides,
+            &mut place.base,
+            &mut place.start,
+            &mut place.end,
+        )
+    }
+}
+
+/// 0, with the job in the first bytes of `out` and their number in `count`; or the refusal 1, 2 or 13, with both as they
+/// were.
+#[inline]
+pub fn write_into(job: &Range, out: &mut [u8], count: &mut usize) -> u32 {
+    // SAFETY: each pointer goes with the length of its own slice, and only `out` and `count` are written.
+    unsafe {
+        over_range!(probe_write, job, out.as_mut_ptr(), out.len(), count)
     }
 }

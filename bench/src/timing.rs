@@ -22,12 +22,15 @@ struct Best {
     batch: Duration,
 }
 
+/// Makes so many calls of a program, and says how long they took.
+type Calls<'a> = &'a mut dyn FnMut(usize) -> Duration;
+
 impl Best {
     /// So many calls a batch that it lasts long enough and takes each turn equally often.
-    fn new<T>(turns: usize, call: &mut impl FnMut(usize) -> T) -> Best {
+    fn new(turns: usize, run: Calls) -> Best {
         let mut calls = turns;
         loop {
-            let spent = batch(turns, calls, call);
+            let spent = run(calls);
             if spent >= BATCH {
                 return Best { calls, spent, batch: spent };
             }
@@ -35,8 +38,8 @@ impl Best {
         }
     }
 
-    fn again<T>(&mut self, turns: usize, call: &mut impl FnMut(usize) -> T) {
-        let spent = batch(turns, self.calls, call);
+    fn again(&mut self, run: Calls) {
+        let spent = run(self.calls);
         self.spent += spent;
         self.batch = self.batch.min(spent);
     }
@@ -59,6 +62,14 @@ fn batch<T>(turns: usize, calls: usize, call: &mut impl FnMut(usize) -> T) -> Du
     began.elapsed()
 }
 
+fn best_of<const N: usize>(turns: usize, least: Duration, mut programs: [Calls; N]) -> [f64; N] {
+    let mut best = programs.each_mut().map(|run| Best::new(turns, *run));
+    while best.iter().any(|one| one.spent < least) {
+        best.iter_mut().zip(&mut programs).for_each(|(one, run)| one.again(*run));
+    }
+    best.map(|one| one.nanoseconds())
+}
+
 /// Nanoseconds a call of each of three programs, out of at least `least` for each. A program is handed the turn whose
 /// base it takes.
 pub fn by_turns<A, B, C>(
@@ -68,13 +79,24 @@ pub fn by_turns<A, B, C>(
     mut second: impl FnMut(usize) -> B,
     mut third: impl FnMut(usize) -> C,
 ) -> [f64; 3] {
-    let mut best = [Best::new(turns, &mut first), Best::new(turns, &mut second), Best::new(turns, &mut third)];
-    while best.iter().any(|one| one.spent < least) {
-        best[0].again(turns, &mut first);
-        best[1].again(turns, &mut second);
-        best[2].again(turns, &mut third);
-    }
-    best.map(|one| one.nanoseconds())
+    let programs: [Calls; 3] = [
+        &mut |calls| batch(turns, calls, &mut first),
+        &mut |calls| batch(turns, calls, &mut second),
+        &mut |calls| batch(turns, calls, &mut third),
+    ];
+    best_of(turns, least, programs)
+}
+
+/// The same of two programs.
+pub fn two_by_turns<A, B>(
+    turns: usize,
+    least: Duration,
+    mut first: impl FnMut(usize) -> A,
+    mut second: impl FnMut(usize) -> B,
+) -> [f64; 2] {
+    let programs: [Calls; 2] =
+        [&mut |calls| batch(turns, calls, &mut first), &mut |calls| batch(turns, calls, &mut second)];
+    best_of(turns, least, programs)
 }
 
 /// The reduction. At least `least` for each program.

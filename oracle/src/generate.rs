@@ -8,7 +8,7 @@ mod accumulator;
 mod axes;
 mod finish;
 pub mod first;
-mod jobs;
+pub mod jobs;
 mod join;
 mod layout;
 pub mod ordered;

@@ -25,7 +25,7 @@ pub fn line(dice: &mut Dice) -> String {
     if dice.once_in(3) {
         write_line(dice)
     } else {
-        format!("read{}", bytes_text(&read_bytes(dice)))
+        format!("read{}", bytes_text(&to_read(dice)))
     }
 }
 
@@ -62,6 +62,13 @@ fn drawn(dice: &mut Dice, axes: usize) -> Job {
 }
 
 fn write_line(dice: &mut Dice) -> String {
+    let (job, buffer) = to_write(dice);
+    let axes = Axes { sizes: job.sizes, strides: job.strides };
+    format!("write{} {} {} {}{}", axes.text(), job.base, job.start, job.end, bytes_text(&buffer))
+}
+
+/// A job, and the buffer that it is written into.
+pub fn to_write(dice: &mut Dice) -> (Job, Vec<u8>) {
     let axes = dice.of(&[0, 1, 1, 2, 2, 3, 4, 5, 8, 9, 15, 16, 16, 17, 18, 32]);
     let mut job = drawn(dice, axes);
     match dice.below(20) {
@@ -72,8 +79,7 @@ fn write_line(dice: &mut Dice) -> String {
         _ => {}
     }
     let buffer = buffer(dice, jobs::words(&job).len() * WORD_BYTES);
-    let axes = Axes { sizes: job.sizes, strides: job.strides };
-    format!("write{} {} {} {}{}", axes.text(), job.base, job.start, job.end, bytes_text(&buffer))
+    (job, buffer)
 }
 
 /// Mostly as long as the job or a little longer; else short by a byte, a word or more, or empty.
@@ -90,7 +96,8 @@ fn buffer(dice: &mut Dice, wanted: usize) -> Vec<u8> {
     (0..count).map(|_| filled.unwrap_or(dice.next() as u8)).collect()
 }
 
-fn read_bytes(dice: &mut Dice) -> Vec<u8> {
+/// Bytes to read.
+pub fn to_read(dice: &mut Dice) -> Vec<u8> {
     let mut words = match dice.below(8) {
         0 => walk(dice),
         1 | 2 => crowded(dice),
