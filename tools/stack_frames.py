@@ -3,9 +3,10 @@
 
     python3 tools/stack_frames.py [target/staticlib/libprobe.a]
 
-A frame is the registers that a function pushes, the room that it takes off the stack pointer and the return
-address. The deepest stack of a function is its frame and the deepest of those that it calls. A function that calls
-itself, through others too, is an error; what is called outside the library (memcpy) is named and not counted.
+A frame is the registers that a function pushes, the room that it takes off the stack pointer, what it uses below
+that, as a function that calls nothing may, and the return address. The deepest stack of a function is its frame and
+the deepest of those that it calls. A function that calls itself, through others too, is an error; what is called
+outside the library (memcpy) is named and not counted.
 """
 
 import re
@@ -16,6 +17,7 @@ LIBRARY = "target/staticlib/libprobe.a"
 WORD = 8
 NAME = re.compile(r"^[0-9a-f]+ <(.+)>:$")
 ROOM = re.compile(r"\bsub\s+\$0x([0-9a-f]+),%rsp")
+BELOW = re.compile(r"-0x([0-9a-f]+)\(%rsp")
 PUSH = re.compile(r"\bpush\s")
 GIVEN_BACK = re.compile(r"\badd\s.*,%rsp$")
 CALL = re.compile(r"\b(call|jmp)\s")
@@ -24,10 +26,10 @@ CALLED = re.compile(r"R_X86_64_(?:PLT32|PC32)\s+(\S+?)(?:-0x[0-9a-f]+)?$")
 
 class Function:
     def __init__(self):
-        self.pushes, self.room, self.calls = 0, 0, set()
+        self.pushes, self.room, self.below, self.calls = 0, 0, 0, set()
 
     def frame(self):
-        return WORD * (1 + self.pushes) + self.room
+        return WORD * (1 + self.pushes) + self.room + self.below
 
 
 def listing(library):
@@ -54,6 +56,8 @@ def functions(lines):
 
 def take(function, line):
     """What the instruction takes of the stack."""
+    if below := BELOW.search(line):
+        function.below = max(function.below, int(below.group(1), 16))
     if PUSH.search(line):
         function.pushes += 1
     elif room := ROOM.search(line):
