@@ -1,19 +1,10 @@
 //! A reader and a writer of jobs for the engine's to be timed beside: plain Rust, written from the request alone, with
 //! fixed tables, no heap and nothing unsafe.
 
+use crate::jobs::{BASE, END, FINISH, MORE, PAYLOAD_BITS, SIZE, START, STRIDE, WORD_BYTES};
 use crate::probe::{JobPlace, Range, PLACES};
 
-const MORE: u32 = 0;
-const SIZE: u32 = 1;
-const STRIDE: u32 = 2;
-const BASE: u32 = 3;
-const START: u32 = 4;
-const END: u32 = 5;
-const FINISH: u32 = 6;
-
-const PAYLOAD_BITS: u32 = 29;
 const PAYLOADS: u64 = 1 << PAYLOAD_BITS;
-const WORD_BYTES: usize = 4;
 
 const AXES_DIFFER: u32 = 1;
 const TOO_MANY_AXES: u32 = 2;

@@ -2,6 +2,7 @@
 //!
 //! A row is of jobs with as many axes each, and as many words to a number; the calls take turns with them.
 
+use crate::generate::jobs::drawn;
 use crate::generate::Dice;
 use crate::jobs::{self, Job};
 use crate::plain;
@@ -120,17 +121,6 @@ impl Case {
         let part = |[rust, engine]: [f64; 2]| format!("{rust:.1} | {engine:.1} | {:.3}", engine / rust);
         println!("| {} | {} | {} | {} |", self.name, self.length(), part(read), part(write));
         true
-    }
-}
-
-fn drawn(dice: &mut Dice, axes: usize, number: fn(&mut Dice) -> u64) -> Job {
-    let signed = |dice: &mut Dice| jobs::signed(u128::from(number(dice)));
-    Job {
-        sizes: (0..axes).map(|_| number(dice)).collect(),
-        strides: (0..axes).map(|_| signed(dice)).collect(),
-        base: signed(dice),
-        start: number(dice),
-        end: number(dice),
     }
 }
 

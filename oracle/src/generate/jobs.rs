@@ -47,17 +47,15 @@ fn unsigned(dice: &mut Dice) -> u64 {
 }
 
 /// The number that is sent as a drawn one: so its words end where those of an unsigned one do.
-fn signed(dice: &mut Dice) -> i64 {
-    jobs::signed(u128::from(unsigned(dice)))
-}
-
-fn drawn(dice: &mut Dice, axes: usize) -> Job {
+/// A job of numbers as they are sent, each drawn by `number`.
+pub fn drawn(dice: &mut Dice, axes: usize, number: fn(&mut Dice) -> u64) -> Job {
+    let signed = |dice: &mut Dice| jobs::signed(u128::from(number(dice)));
     Job {
-        sizes: (0..axes).map(|_| unsigned(dice)).collect(),
+        sizes: (0..axes).map(|_| number(dice)).collect(),
         strides: (0..axes).map(|_| signed(dice)).collect(),
         base: signed(dice),
-        start: unsigned(dice),
-        end: unsigned(dice),
+        start: number(dice),
+        end: number(dice),
     }
 }
 
@@ -70,12 +68,12 @@ fn write_line(dice: &mut Dice) -> String {
 /// A job, and the buffer that it is written into.
 pub fn to_write(dice: &mut Dice) -> (Job, Vec<u8>) {
     let axes = dice.of(&[0, 1, 1, 2, 2, 3, 4, 5, 8, 9, 15, 16, 16, 17, 18, 32]);
-    let mut job = drawn(dice, axes);
+    let mut job = drawn(dice, axes, unsigned);
     match dice.below(20) {
         0 => job.sizes.truncate(dice.below(axes as u64 + 1) as usize),
         1 => job.strides.truncate(dice.below(axes as u64 + 1) as usize),
         2 if axes < 32 => job.sizes.push(unsigned(dice)),
-        3 if axes < 32 => job.strides.push(signed(dice)),
+        3 if axes < 32 => job.strides.push(jobs::signed(u128::from(unsigned(dice)))),
         _ => {}
     }
     let buffer = buffer(dice, jobs::words(&job).len() * WORD_BYTES);
@@ -103,7 +101,7 @@ pub fn to_read(dice: &mut Dice) -> Vec<u8> {
         1 | 2 => crowded(dice),
         _ => {
             let axes = dice.of(&[0, 0, 1, 1, 1, 2, 2, 3, 4, 8, 9, 15, 16]);
-            jobs::words(&drawn(dice, axes))
+            jobs::words(&drawn(dice, axes, unsigned))
         }
     };
     for _ in 0..dice.of(&[0, 0, 0, 1, 1, 1, 1, 2, 3]) {
@@ -162,7 +160,7 @@ fn places(words: &[u32], kinds: RangeInclusive<u32>) -> Vec<usize> {
 
 /// As many axes as a job may have, one fewer, or more.
 fn crowded(dice: &mut Dice) -> Vec<u32> {
-    let mut job = drawn(dice, MOST_AXES + 2);
+    let mut job = drawn(dice, MOST_AXES + 2, unsigned);
     let axes = MOST_AXES + dice.below(4) as usize - 1;
     job.sizes.truncate(axes);
     job.strides.truncate(axes);
