@@ -33,10 +33,14 @@ pub record Piece : Type 0 where
 abbrev pub workedPiece : Piece → StableProductFloatAcc
 workedPiece p = worked (p .inBlocks) (p .rates)
 
+-- the results joined left to right onto an accumulator
+abbrev pub joinedOnto : StableProductFloatAcc → List Piece → StableProductFloatAcc
+joinedOnto a ps = foldl combined a (map workedPiece ps)
+
 -- the results joined left to right, the first taken as it is
 unfoldable pub joinedPieces : List Piece → StableProductFloatAcc
 joinedPieces [] = identityAcc
-joinedPieces (p ∷ ps) = foldl combined (workedPiece p) (map workedPiece ps)
+joinedPieces (p ∷ ps) = joinedOnto (workedPiece p) ps
 
 -- the pieces' rates, one after another
 unfoldable pub ratesOf : List Piece → List Float

@@ -1,9 +1,9 @@
 -- The pieces of an accepted range: inside the values, and worked as the definition has them.
 -- Assumes nothing.
-use Prim.Native.Nat.{ℕ, _+_, _-_, _*_, _≤_, _<_}
+use Prim.Native.Nat.{ℕ, _+_, _-_, _*_, _^_, _≤_, _<_}
 use mathlib.Core.Path.{_≡_, sym, _∙_, ap, subst}
 use mathlib.Core.Bool.{true}
-use mathlib.Core.List.{List, _∷_, map, foldl}
+use mathlib.Core.List.{List, _∷_, map}
 use native.Mathlib.Omega.{arith}
 use native.Mathlib.Nat.{le-trans}
 use lib.ListN.{length, getD}
@@ -23,7 +23,7 @@ use Rattle.offsets.specs.InnerPieces.{rangeAt, pieceOf}
 use Rattle.offsets.proofs.Ends.{inside-low, inside-high}
 use Rattle.offsets.proofs.Walking.{len-pos, PieceHere, piece-here}
 use Rattle.offsets.proofs.Writing.{piece-steps}
-use Rattle.kernels.specs.Pieces.{Piece, worked, workedPiece, joinedPieces}
+use Rattle.kernels.specs.Pieces.{worked, workedPiece, joinedOnto, joinedPieces}
 use Rattle.kernels.specs.InnerStrided.{strided, PlacesInside}
 use Rattle.kernels.specs.InnerStepped.{Sound}
 use Rattle.kernels.proofs.Sizes.{combined-size}
@@ -75,15 +75,15 @@ module _ (l : FullTraversal) (t : Traversal l) (base : ℤ) (b : Bounded (runOf 
             (ap (λ (n : ℕ). c .at + n) (sym (here .len-is)) ∙ sym (here .next-at));
       }
 
--- ---- the loop: the cursor stands at c .at while that is below the end, and what is left joins to the range's product
-pub record Reducing (l : FullTraversal) (base : ℤ) (values : List Float) (start end : ℕ) (acc : StableProductFloatAcc) (c : RangeCursor) : Type 0 where
+-- ---- the loop: the cursor stands at c .at while that is below the end, and what is left joins to the whole
+pub record Reducing (l : FullTraversal) (base : ℤ) (values : List Float) (end : ℕ) (whole acc : StableProductFloatAcc) (c : RangeCursor) : Type 0 where
   pub upto : c .at ≤ end
   pub cursor-is : c .at < end → c ≡ rangeAt l base (c .at)
-  pub small : natAbs (acc .e) ≤ 1034 * c .at
+  pub small : natAbs (acc .e) ≤ 2 ^ 53 + 1034 * c .at
   pub sound : Sound acc
-  pub rest : foldl combined acc (map workedPiece (piecesOf l base values (c .at) end)) ≡ joinedPieces (piecesOf l base values start end)
+  pub rest : joinedOnto acc (piecesOf l base values (c .at) end) ≡ whole
 
-module _ (l : FullTraversal) (base : ℤ) (values : List Float) (start end : ℕ) (c : RangeCursor) (p : RangePiece) (t : PieceTaken l base values end c p)
+module _ (l : FullTraversal) (base : ℤ) (values : List Float) (end : ℕ) (c : RangeCursor) (p : RangePiece) (t : PieceTaken l base values end c p)
     (b : StableProductFloatAcc)
     (e : b ≡ worked (eqZ (l .«run_stride») (pos 1)) (strided values (p .first) (l .«run_stride») (p .len)))
     (v : (i : ℕ) → T (fits binary64 (getD values i nan))) where
@@ -102,36 +102,31 @@ module _ (l : FullTraversal) (base : ℤ) (values : List Float) (start end : ℕ
   is-piece = e ∙ t .worked-is
 
   -- the first piece is taken as it is
-  pub reducing-first : c .at ≡ start → Reducing l base values start end b (p .next)
+  pub joined-first : joinedOnto b (piecesOf l base values (p .next .at) end) ≡ joinedPieces (piecesOf l base values (c .at) end)
   unfolding joinedPieces
-  reducing-first k =
-      record {
-        upto = omega (arith, t .next-at, t .ends);
-        cursor-is = t .next-cursor-is;
-        small = le-trans near (omega (arith, t .next-at));
-        sound = piece-sound;
-        rest =
-            ap (λ (a : StableProductFloatAcc). foldl combined a (map workedPiece (piecesOf l base values (p .next .at) end))) is-piece
-            ∙ ap joinedPieces (sym (t .pieces)) ∙ ap (λ (n : ℕ). joinedPieces (piecesOf l base values n end)) k;
-      }
+  joined-first =
+      ap (λ (a : StableProductFloatAcc). joinedOnto a (piecesOf l base values (p .next .at) end)) is-piece ∙ ap joinedPieces (sym (t .pieces))
 
   -- a later one is joined from the right
-  pub reducing-more : (acc : StableProductFloatAcc) → Reducing l base values start end acc c → (r : StableProductFloatAcc) → r ≡ combined acc b
-      → Reducing l base values start end r (p .next)
-  reducing-more acc s r g =
+  pub joined-more : (acc r : StableProductFloatAcc) → r ≡ combined acc b
+      → joinedOnto r (piecesOf l base values (p .next .at) end) ≡ joinedOnto acc (piecesOf l base values (c .at) end)
+  joined-more acc r g =
+      ap (λ (a : StableProductFloatAcc). joinedOnto a (piecesOf l base values (p .next .at) end)) (g ∙ ap (combined acc) is-piece)
+      ∙ ap (joinedOnto acc) (sym (t .pieces))
+
+  pub reducing-more : (whole acc : StableProductFloatAcc) → Reducing l base values end whole acc c → (r : StableProductFloatAcc) → r ≡ combined acc b
+      → Reducing l base values end whole r (p .next)
+  reducing-more whole acc s r g =
       record {
         upto = omega (arith, t .next-at, t .ends);
         cursor-is = t .next-cursor-is;
         small =
-            subst (λ (a : StableProductFloatAcc). natAbs (a .e) ≤ 1034 * p .next .at) (sym g)
+            subst (λ (a : StableProductFloatAcc). natAbs (a .e) ≤ 2 ^ 53 + 1034 * p .next .at) (sym g)
             (le-trans (combined-size acc b) (omega (arith, t .next-at, near, s .small, t .some-len)));
         sound = subst Sound (sym g) (combined-sound acc b (s .sound) (piece-sound));
-        rest =
-            ap (λ (a : StableProductFloatAcc). foldl combined a (map workedPiece (piecesOf l base values (p .next .at) end))) (g ∙ ap (combined acc) is-piece)
-            ∙ ap (λ (ps : List Piece). foldl combined acc (map workedPiece ps)) (sym (t .pieces)) ∙ s .rest;
+        rest = joined-more acc r g ∙ s .rest;
       }
 
-pub reducing-all : (l : FullTraversal) (base : ℤ) (values : List Float) (start end : ℕ) (acc : StableProductFloatAcc) (c : RangeCursor)
-    → Reducing l base values start end acc c → end ≤ c .at → acc ≡ joinedPieces (piecesOf l base values start end)
-reducing-all l base values start end acc c s h =
-    ap (λ (ps : List Piece). foldl combined acc (map workedPiece ps)) (sym (pieces-none l base values end (end - c .at) (c .at) h)) ∙ s .rest
+pub reducing-all : (l : FullTraversal) (base : ℤ) (values : List Float) (end : ℕ) (whole acc : StableProductFloatAcc) (c : RangeCursor)
+    → Reducing l base values end whole acc c → end ≤ c .at → acc ≡ whole
+reducing-all l base values end whole acc c s h = ap (joinedOnto acc) (sym (pieces-none l base values end (end - c .at) (c .at) h)) ∙ s .rest

@@ -3,7 +3,7 @@
 use Prim.Native.Nat.{ℕ, zero, suc, _+_, _-_, _*_, _/_, _%_, _^_, _≤_, _<_}
 use mathlib.Core.Path.{_≡_, refl, sym, _∙_, ap, subst}
 use mathlib.Core.Bool.{true}
-use mathlib.Core.List.{List, _∷_, map, foldl}
+use mathlib.Core.List.{List, _∷_}
 use native.Mathlib.Omega.{arith}
 use native.Mathlib.Nat.{le-trans, mul-le-mul-right, add-zero, sub-zero}
 use lib.ListN.{length, getD}
@@ -28,7 +28,7 @@ use Rattle.offsets.specs.InnerPieces.{rangeAt, pieceOf}
 use Rattle.offsets.proofs.Walking.{piece-len}
 use Rattle.offsets.proofs.Skipping.{firstAxis}
 use Rattle.offsets.proofs.Runs.{run-some, runs-begin, runs-end, runs-at}
-use Rattle.kernels.specs.Pieces.{Piece, worked, workedPiece}
+use Rattle.kernels.specs.Pieces.{Piece, worked, workedPiece, joinedOnto}
 use Rattle.kernels.specs.InnerStrided.{strided, PlacesInside}
 use Rattle.kernels.specs.InnerStepped.{Sound}
 use Rattle.kernels.proofs.Sizes.{combined-size}
@@ -146,23 +146,23 @@ module _ (l : FullTraversal) (t : Traversal l) (base : ℤ) (b : Bounded (runOf 
 
     pub strip-joins : (n q : ℕ) (z : ℤ) (acc : StableProductFloatAcc) → (q + n) * l .«run_len» ≤ end
         → ((j : ℕ) → j < n → z +ℤ step *ℤ pos j ≡ offset (outerOf l) base (q + j))
-        → foldl combined (strip values step (l .«run_stride») (l .«run_len») n z acc) (map workedPiece (piecesOf l base values ((q + n) * l .«run_len») end))
-        ≡ foldl combined acc (map workedPiece (piecesOf l base values (q * l .«run_len») end))
+        → joinedOnto (strip values step (l .«run_stride») (l .«run_len») n z acc) (piecesOf l base values ((q + n) * l .«run_len») end)
+        ≡ joinedOnto acc (piecesOf l base values (q * l .«run_len») end)
     unfolding strip
-    strip-joins zero q z acc h lies = ap (λ (m : ℕ). foldl combined acc (map workedPiece (piecesOf l base values (m * l .«run_len») end))) (add-zero q)
+    strip-joins zero q z acc h lies = ap (λ (m : ℕ). joinedOnto acc (piecesOf l base values (m * l .«run_len») end)) (add-zero q)
     strip-joins (suc n) q z acc h lies =
         let r = run q (omega arith) in
         let c = combined acc (worked (eqZ (l .«run_stride») (pos 1)) (strided values z (l .«run_stride») (l .«run_len»))) in
         let e : q + suc n ≡ q + 1 + n = omega arith in
-        ap (λ (m : ℕ). foldl combined (strip values step (l .«run_stride») (l .«run_len») n (z +ℤ step) c)
-        (map workedPiece (piecesOf l base values (m * l .«run_len») end))) e
+        ap (λ (m : ℕ). joinedOnto (strip values step (l .«run_stride») (l .«run_len») n (z +ℤ step) c)
+        (piecesOf l base values (m * l .«run_len») end)) e
         ∙ strip-joins n (q + 1) (z +ℤ step) c (omega arith) (λ j k. place-later z step j ∙ lies (suc j) (omega arith) ∙ ap (offset (outerOf l) base) (one j))
-        ∙ ap (λ (y : ℤ). foldl combined (combined acc (worked (eqZ (l .«run_stride») (pos 1)) (strided values y (l .«run_stride») (l .«run_len»))))
-        (map workedPiece (piecesOf l base values ((q + 1) * l .«run_len») end)))
+        ∙ ap (λ (y : ℤ). joinedOnto (combined acc (worked (eqZ (l .«run_stride») (pos 1)) (strided values y (l .«run_stride») (l .«run_len»))))
+        (piecesOf l base values ((q + 1) * l .«run_len») end))
         (place-first z step ∙ lies 0 (omega arith) ∙ ap (offset (outerOf l) base) (add-zero q))
-        ∙ ap (λ (a : StableProductFloatAcc). foldl combined (combined acc a) (map workedPiece (piecesOf l base values ((q + 1) * l .«run_len») end)))
+        ∙ ap (λ (a : StableProductFloatAcc). joinedOnto (combined acc a) (piecesOf l base values ((q + 1) * l .«run_len») end))
         (r .worked-is)
-        ∙ ap (λ (ps : List Piece). foldl combined acc (map workedPiece ps)) (sym (r .pieces))
+        ∙ ap (joinedOnto acc) (sym (r .pieces))
       where
         one : (j : ℕ) → q + suc j ≡ q + 1 + j
         one j = omega arith
@@ -184,27 +184,27 @@ module _ (l : FullTraversal) (t : Traversal l) (base : ℤ) (b : Bounded (runOf 
   runs-inside =
       strip-inside l t base b values w end few (firstAxis l .«source_step») n (c .at / l .«run_len») (c .runs .«source_offset») (omega (arith, ends)) lie
 
-  pub reducing-strip : ((i : ℕ) → T (fits binary64 (getD values i nan))) → (start : ℕ) (acc : StableProductFloatAcc)
-      → Reducing l base values start end acc c → (r : StableProductFloatAcc)
+  pub reducing-strip : ((i : ℕ) → T (fits binary64 (getD values i nan))) → (whole acc : StableProductFloatAcc)
+      → Reducing l base values end whole acc c → (r : StableProductFloatAcc)
       → r ≡ strip values (firstAxis l .«source_step») (l .«run_stride») (l .«run_len») n (c .runs .«source_offset») acc
-      → (d : RangeCursor) → d .at ≡ c .at + n * l .«run_len» → (d .at < end → d ≡ rangeAt l base (d .at)) → Reducing l base values start end r d
-  reducing-strip v start acc s r g d next-at e =
+      → (d : RangeCursor) → d .at ≡ c .at + n * l .«run_len» → (d .at < end → d ≡ rangeAt l base (d .at)) → Reducing l base values end whole r d
+  reducing-strip v whole acc s r g d next-at e =
       record {
         upto = omega arith;
         cursor-is = e;
         small =
-            subst (λ (a : StableProductFloatAcc). natAbs (a .e) ≤ 1034 * d .at) (sym g)
+            subst (λ (a : StableProductFloatAcc). natAbs (a .e) ≤ 2 ^ 53 + 1034 * d .at) (sym g)
             (le-trans (strip-small values v _ _ _ (run-some l t) n _ acc) (omega (arith, next-at, s .small)));
         sound =
             subst Sound (sym g)
             (strip-sound values v (firstAxis l .«source_step») (l .«run_stride») (l .«run_len») n (c .runs .«source_offset») acc (s .sound));
         rest =
-            ap (λ (a : StableProductFloatAcc). foldl combined a (map workedPiece (piecesOf l base values (d .at) end))) g
-            ∙ ap (λ (k : ℕ). foldl combined (strip values (firstAxis l .«source_step») (l .«run_stride») (l .«run_len») n (c .runs .«source_offset») acc)
-            (map workedPiece (piecesOf l base values k end))) (next-at ∙ sym ends)
+            ap (λ (a : StableProductFloatAcc). joinedOnto a (piecesOf l base values (d .at) end)) g
+            ∙ ap (λ (k : ℕ). joinedOnto (strip values (firstAxis l .«source_step») (l .«run_stride») (l .«run_len») n (c .runs .«source_offset») acc)
+            (piecesOf l base values k end)) (next-at ∙ sym ends)
             ∙ strip-joins l t base b values w end few (firstAxis l .«source_step») n (c .at / l .«run_len») (c .runs .«source_offset») acc (omega (arith, ends))
             lie
-            ∙ ap (λ (k : ℕ). foldl combined acc (map workedPiece (piecesOf l base values k end)))
+            ∙ ap (λ (k : ℕ). joinedOnto acc (piecesOf l base values k end))
             (sym (runs-begin l t base b end c cursor-is n some-axis at-run left room))
             ∙ s .rest;
       }

@@ -9,9 +9,10 @@ ghost use Rattle.integers.specs.Integers.{eqZ};
 ghost use Rattle.offsets.specs.Elements.{allInside};
 ghost use Rattle.offsets.specs.InnerCursors.{Bounded, Traversal};
 ghost use Rattle.offsets.specs.Pieces.{runOf, outerOf};
+ghost use Rattle.offsets.specs.InnerPieces.{rangeAt};
 ghost use Rattle.kernels.specs.InnerStrided.{strided, PlacesInside};
 ghost use Rattle.kernels.specs.InnerStepped.{Sound};
-ghost use Rattle.kernels.specs.Pieces.{worked, joinedPieces};
+ghost use Rattle.kernels.specs.Pieces.{worked, joinedOnto, joinedPieces};
 ghost use Rattle.vectors.specs.InnerShort.{ShortLeast};
 ghost use Rattle.accumulator.specs.Joining.{answerOf};
 ghost use Rattle.reduction.specs.InnerStrips.{runAcc, strip};
@@ -19,12 +20,13 @@ ghost use Rattle.reduction.specs.Ranges.{piecesOf, reduceOf};
 use accumulator::Reduced;
 use accumulator::StableProductFloatAcc;
 use layout::traversal::FullTraversal;
+use offsets::pieces::RangeCursor;
 
 const BLOCK: usize = StableProductFloatAcc::BLOCK;
 
 // One piece: in blocks of 64 at stride 1, in stepped lanes at any other. Its fields are handed on one by one: copied as a whole, an accumulator takes
 // the bytes that fill it up with it, and waits for them.
-fn reduce_piece(values: &[f64], first: i64, stride: i64, len: usize) -> StableProductFloatAcc
+pub fn reduce_piece(values: &[f64], first: i64, stride: i64, len: usize) -> StableProductFloatAcc
     requires { ⌜ (1 ≤ len) × PlacesInside (length (now values)) first stride len × (len ≤ 2 ^ 40) ⌝ }
     ensures { λ r. ⌜ r ≡ worked (eqZ stride (pos 1)) (strided (now (values .entry)) first stride len) ⌝ }
 {
@@ -167,22 +169,23 @@ fn reduce_line(
     reduce_piece(values, first, stride, (end - start) as usize)
 }
 
-// The pieces from start to end - 1: the first as it is, each later one joined from the right. Whole runs along the first outer axis go in a strip.
-fn reduce_runs(
+// The pieces from a cursor to end - 1, each joined from the right. Whole runs along the first outer axis go in a strip.
+pub fn join_pieces(
     l: FullTraversal,
     base: i64,
-    start: u64,
+    from: RangeCursor,
     end: u64,
     values: &[f64],
+    acc: StableProductFloatAcc,
 ) -> StableProductFloatAcc
-    requires { ⌜ Traversal l × Bounded (runOf l ∷ outerOf l) base × (start < end) × (end ≤ l .total) × (l .total ≤ 2 ^ 40)
-        × (allInside (runOf l ∷ outerOf l) (l .total) base (length (now values)) ≡ true) ⌝ }
-    ensures { λ r. ⌜ r ≡ joinedPieces (piecesOf l base (now (values .entry)) start end) ⌝ }
+    requires { ⌜ Traversal l × Bounded (runOf l ∷ outerOf l) base × (from .at ≤ end) × (end ≤ l .total) × (l .total ≤ 2 ^ 40)
+        × (allInside (runOf l ∷ outerOf l) (l .total) base (length (now values)) ≡ true) × (from .at < end → from ≡ rangeAt l base (from .at))
+        × (natAbs (acc .e) ≤ 2 ^ 53) × Sound acc ⌝ }
+    ensures { λ r. ⌜ r ≡ joinedOnto acc (piecesOf l base (now (values .entry)) (from .at) end) ⌝ }
 {
     let stride = l.run_stride;
-    let p = offsets::pieces::next_piece(l, end, offsets::pieces::begin(l, base, start));
-    let mut acc = reduce_piece(values, p.first, stride, p.len as usize);
-    let mut c = p.next;
+    let mut acc = acc;
+    let mut c = from;
     while c.at < end {
         let n = offsets::pieces::whole_runs(l, c, end);
         if n < 2 {
@@ -202,6 +205,23 @@ fn reduce_runs(
         }
     }
     acc
+}
+
+// The pieces from start to end - 1: the first as it is, each later one joined from the right.
+fn reduce_runs(
+    l: FullTraversal,
+    base: i64,
+    start: u64,
+    end: u64,
+    values: &[f64],
+) -> StableProductFloatAcc
+    requires { ⌜ Traversal l × Bounded (runOf l ∷ outerOf l) base × (start < end) × (end ≤ l .total) × (l .total ≤ 2 ^ 40)
+        × (allInside (runOf l ∷ outerOf l) (l .total) base (length (now values)) ≡ true) ⌝ }
+    ensures { λ r. ⌜ r ≡ joinedPieces (piecesOf l base (now (values .entry)) start end) ⌝ }
+{
+    let p = offsets::pieces::next_piece(l, end, offsets::pieces::begin(l, base, start));
+    let first = reduce_piece(values, p.first, l.run_stride, p.len as usize);
+    join_pieces(l, base, p.next, end, values, first)
 }
 
 // The product of elements start to end - 1. A layout without outer axes is one run, and needs no cursor.

@@ -1,338 +1,98 @@
--- `reduction::full::reduce_runs` meets its contract. The loop's invariant: what is left joins to the range's product (`Reducing`).
+-- `reduction::full::reduce_runs` meets its contract: the first piece, and the others joined onto it.
 -- Assumes nothing.
-use Prim.Native.Nat.{ℕ, _+_, _-_, _*_, _/_, _%_, _≤_, _<_}
+use Prim.Native.Nat.{_<_}
 use mathlib.Core.Path.{_≡_, sym, _∙_, ap}
 use native.Mathlib.Omega.{arith}
-use lib.ListN.{getD}
-use lib.Dec.{T}
-use lib.Ieee.{nan, binary64, fits}
-use native.Mathlib.Nat.{mul-le-mul-right}
 use lib.IntN.{pos}
-use mir.Val.{toZ, SFits}
+use mir.Val.{SFits}
 use mir.Facts.{toZ-ofZ}
 use mir.Syntax.{w64}
-use Rattle.offsets.specs.declared.pieces.RangeCursor.{RangeCursor}
-use Rattle.offsets.specs.InnerPieces.{rangeAt, OnRange}
-use Rattle.offsets.proofs.Stepping.{small-fits}
-use Rattle.offsets.proofs.Walking.{on-run}
 use Rattle.integers.specs.Integers.{eqZ}
+use Rattle.offsets.specs.declared.pieces.RangeCursor.{RangeCursor}
+use Rattle.offsets.specs.InnerPieces.{rangeAt}
 use Rattle.kernels.specs.InnerStrided.{strided}
-use Rattle.kernels.specs.Pieces.{worked}
-use Rattle.reduction.specs.InnerStrips.{strip}
-use Rattle.reduction.proofs.Ranges.{PieceTaken, taken, Reducing, near, reducing-first, reducing-more, reducing-all}
-use Rattle.offsets.proofs.Skipping.{firstAxis}
-use Rattle.offsets.proofs.Runs.{run-some, last-digit, on-last, behind-strip}
-use Rattle.reduction.proofs.Strips.{runs-inside, reducing-strip}
+use Rattle.kernels.specs.Pieces.{worked, joinedPieces}
+use Rattle.reduction.specs.Ranges.{piecesOf}
+use Rattle.reduction.proofs.Ranges.{PieceTaken, taken, near, piece-sound, joined-first}
 use Rattle.reduction.proofs.full.reduce_runs.Statement.{statement}
 use Rattle.reduction.proofs.full.reduce_runs.Tie as tie
 
-abbrev Inv-loop : tie.InvT-loop
-Inv-loop l base start end values stride acc₀ c₀ acc c = Reducing l (toZ w64 base) values start end acc c
+begin-requires : tie.Need-begin-requires
+begin-requires c κs = let s = c .before in simp (toZ-ofZ (s .fits .base)) (s .pre .0, s .pre .1)
 
-abbrev μ-loop : tie.MeasureT-loop
-μ-loop l base start end values stride acc₀ c₀ acc c = end - c .at
+began : (c : tie.After-begin) → let s = c .before .before in c .begin .result ≡ rangeAt (s .args .l) (s .args .base) (s .args .start)
+began c = simp (toZ-ofZ (c .before .before .fits .base)) at (c .begin .ensures)
 
--- the entry, from places further on
-abbrev from-told : tie.After-struct-told Inv-loop μ-loop → tie.Start Inv-loop μ-loop
-from-told c = c .before .before
-
-abbrev loop-told : tie.At-loop Inv-loop μ-loop → tie.After-struct-told Inv-loop μ-loop
-loop-told c = c .before .before .before .before .before .before
-
-abbrev from-loop : tie.At-loop Inv-loop μ-loop → tie.Start Inv-loop μ-loop
-from-loop c = from-told (loop-told c)
-
--- the values are of binary64
-values-fit : (c : tie.At-loop Inv-loop μ-loop) → (i : ℕ) → T (fits binary64 (getD (from-loop c .args .values .now) i nan))
-values-fit c = loop-told c .before .shared-slice-known .given
-
-begin-requires : tie.Need-begin-requires Inv-loop μ-loop
-begin-requires c κs = let s = from-told c in simp (toZ-ofZ (s .fits .base)) (s .pre .0, s .pre .1)
-
-stride-fits : (c : tie.After-struct-told Inv-loop μ-loop) → SFits w64 (from-told c .args .l .«run_stride»)
-stride-fits c = record { sfits = c .struct-told .given .1 .1 .0 .1 }
-
--- the first piece
-began : (c : tie.After-begin Inv-loop μ-loop) → let s = from-told (c .before) in c .begin .result ≡ rangeAt (s .args .l) (s .args .base) (s .args .start)
-began c = let s = from-told (c .before) in simp (toZ-ofZ (s .fits .base)) at (c .begin .ensures)
-
-start-is : (c : tie.After-begin Inv-loop μ-loop) → c .begin .result .at ≡ from-told (c .before) .args .start
+start-is : (c : tie.After-begin) → c .begin .result .at ≡ c .before .before .args .start
 unfolding rangeAt
 start-is c = ap (λ (x : RangeCursor). x .at) (began c)
 
-cursor-is : (c : tie.After-begin Inv-loop μ-loop)
-    → let s = from-told (c .before) in c .begin .result ≡ rangeAt (s .args .l) (s .args .base) (c .begin .result .at)
-cursor-is c = let s = from-told (c .before) in began c ∙ ap (rangeAt (s .args .l) (s .args .base)) (sym (start-is c))
+cursor-is : (c : tie.After-begin) → let s = c .before .before in c .begin .result ≡ rangeAt (s .args .l) (s .args .base) (c .begin .result .at)
+cursor-is c = let s = c .before .before in began c ∙ ap (rangeAt (s .args .l) (s .args .base)) (sym (start-is c))
 
-before-end : (c : tie.After-begin Inv-loop μ-loop) → c .begin .result .at < from-told (c .before) .args .end
-before-end c = let s = from-told (c .before) in omega (arith, start-is c, s .pre .2)
+before-end : (c : tie.After-begin) → c .begin .result .at < c .before .before .args .end
+before-end c = omega (arith, start-is c, c .before .before .pre .2)
 
-next-piece-requires : tie.Need-next-piece-requires Inv-loop μ-loop
+next-piece-requires : tie.Need-next-piece-requires
 next-piece-requires c κs =
-    let s = from-told (c .before) in
+    let s = c .before .before in
     (s .pre .0, before-end c, record { base = s .args .base; bounded = s .pre .1; cursor-is = cursor-is c })
 
-first-taken : (c : tie.After-next-piece Inv-loop μ-loop)
-    → let s = from-told (c .before .before) in
+first-taken : (c : tie.After-next-piece)
+    → let s = c .before .before .before in
     PieceTaken (s .args .l) (s .args .base) (s .args .values .now) (s .args .end) (c .before .begin .result) (c .next-piece .result)
 first-taken c =
-    let s = from-told (c .before .before) in
+    let s = c .before .before .before in
     taken (s .args .l) (s .pre .0) (s .args .base) (s .pre .1) (s .args .values .now) (s .pre .5) (s .args .end) (s .pre .3) (c .before .begin .result)
     (cursor-is (c .before)) (before-end (c .before)) (c .next-piece .result) (c .next-piece .ensures)
 
-first-fits : (c : tie.After-struct-told2 Inv-loop μ-loop) → SFits w64 (c .before .next-piece .result .first)
-first-fits c = record { sfits = c .struct-told2 .given .0 .1 }
+first-fits : (c : tie.After-struct-told2) → SFits w64 (c .before .before .next-piece .result .first)
+first-fits c = record { sfits = c .before .struct-told .given .0 .1 }
 
-reduce-piece-requires : tie.Need-reduce-piece-requires Inv-loop μ-loop
+stride-fits : (c : tie.After-struct-told2) → SFits w64 (c .before .before .before .before .before .args .l .«run_stride»)
+stride-fits c = record { sfits = c .struct-told2 .given .1 .1 .0 .1 }
+
+reduce-piece-requires : tie.Need-reduce-piece-requires
 reduce-piece-requires c κs =
-    let s = from-told (c .before .before .before) in
-    let p = first-taken (c .before) in
-    simp (toZ-ofZ (first-fits c), toZ-ofZ (stride-fits (c .before .before .before))) (p .some-len, p .inside, omega (arith, p .ends, s .pre .3, s .pre .4))
-
-loop-holds : tie.Need-loop-holds Inv-loop μ-loop
-loop-holds c =
-    let r = c .before in
-    let n = r .before .before in
-    let s = from-told (n .before .before) in
-    let w = simp (toZ-ofZ (first-fits (r .before)), toZ-ofZ (stride-fits (n .before .before))) at (r .reduce-piece .ensures) in
-    simp (toZ-ofZ (s .fits .base))
-    (reducing-first (s .args .l) (s .args .base) (s .args .values .now) (s .args .start) (s .args .end) (n .before .begin .result) (n .next-piece .result)
-    (first-taken n) (r .reduce-piece .result) w (n .before .before .before .shared-slice-known .given) (start-is (n .before)))
-
--- the invariant, over the base itself
-reducing : (c : tie.At-loop Inv-loop μ-loop)
-    → let s = from-loop c in Reducing (s .args .l) (s .args .base) (s .args .values .now) (s .args .start) (s .args .end) (c .loop .acc) (c .loop .c)
-reducing c = let s = from-loop c in simp (toZ-ofZ (s .fits .base)) at (c .loop .inv)
-
-stride-kept : (c : tie.At-loop Inv-loop μ-loop) → SFits w64 (from-loop c .args .l .«run_stride»)
-stride-kept c = stride-fits (loop-told c)
-
-on-range : (c : tie.Then1 Inv-loop μ-loop) → OnRange (from-loop (c .before .before) .args .l) (c .before .before .loop .c)
-on-range c =
-    let k = c .before .before in
-    let s = from-loop k in
-    record { base = s .args .base; bounded = s .pre .1; cursor-is = reducing k .cursor-is (c .if1 .taken) }
-
-whole-runs-requires : tie.Need-whole-runs-requires Inv-loop μ-loop
-whole-runs-requires c κs = let s = from-loop (c .before .before) in (s .pre .0, c .if1 .taken, on-range c, s .pre .4)
-
--- ---- one piece
-next-piece-requires-2 : tie.Need-next-piece-requires-2 Inv-loop μ-loop
-next-piece-requires-2 c κs =
-    let t = c .before .before in
-    (from-loop (t .before .before) .pre .0, t .if1 .taken, on-range t)
-
-next-taken : (c : tie.After-next-piece2 Inv-loop μ-loop)
-    → let k = c .before .before .before .before .before in
-    let s = from-loop k in PieceTaken (s .args .l) (s .args .base) (s .args .values .now) (s .args .end) (k .loop .c) (c .next-piece2 .result)
-next-taken c =
-    let t = c .before .before .before in
-    let k = t .before .before in
-    let s = from-loop k in
-    taken (s .args .l) (s .pre .0) (s .args .base) (s .pre .1) (s .args .values .now) (s .pre .5) (s .args .end) (s .pre .3) (k .loop .c)
-    (reducing k .cursor-is (t .if1 .taken)) (t .if1 .taken) (c .next-piece2 .result) (c .next-piece2 .ensures)
-
-next-fits : (c : tie.After-struct-told3 Inv-loop μ-loop) → SFits w64 (c .before .next-piece2 .result .first)
-next-fits c = record { sfits = c .struct-told3 .given .0 .1 }
-
-reduce-piece-requires-2 : tie.Need-reduce-piece-requires-2 Inv-loop μ-loop
-reduce-piece-requires-2 c κs =
-    let k = c .before .before .before .before .before .before in
-    let s = from-loop k in
-    let p = next-taken (c .before) in
-    simp (toZ-ofZ (next-fits c), toZ-ofZ (stride-kept k)) (p .some-len, p .inside, omega (arith, p .ends, s .pre .3, s .pre .4))
-
--- what the next piece gave
-next-worked : (c : tie.After-reduce-piece2 Inv-loop μ-loop) → let t = c .before .before .before .before .before .before .before in
-    let p = c .before .before .next-piece2 .result in
-    let s = from-loop t in
-    c .reduce-piece2 .result ≡ worked (eqZ (s .args .l .«run_stride») (pos 1)) (strided (s .args .values .now) (p .first) (s .args .l .«run_stride») (p .len))
-next-worked c =
-    let k = c .before .before .before .before .before .before .before in
-    simp (toZ-ofZ (next-fits (c .before)), toZ-ofZ (stride-kept k)) at (c .reduce-piece2 .ensures)
-
-stable-float-combine-requires : tie.Need-stable-float-combine-requires Inv-loop μ-loop
-stable-float-combine-requires c κs =
     let n = c .before .before in
-    let k = n .before .before .before .before .before in
-    let s = from-loop k in
-    let p = next-taken n in
-    let r = reducing k in
-    let m = near _ _ _ (s .args .start) (s .args .end) _ _ p (c .reduce-piece2 .result) (next-worked c) (values-fit k) in
-    (omega (arith, r .small, r .upto, m, p .ends, s .pre .3, s .pre .4), omega (arith, r .small, r .upto, m, p .ends, s .pre .3, s .pre .4))
+    let s = n .before .before .before in
+    let p = first-taken n in
+    simp (toZ-ofZ (first-fits c), toZ-ofZ (stride-fits c)) (p .some-len, p .inside, omega (arith, p .ends, s .pre .3, s .pre .4))
 
-loop-less : tie.Need-loop-less Inv-loop μ-loop
-loop-less c =
-    let n = c .before .before .before .before in
-    let p = next-taken n in
-    omega (arith, n .before .before .before .if1 .taken, p .next-at, p .some-len)
+first-worked : (c : tie.After-reduce-piece) → let n = c .before .before .before in
+    let s = n .before .before .before in
+    let p = n .next-piece .result in
+    c .reduce-piece .result ≡ worked (eqZ (s .args .l .«run_stride») (pos 1)) (strided (s .args .values .now) (p .first) (s .args .l .«run_stride») (p .len))
+first-worked c = simp (toZ-ofZ (first-fits (c .before)), toZ-ofZ (stride-fits (c .before))) at (c .reduce-piece .ensures)
 
-loop-again : tie.Need-loop-again Inv-loop μ-loop
-loop-again c =
-    let w = c .before .before in
-    let n = w .before .before in
-    let k = n .before .before .before .before .before in
-    let s = from-loop k in
-    simp (toZ-ofZ (s .fits .base))
-    (reducing-more (s .args .l) (s .args .base) (s .args .values .now) (s .args .start) (s .args .end) (k .loop .c) (n .next-piece2 .result) (next-taken n)
-    (w .reduce-piece2 .result) (next-worked w) (values-fit k) (k .loop .acc) (reducing k) (c .before .stable-float-combine .result)
-    (c .before .stable-float-combine .ensures))
-
--- ---- a strip
-abbrev strip-loop : tie.Else2 Inv-loop μ-loop → tie.At-loop Inv-loop μ-loop
-strip-loop c = c .before .before .before .before
-
--- what lies ahead of the cursor
-ahead : (c : tie.Else2 Inv-loop μ-loop) → let k = strip-loop c in let l = from-loop k .args .l in let n = c .before .whole-runs .result in
-    (0 < l .«axis_count») × (k .loop .c .at % l .«run_len» ≡ 0) × (k .loop .c .at / l .«run_len» % firstAxis l .extent + n ≤ firstAxis l .extent)
-    × (k .loop .c .at + n * l .«run_len» ≤ from-loop k .args .end)
-ahead c = c .before .whole-runs .ensures (omega (arith, c .if2 .left))
-
-strip-cursor-is : (c : tie.Else2 Inv-loop μ-loop)
-    → let k = strip-loop c in let s = from-loop k in k .loop .c ≡ rangeAt (s .args .l) (s .args .base) (k .loop .c .at)
-strip-cursor-is c = reducing (strip-loop c) .cursor-is (c .before .before .if1 .taken)
-
-at-fits : (c : tie.Else2 Inv-loop μ-loop) → SFits w64 (strip-loop c .loop .c .runs .«source_offset»)
-at-fits c =
-    let k = strip-loop c in
-    let s = from-loop k in
-    small-fits _ (on-run (s .args .l) (s .pre .0) (k .loop .c) (on-range (c .before .before)))
-
-step-fits : (c : tie.After-struct-told5 Inv-loop μ-loop)
-    → SFits w64 (firstAxis (from-loop (strip-loop (c .before .before .before .before)) .args .l) .«source_step»)
-step-fits c = record { sfits = c .struct-told5 .given .1 .0 .1 }
-
-array-copy-out-outer : tie.Need-array-copy-out-outer Inv-loop μ-loop
-array-copy-out-outer c = omega arith
-
-reduce-strip-requires : tie.Need-reduce-strip-requires Inv-loop μ-loop
-reduce-strip-requires c κs =
-    let e = c .before .before .before .before in
-    let k = strip-loop e in
-    let s = from-loop k in
-    let n = e .before .whole-runs .result in
-    let r = reducing k in
-    let a = ahead e in
-    let len = s .args .l .«run_len» in
-    let one : 1 ≤ n = omega (arith, e .if2 .left) in
-    let m : 1 * len ≤ n * len = mul-le-mul-right len one in
-    simp (toZ-ofZ (at-fits e), toZ-ofZ (step-fits c), toZ-ofZ (stride-kept k)) (
-      run-some (s .args .l) (s .pre .0),
-      omega (arith, m, a .3, s .pre .3, s .pre .4),
-      omega (arith, a .3, s .pre .3, s .pre .4),
-      omega (arith, r .small, r .upto, s .pre .3, s .pre .4),
-      runs-inside (s .args .l) (s .pre .0) (s .args .base) (s .pre .1) (s .args .values .now) (s .pre .5) (s .args .end) (s .pre .3) (k .loop .c)
-          (strip-cursor-is e) n (a .0) (a .1) (a .2) (a .3),
-      r .sound,
-    )
-
--- the strip's product, and the cursor behind it
-strip-is : (c : tie.After-reduce-strip Inv-loop μ-loop) → let e = c .before .before .before .before .before in let k = strip-loop e in let s = from-loop k in
-    c .reduce-strip .result
-    ≡ strip (s .args .values .now) (firstAxis (s .args .l) .«source_step») (s .args .l .«run_stride») (s .args .l .«run_len») (e .before .whole-runs .result)
-    (k .loop .c .runs .«source_offset») (k .loop .acc)
-strip-is c =
-    let t = c .before .before .before .before .before in
-    simp (toZ-ofZ (at-fits t), toZ-ofZ (step-fits (c .before)), toZ-ofZ (stride-kept (strip-loop t))) at (c .reduce-strip .ensures)
-
-sub-skip-runs : tie.Need-sub-skip-runs Inv-loop μ-loop
-sub-skip-runs c = let e = c .before .before .before .before .before in omega (arith, e .if2 .left)
-
-skip-runs-requires : tie.Need-skip-runs-requires Inv-loop μ-loop
-skip-runs-requires c κs =
-    let e = c .before .before .before .before .before in
-    let k = strip-loop e in
-    let s = from-loop k in
-    let n = e .before .whole-runs .result in
-    let a = ahead e in
-    let m : (n - 1) * s .args .l .«run_len» ≤ n * s .args .l .«run_len» = mul-le-mul-right (s .args .l .«run_len») (omega arith) in (
+join-pieces-requires : tie.Need-join-pieces-requires
+join-pieces-requires c κs =
+    let n = c .before .before .before in
+    let s = n .before .before .before in
+    let v = n .before .before .shared-slice-known .given in
+    let p = first-taken n in
+    let m = near _ _ _ _ _ _ p (c .reduce-piece .result) (first-worked c) v in
+    simp (toZ-ofZ (s .fits .base)) (
       s .pre .0,
-      on-range (e .before .before),
-      a .0,
-      last-digit (s .args .l) (s .pre .0) (s .args .base) (s .pre .1) (s .args .end) (k .loop .c)
-          (strip-cursor-is e) n
-          (a .0) (a .1) (a .2) (a .3) (omega (arith, e .if2 .left)),
-      omega (arith, m, a .3, s .pre .3, s .pre .4),
+      s .pre .1,
+      omega (arith, p .next-at, p .ends),
+      s .pre .3,
+      s .pre .4,
+      s .pre .5,
+      p .next-cursor-is,
+      omega (arith, m, p .ends, s .pre .3, s .pre .4),
+      piece-sound _ _ _ _ _ _ p (c .reduce-piece .result) (first-worked c) v,
     )
 
-next-piece-requires-3 : tie.Need-next-piece-requires-3 Inv-loop μ-loop
-next-piece-requires-3 c κs =
-    let e = c .before .before .before .before .before .before in
-    let k = strip-loop e in
-    let s = from-loop k in
-    let a = ahead e in
-    let o = on-last (s .args .l) (s .pre .0) (s .args .base) (s .pre .1) (s .args .end) (k .loop .c)
-    (strip-cursor-is e) (e .before .whole-runs .result) (a .0) (a .1) (a .2) (a .3) (omega (arith, e .if2 .left)) (c .skip-runs .result)
-    (c .skip-runs .ensures) in
-    (s .pre .0, o .0, o .1)
-
--- the strip, from the piece of its last run; and the cursor behind that
-abbrev strip-from : tie.After-next-piece3 Inv-loop μ-loop → tie.Else2 Inv-loop μ-loop
-strip-from c = c .before .before .before .before .before .before .before
-
-behind : (c : tie.After-next-piece3 Inv-loop μ-loop) → let e = strip-from c in let k = strip-loop e in let s = from-loop k in
-    let d = c .next-piece3 .result .next in
-    (d .at ≡ k .loop .c .at + e .before .whole-runs .result * s .args .l .«run_len») × (d .at < s .args .end → d ≡ rangeAt (s .args .l) (s .args .base) (d .at))
-behind c =
-    let e = strip-from c in
-    let k = strip-loop e in
-    let s = from-loop k in
-    let a = ahead e in
-    behind-strip (s .args .l) (s .pre .0) (s .args .base) (s .pre .1) (s .args .end) (k .loop .c)
-    (strip-cursor-is e)
-    (e .before .whole-runs .result) (a .0) (a .1) (a .2) (a .3) (omega (arith, e .if2 .left)) (c .before .skip-runs .result) (c .before .skip-runs .ensures)
-    (c .next-piece3 .result) (c .next-piece3 .ensures)
-
-loop-less-2 : tie.Need-loop-less-2 Inv-loop μ-loop
-loop-less-2 c =
-    let e = strip-from (c .before) in
-    let k = strip-loop e in
-    let s = from-loop k in
-    let n = e .before .whole-runs .result in
-    let len = s .args .l .«run_len» in
-    let one : 1 ≤ n = omega (arith, e .if2 .left) in
-    let m : 1 * len ≤ n * len = mul-le-mul-right len one in
-    omega (arith, e .before .before .if1 .taken, behind (c .before) .0, m, run-some (s .args .l) (s .pre .0))
-
-loop-again-2 : tie.Need-loop-again-2 Inv-loop μ-loop
-loop-again-2 c =
-    let p = c .before in
-    let r = p .before .before in
-    let e = strip-from p in
-    let k = strip-loop e in
-    let s = from-loop k in
-    let a = ahead e in
-    simp (toZ-ofZ (s .fits .base))
-    (reducing-strip (s .args .l) (s .pre .0) (s .args .base) (s .pre .1) (s .args .values .now) (s .pre .5) (s .args .end) (s .pre .3) (k .loop .c)
-    (strip-cursor-is e) (e .before .whole-runs .result) (a .0) (a .1) (a .2) (a .3) (values-fit k) (s .args .start) (k .loop .acc) (reducing k)
-    (r .reduce-strip .result) (strip-is r) (p .next-piece3 .result .next) (behind p .0) (behind p .1))
-
-returns : tie.Need-returns Inv-loop μ-loop
+returns : tie.Need-returns
 returns c =
-    let k = c .before .before in
-    reducing-all _ _ _ _ _ _ _ (reducing k) (omega (arith, c .if1 .left))
+    let r = c .before in
+    let n = r .before .before .before in
+    let s = n .before .before .before in
+    simp (toZ-ofZ (s .fits .base)) at (c .join-pieces .ensures)
+    ∙ joined-first (s .args .l) (s .args .base) (s .args .values .now) (s .args .end) (n .before .begin .result) (n .next-piece .result) (first-taken n)
+    (r .reduce-piece .result) (first-worked r) (n .before .before .shared-slice-known .given)
+    ∙ ap (λ k. joinedPieces (piecesOf (s .args .l) (s .args .base) (s .args .values .now) k (s .args .end))) (start-is (n .before))
 
 pub reduce-runs-spec : {M : Type 1} → statement M
-reduce-runs-spec =
-    tie.close
-    (tie.spec
-    Inv-loop
-    μ-loop
-    begin-requires
-    next-piece-requires
-    reduce-piece-requires
-    loop-holds
-    whole-runs-requires
-    next-piece-requires-2
-    reduce-piece-requires-2
-    stable-float-combine-requires
-    loop-less
-    loop-again
-    array-copy-out-outer
-    reduce-strip-requires
-    sub-skip-runs
-    skip-runs-requires
-    next-piece-requires-3
-    loop-less-2
-    loop-again-2
-    returns)
+reduce-runs-spec = tie.close (tie.spec begin-requires next-piece-requires reduce-piece-requires join-pieces-requires returns)
