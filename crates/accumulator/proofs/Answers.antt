@@ -42,9 +42,9 @@ module _ (a b : StableProductFloatAcc) where
       ap (λ (t : Bool). cond (not (true && t)) (refusal 9) (answered a b)) (sym k)
       ∙ ap (λ (t : Bool). cond (not (t && inLimits b)) (refusal 9) (answered a b)) (sym h)
 
-  given : inLimits a ≡ true → inLimits b ≡ true → answered a b ≡ joined a b
+  pub answered-joined : inLimits a ≡ true → inLimits b ≡ true → answered a b ≡ joined a b
   unfolding joined
-  given h k =
+  answered-joined h k =
       ap (λ (t : Bool). cond (not (true && t)) (refusal 9) (answered a b)) (sym k)
       ∙ ap (λ (t : Bool). cond (not (t && inLimits b)) (refusal 9) (answered a b)) (sym h)
 
@@ -53,7 +53,7 @@ module _ (a b : StableProductFloatAcc) where
   accepted h k l =
       ap (λ (t : Bool). cond t (refusal 10) whole) (sym (and-false (not (a .bad || b .bad))))
       ∙ ap second (sym l)
-      ∙ given h k
+      ∙ answered-joined h k
 
   -- a bad one keeps the left e, which is within the limit
   good : inLimits a ≡ true → withinLimit (combined a b .e) ≡ false → (a .bad || b .bad) ≡ false
@@ -68,7 +68,7 @@ module _ (a b : StableProductFloatAcc) where
   refused-joined h k l =
       ap (λ (t : Bool). cond (not t && true) (refusal 10) whole) (sym (good h l))
       ∙ ap second (sym l)
-      ∙ given h k
+      ∙ answered-joined h k
 
   -- a bad one gives the left m and e and the mark
   pub joined-bad : inLimits a ≡ true → inLimits b ≡ true → (a .bad || b .bad) ≡ true → joined a b ≡ accumulator (a .m) (a .e) true

@@ -38,7 +38,7 @@ inside-same xs ys n base len s =
     every-below-same n (λ k. insideValues len (offset ys base k)) (λ k. insideValues len (offset xs base k)) (λ k. ap (insideValues len) (s .offsets base k))
 
 -- a refusal that applies hides those after it
-first-hides : (rs qs : List Refusal) → (firstOf rs ≡ 0 → ⊥) → firstOf (rs ++ qs) ≡ firstOf rs
+pub first-hides : (rs qs : List Refusal) → (firstOf rs ≡ 0 → ⊥) → firstOf (rs ++ qs) ≡ firstOf rs
 unfolding firstOf
 first-hides [] qs n = absurd (n refl)
 first-hides (r ∷ rs) qs n = go (r .1) refl (first-hides rs qs)

@@ -1,14 +1,14 @@
 -- Rule D3 of a range, whatever its layout: the mark, the plain product, and that the answer stands.
 -- Assumes nothing.
 use Prim.Native.Nat.{ℕ, zero, suc, _+_, _-_, _^_, _≤_, _<_}
-use mathlib.Core.Path.{_≡_, refl, sym, _∙_, ap}
+use mathlib.Core.Path.{_≡_, refl, sym, _∙_, ap, subst}
 use mathlib.Core.Bool.{Bool, true, false, cond, _&&_, _||_}
 use mathlib.Core.List.{List, [], _∷_, _++_, map}
 use native.Mathlib.Omega.{arith}
 use native.Mathlib.Nat.{le-trans}
 use lib.ListN.{length, getD, length-map}
 use lib.Dec.{T, ltb}
-use lib.IntN.{ℤ, natAbs}
+use lib.IntN.{ℤ, pos, natAbs}
 use lib.Ieee.{Float, nan, binary64, fits}
 use borrow.Author.Tests.{ltb-true, ltb-false, le-leb}
 use Rattle.layout.specs.declared.traversal.FullTraversal.{FullTraversal}
@@ -25,6 +25,7 @@ use Rattle.kernels.specs.Plain.{plainProduct}
 use Rattle.kernels.specs.Pieces.{Piece, joinedPieces, GoodPiece, patternsOf, accOf, ratesOf}
 use Rattle.kernels.proofs.Feeding.{each-map, some-append, neither}
 use Rattle.kernels.proofs.Blocking.{each-rate}
+use Rattle.kernels.proofs.Striding.{strided-values, strided-all}
 use Rattle.kernels.proofs.Bounded.{ValuePiece, FullPiece, joined-within}
 use Rattle.kernels.proofs.Agreement.{agreement, badPiece, joined-mark}
 use Rattle.offsets.specs.Values.{valueAt, ratesFrom}
@@ -60,14 +61,19 @@ module _ (values : List Float) (v : Each (λ (x : Float). T (fits binary64 x)) v
   rates-fit [] = none
   rates-fit (z ∷ zs) = more (value-fits values v (natAbs z)) (rates-fit zs)
 
+-- every value of a slice is one of binary64
+pub values-fit : (xs : List Float) → ((i : ℕ) → T (fits binary64 (getD xs i nan))) → Each (λ (x : Float). T (fits binary64 x)) xs
+values-fit xs v = subst (Each (λ (x : Float). T (fits binary64 x))) (strided-all xs) (strided-values xs v (pos 0) (pos 1) (length xs))
+
+-- as many rates as elements
+pub length-rates : (l : FullTraversal) (base : ℤ) (values : List Float) (k n : ℕ) → length (ratesFrom l base values k n) ≡ n
+length-rates l base values k n = length-map (offsetsFrom (runOf l ∷ outerOf l) base k n) (valueAt values) ∙ length-offsets (runOf l ∷ outerOf l) base k n
+
 -- ---- the pieces of a range
 module _ (l : FullTraversal) (t : Traversal l) (base : ℤ) (b : Bounded (runOf l ∷ outerOf l) base) (values : List Float)
     (v : Each (λ (x : Float). T (fits binary64 x)) values) (end : ℕ) where
-  length-rates : (k n : ℕ) → length (ratesFrom l base values k n) ≡ n
-  length-rates k n = length-map (offsetsFrom (runOf l ∷ outerOf l) base k n) (valueAt values) ∙ length-offsets (runOf l ∷ outerOf l) base k n
-
   -- each piece has at least one rate
-  full-pieces : (n k : ℕ) → Each FullPiece (piecesFrom l base values end n k)
+  pub full-pieces : (n k : ℕ) → Each FullPiece (piecesFrom l base values end n k)
   unfolding piecesFrom
   full-pieces zero k = none
   full-pieces (suc n) k = go (ltb k end) refl (full-pieces n (k + pieceLength (l .«run_len») end k))
@@ -78,7 +84,7 @@ module _ (l : FullTraversal) (t : Traversal l) (base : ℤ) (b : Bounded (runOf 
       go true e f =
           more {x = pieceAt l base values end k}
           (record {
-            some-rate = rw (length-rates k (pieceLength (l .«run_len») end k)) (len-pos l t base b k end (ltb-true k end e));
+            some-rate = rw (length-rates l base values k (pieceLength (l .«run_len») end k)) (len-pos l t base b k end (ltb-true k end e));
             values = rates-fit values v (offsetsFrom (runOf l ∷ outerOf l) base k (pieceLength (l .«run_len») end k));
           }) f
 
@@ -113,7 +119,7 @@ module _ (l : FullTraversal) (t : Traversal l) (base : ℤ) (b : Bounded (runOf 
 
     -- so they are as many as the range's elements
     count : length (ratesOf (piecesOf l base values start end)) ≡ end - start
-    count = ap length range-rates ∙ length-rates start (end - start)
+    count = ap length range-rates ∙ length-rates l base values start (end - start)
 
     bad-visited : some badPiece (piecesOf l base values start end) ≡ some isBad (ratesFrom l base values start (end - start))
     bad-visited = bad-rates (piecesOf l base values start end) ∙ ap (some isBad) range-rates

@@ -98,7 +98,7 @@ module _ (l : FullTraversal) (base : ℤ) (values : List Float) (end : ℕ) (c :
       (worked-sound (record { inBlocks = eqZ (l .«run_stride») (pos 1); rates = strided values (p .first) (l .«run_stride») (p .len) })
       (strided-values values v (p .first) (l .«run_stride») (p .len)))
 
-  is-piece : b ≡ workedPiece (pieceAt l base values end (c .at))
+  pub is-piece : b ≡ workedPiece (pieceAt l base values end (c .at))
   is-piece = e ∙ t .worked-is
 
   -- the first piece is taken as it is

@@ -1,4 +1,4 @@
--- Rules R0 to R13: a name for each refusal's number, as in src/lib, and which of several is given.
+-- Rules R0 to R15: a name for each refusal's number, as in src/lib, and which of several is given.
 use Prim.Native.Nat.{ℕ}
 use mathlib.Core.Bool.{Bool, cond}
 use mathlib.Core.List.{List, [], _∷_}
@@ -41,6 +41,12 @@ NUMBER_TOO_LONG = 12
 
 abbrev pub JOB_BUFFER_TOO_SHORT : ℕ
 JOB_BUFFER_TOO_SHORT = 13
+
+abbrev pub NO_PIECES : ℕ
+NO_PIECES = 14
+
+abbrev pub NOT_A_PIECE : ℕ
+NOT_A_PIECE = 15
 
 -- a refusal: its number, and whether its condition holds
 abbrev pub Refusal : Type 0

@@ -39,3 +39,9 @@ pub const NUMBER_TOO_LONG: u32 = 12;
 
 // the buffer is shorter than the job
 pub const JOB_BUFFER_TOO_SHORT: u32 = 13;
+
+// the count of pieces to work through is 0
+pub const NO_PIECES: u32 = 14;
+
+// no piece of the range begins at the next element number
+pub const NOT_A_PIECE: u32 = 15;

@@ -15,12 +15,12 @@ use Rattle.accumulator.specs.declared.Reduced.the-variants.{Acc}
 use Rattle.accumulator.specs.Joining.{answerOf}
 use Rattle.laws.specs.Lists.{Each}
 use Rattle.kernels.specs.Pieces.{joinedPieces}
-use Rattle.kernels.proofs.Striding.{strided-values, strided-all}
 use Rattle.finishing.specs.Finishing.{value, refusal}
 use Rattle.layout.specs.declared.traversal.Compiled.{Compiled}
 use Rattle.offsets.specs.Lists.{rangeCode}
 use Rattle.offsets.proofs.Checked.{Checked, checked}
 use Rattle.reduction.specs.Ranges.{piecesOf, rangeProduct}
+use Rattle.reduction.proofs.Demand.{values-fit}
 use Rattle.reduction.proofs.Whole.{rule-D3}
 use Rattle.ordered.proofs.Calls.{ordered-accepted}
 use Rattle.figures.proofs.Calls.{figure-refused, figure-bad}
@@ -73,10 +73,6 @@ reduced c =
     let s = b .before .before .before .before .before in
     simp (toZ-ofZ (s .fits .base)) at (c .reduce-full-range .ensures)
     ∙ ap (λ (l : FullTraversal). joinedPieces (piecesOf l (s .args .base) (s .args .values .now) (s .args .start) (s .args .end))) (accepted b .is)
-
--- every value of a slice is one of binary64
-values-fit : (xs : List Float) → ((i : ℕ) → T (fits binary64 (getD xs i nan))) → Each (λ (x : Float). T (fits binary64 x)) xs
-values-fit xs v = subst (Each (λ (x : Float). T (fits binary64 x))) (strided-all xs) (strided-values xs v (pos 0) (pos 1) (length xs))
 
 ordered-full-range-requires : tie.Need-ordered-full-range-requires
 ordered-full-range-requires c κs =
