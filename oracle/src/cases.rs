@@ -3,6 +3,7 @@
 use crate::erased::calls::{Acc, Layout};
 use crate::jobs::{self, Job};
 use crate::rules::{self, BadRate, Range};
+use crate::steps::{self, Bookmark, StepResult};
 use crate::words::Words;
 use std::fmt::Display;
 use std::io::{Read, Result, Write};
@@ -45,6 +46,7 @@ fn answer(line: &[u8]) -> Option<String> {
         b"ordered" => Some(number_text(over_range(words, rules::ordered)?)),
         b"figure" => Some(number_text(over_range(words, rules::figure)?)),
         b"first" => Some(first_text(over_range(words, rules::first_bad_rate)?)),
+        b"step" => step(words),
         b"join" => join(words),
         b"finish" => finish(words),
         b"read" => read_job(words),
@@ -102,15 +104,29 @@ fn items_text<T: Display>(items: &[T]) -> String {
     text
 }
 
-/// What a call over a range with its values gives.
-fn over_range<T>(mut words: Words, call: fn(&[u64], &[i64], &Range, &[f64]) -> T) -> Option<T> {
-    let (sizes, strides) = axes(&mut words)?;
+/// A base, a range and its values.
+fn range_and_values(words: &mut Words) -> Option<(Range, Vec<f64>)> {
     let base = words.i64()?;
     let (start, end) = (words.u64()?, words.u64()?);
     let values = words.list(MOST_VALUES, Words::f64)?;
+    Some((Range { base, start, end, length: values.len() as u64 }, values))
+}
+
+/// What a call over a range with its values gives.
+fn over_range<T>(mut words: Words, call: fn(&[u64], &[i64], &Range, &[f64]) -> T) -> Option<T> {
+    let (sizes, strides) = axes(&mut words)?;
+    let (range, values) = range_and_values(&mut words)?;
     words.end()?;
-    let range = Range { base, start, end, length: values.len() as u64 };
     Some(call(&sizes, &strides, &range, &values))
+}
+
+fn step(mut words: Words) -> Option<String> {
+    let (sizes, strides) = axes(&mut words)?;
+    let (range, values) = range_and_values(&mut words)?;
+    let from = Bookmark { next: words.u64()?, acc: acc(&mut words)? };
+    let most = words.u64()?;
+    words.end()?;
+    Some(step_text(steps::step(&sizes, &strides, &range, &values, &from, most)))
 }
 
 fn acc(words: &mut Words) -> Option<Acc> {
@@ -134,9 +150,21 @@ fn finish(mut words: Words) -> Option<String> {
     Some(number_text(rules::finish(answer)))
 }
 
+fn acc_words(acc: Acc) -> String {
+    format!("{:016x} {} {}", acc.m.to_bits(), acc.e, u32::from(acc.bad))
+}
+
 fn acc_text(answer: std::result::Result<Acc, u32>) -> String {
     match answer {
-        Ok(acc) => format!("acc {:016x} {} {}", acc.m.to_bits(), acc.e, u32::from(acc.bad)),
+        Ok(acc) => format!("acc {}", acc_words(acc)),
+        Err(code) => format!("refused {code}"),
+    }
+}
+
+fn step_text(answer: std::result::Result<StepResult, u32>) -> String {
+    match answer {
+        Ok(StepResult { to, pieces, done: true }) => format!("done {} {pieces}", acc_words(to.acc)),
+        Ok(StepResult { to, pieces, done: false }) => format!("more {} {} {pieces}", to.next, acc_words(to.acc)),
         Err(code) => format!("refused {code}"),
     }
 }

@@ -19,6 +19,7 @@ mod inline;
 mod jobs;
 mod rules;
 mod simd;
+mod steps;
 mod words;
 
 pub use complex::{Complex32, Complex64};
