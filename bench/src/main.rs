@@ -21,6 +21,7 @@ mod oracle {
     pub mod jobs;
     pub mod rules;
     pub mod simd;
+    pub mod steps;
 }
 
 mod beside;
@@ -45,7 +46,7 @@ mod timing;
 // The oracle's files name each other from the root of the crate.
 pub use oracle::complex::{Complex32, Complex64};
 pub use oracle::error::{Result, StridedError};
-use oracle::{erased, generate, inline, jobs, rules, simd};
+use oracle::{erased, generate, inline, jobs, rules, simd, steps};
 
 fn usage() -> ! {
     eprintln!("usage: bench table | rare | figures | search | jobs | growth | check, or bench compare COUNT SEED");

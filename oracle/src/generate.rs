@@ -2,7 +2,7 @@
 //!
 //! A kind names what is drawn: `layout` gives lines of `compile` and `list`, `join` of `join`, `reduce` of `reduce`
 //! and `product`, `ordered` of `ordered` and `figure`, `first` of `first`, `finish` of `finish`, `jobs` of `write` and
-//! `read`.
+//! `read`, `step` of `step`.
 
 mod accumulator;
 mod axes;
@@ -14,10 +14,11 @@ mod layout;
 pub mod ordered;
 mod rates;
 pub mod reduce;
+pub mod step;
 
 use std::io::{Result, Write};
 
-/// Draws one line.
+/// Draws one line, or several that belong together, with a newline between them.
 pub type Maker = fn(&mut Dice) -> String;
 
 pub fn maker(kind: &str) -> Option<Maker> {
@@ -29,6 +30,7 @@ pub fn maker(kind: &str) -> Option<Maker> {
         "first" => Some(first::line),
         "finish" => Some(finish::line),
         "jobs" => Some(jobs::line),
+        "step" => Some(step::lines),
         _ => None,
     }
 }
@@ -36,10 +38,13 @@ pub fn maker(kind: &str) -> Option<Maker> {
 pub fn print(make: Maker, seed: u64, count: u64) -> Result<()> {
     let mut output = std::io::BufWriter::new(std::io::stdout().lock());
     let mut dice = Dice::new(seed);
-    for _ in 0..count {
-        let line = make(&mut dice);
-        output.write_all(line.as_bytes())?;
-        output.write_all(b"\n")?;
+    let mut left = count;
+    while left > 0 {
+        for line in make(&mut dice).split('\n').take(left as usize) {
+            output.write_all(line.as_bytes())?;
+            output.write_all(b"\n")?;
+            left -= 1;
+        }
     }
     output.flush()
 }

@@ -22,7 +22,7 @@ fn refusal(dice: &mut Dice) -> u32 {
     match dice.below(4) {
         0 => dice.any() as u32,
         1 => u32::MAX - dice.below(2) as u32,
-        _ => dice.below(16) as u32,
+        _ => dice.below(18) as u32,
     }
 }
 
