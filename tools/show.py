@@ -79,6 +79,15 @@ def shown_sent(words):
     return text + (f"; and {len(sent) % 4} of the 4 bytes of another" if len(sent) % 4 else "")
 
 
+def shown_step(words):
+    """A range with its values, where the call goes on, and how many pieces it may work."""
+    layout, rest = shown_range(words)
+    start = shown_layout(words)[1][1]
+    next_, *acc, count = take_list(rest)[1]
+    begins = f", the start (ignored: {shown_acc(acc)})" if next_ == start else f" with {shown_acc(acc)}"
+    return f"{layout}, {shown_values(rest)}; from element {next_}{begins}, at most {count} of the pieces"
+
+
 def shown_case(words, refusals):
     call = words[0]
     if call == "compile":
@@ -91,6 +100,8 @@ def shown_case(words, refusals):
     if call == "write":
         layout, rest = shown_range(words[1:])
         return f"write: {layout}, a buffer of {rest[0]} bytes"
+    if call == "step":
+        return "step: " + shown_step(words[1:])
     if call in OVER_VALUES:
         layout, rest = shown_range(words[1:])
         return f"{call}: {layout}, {shown_values(rest)}"
@@ -206,6 +217,10 @@ def shown_answer(case, words, refusals):
         return shown_bad(case, *words[1:])
     if kind == "none":
         return "no visited rate is bad"
+    if kind == "done":
+        return f"finished: {shown_acc(words[1:4])}; pieces worked: {words[4]}"
+    if kind == "more":
+        return f"not finished: element {words[1]} is next, with {shown_acc(words[2:5])}; pieces worked: {words[5]}"
     return shown_acc(words[1:4]) if kind == "acc" else shown_number(words[1], call)
 
 

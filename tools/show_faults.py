@@ -26,9 +26,10 @@ ANSWERS = {
     "first": ("bad", "none", "refused"),
     "read": ("job",),
     "write": ("write",),
+    "step": ("done", "more", "refused"),
 }
-# The calls over a range with its values.
-OVER_VALUES = ("reduce", "product", "ordered", "figure", "first")
+# The calls over a range with its values. Behind these `step` has more.
+OVER_VALUES = ("reduce", "product", "ordered", "figure", "first", "step")
 
 
 class Fault(Exception):
@@ -203,6 +204,10 @@ def check_layout(call, words):
         check_bytes_given(words)
     if call in OVER_VALUES:
         words.items("value", ITEMS, words.float)
+    if call == "step":
+        words.number("the next element number", U64)
+        check_accumulator(words)
+        words.number("the count of pieces", U64)
 
 
 def check_call(call, words):

@@ -236,6 +236,15 @@ readonly faulty=(
     'write 33' 'at most 32 of them'
     'write 0 0 0 -1 4 0' 'word 5, "-1", stands for the start of the range: it may not be below 0'
     'write 0 0 0 0 4 1 7 7' '1 word too many: the line should end before word 9, "7"'
+    'Step 1 2 1 1' 'write it in lower case'
+    "step 1 2 1 1 0 0 2 2 $m" 'the line ends after 1 of 2 values; the count does not match the items'
+    "step 1 2 1 1 0 0 2 2 $m $m" 'the line ends where the next element number should stand'
+    "step 1 2 1 1 0 0 2 2 $m $m -1" 'word 12, "-1", stands for the next element number: it may not be below 0'
+    "step 1 2 1 1 0 0 2 2 $m $m 0 1.5" "word 13, \"1.5\", stands for m: a float is written by the 16 hex digits of its bits, here $m"
+    "step 1 2 1 1 0 0 2 2 $m $m 0 $m 0 2" 'word 15, "2", stands for the bad mark: it does not lie in 0 to 1'
+    "step 1 2 1 1 0 0 2 2 $m $m 0 $m 0 0" 'the line ends where the count of pieces should stand'
+    "step 1 2 1 1 0 0 2 2 $m $m 0 $m 0 0 18446744073709551616" 'stands for the count of pieces: it does not lie in 0 to 18446744073709551615'
+    "step 1 2 1 1 0 0 2 2 $m $m 0 $m 0 0 1 1" '1 word too many: the line should end before word 17, "1"'
     "$(head -c 131073 /dev/zero | tr '\0' x)" 'the line has 131073 bytes'
 )
 
@@ -302,13 +311,31 @@ jobs() {
     check 'an example of jobs' 0 '    a job: sizes 2 3, strides 6 1, base 7, elements 0 to 6 (not included)' '' run_sh 'examples/job.cases'
 }
 
+# Where a reduction goes on, what there is so far, and how many pieces were worked. Runs of two, with a gap between them.
+steps() {
+    local rows="2 2 2 2 1 3 0 1 4 5 $m $m $m $m $m" limit=4503599627370496
+    check_lines 'steps' 0 \
+        "step $rows 1 7ff8000000000000 -7 1 1" '    not finished: element 2 is next, with 1.5 × 2^0; pieces worked: 1' \
+        "step $rows 2 $m 0 0 1" '    finished: 1.6875 × 2^1; pieces worked: 1' \
+        "step $rows 2 $m -3 1 9" '    finished: 1.5 × 2^-3, bad; pieces worked: 1' \
+        "step $rows 1 $m 0 0 18446744073709551615" '    finished: 1.6875 × 2^1; pieces worked: 2' \
+        "step $rows 1 $m 0 0 0" '    refused 14 (NO_PIECES)' \
+        "step $rows 3 $m 0 0 1" '    refused 15 (NOT_A_PIECE)' \
+        "step $rows 2 4000000000000000 0 0 1" '    refused 9 (ACCUMULATOR_OUT_OF_RANGE)' \
+        "step $rows 2 $m $limit 0 1" '    refused 10 (EXPONENT_OUT_OF_RANGE)'
+    has "$work/out" '1.5 .. and 1 more; from element 1, the start (ignored: nan × 2^-7, bad), at most 1 of the pieces' ||
+        die 'steps: a bookmark at the start is not shown'
+    has "$work/out" '1.5 .. and 1 more; from element 2 with 1.5 × 2^-3, bad, at most 9 of the pieces' ||
+        die 'steps: a bookmark is not shown'
+}
+
 # Each refusal has a name and a condition, in the file that is their home.
 refusals() {
     local cases=() code said ones
-    for code in {1..13}; do cases+=("finish refused $code" "    refused $code ("); done
+    for code in {1..15}; do cases+=("finish refused $code" "    refused $code ("); done
     check_lines 'refusals' 0 "${cases[@]}"
     said=$(grep -cE '^    refused [0-9]+ \([A-Z_]+\): .*[^.]$' "$work/out")
-    [ "$said" -eq 13 ] || die "refusals: $said of 13 have a name and a condition"
+    [ "$said" -eq 15 ] || die "refusals: $said of 15 have a name and a condition"
     # The condition says the limit that the program has.
     ones=$(printf ' 1%.0s' {1..16})
     check_lines 'the limit of axes' 0 "compile 16$ones 16$ones" '    1 elements' \
@@ -344,7 +371,7 @@ EOF
 [ -x target/bin/replay ] || die 'target/bin/replay is not there; build it by ./run or rt check replay'
 [ -f crates/refusals/src/lib.rt ] || die 'crates/refusals/src/lib.rt is not there; it names the refusals'
 make_copy
-for group in calls inputs outputs tools_missing builds programs replay_itself faults numbers bad_rates jobs refusals stored; do
+for group in calls inputs outputs tools_missing builds programs replay_itself faults numbers bad_rates jobs steps refusals stored; do
     "$group"
 done
 printf 'test_run: ok, %s checks\n' "$count"
