@@ -3,7 +3,7 @@
 
 The format has no comments, so this file says what each group is for: here layouts, joins and malformed lines,
 in stored_products.py reductions, products and finishes, in stored_figures.py ordered products and figures,
-in stored_search.py first bad rates, in stored_jobs.py layouts sent as words.
+in stored_search.py first bad rates, in stored_jobs.py layouts sent as words, in stored_steps.py reductions in steps.
 The answers are the oracle's: crates/replay/stdout.
 """
 
@@ -14,6 +14,7 @@ import stored_figures
 import stored_jobs
 import stored_products
 import stored_search
+import stored_steps
 from case_lines import BAD, GAPS, INFINITE, LEAST, LIMIT, MANY, MOST, ONE, OUT, PLAN, SIGN, THREE_HALVES, TWO
 from case_lines import WRONG_FLOATS, WRONG_MARKS, WRONG_SIGNED
 from case_lines import between_good_lines, compile_, join, list_, patterns_of_m, spoiled, unit
@@ -580,6 +581,7 @@ def main():
         *stored_figures.GROUPS,
         *stored_search.GROUPS,
         *stored_jobs.GROUPS,
+        *stored_steps.GROUPS,
     ]:
         group()
     # The last line has no newline, and counts all the same.
