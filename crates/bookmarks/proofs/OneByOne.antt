@@ -1,5 +1,5 @@
 -- Pieces joined one by one, with rule R10 asked after each. Assumes nothing.
-use Prim.Native.Nat.{ℕ, _+_, _*_, _^_, _≤_, _<_}
+use Prim.Native.Nat.{ℕ, _^_, _≤_, _<_}
 use mathlib.Core.Path.{_≡_, refl, sym, _∙_, ap, subst}
 use mathlib.Core.Bool.{Bool, true, false}
 use mathlib.Core.List.{List, [], _∷_}
@@ -21,7 +21,7 @@ use Rattle.accumulator.proofs.Reduced.{the-type}
 use Rattle.accumulator.specs.declared.StableProductFloatAcc.{StableProductFloatAcc}
 use Rattle.accumulator.specs.declared.Reduced.{Reduced}
 use Rattle.accumulator.specs.declared.Reduced.the-variants.{Acc, Refused}
-use Rattle.accumulator.specs.Joining.{identityAcc, combined, withinLimit, inLimits, Answer, accumulator, refusal, answerOf, answered, joined}
+use Rattle.accumulator.specs.Joining.{combined, withinLimit, inLimits, Answer, answerOf, answered, joined}
 use Rattle.accumulator.proofs.Answers.{answered-joined, accepted, refused-joined}
 use Rattle.kernels.specs.InnerStepped.{Sound}
 use Rattle.kernels.specs.InnerStrided.{strided}
@@ -32,12 +32,9 @@ use Rattle.reduction.proofs.Pieces.{pieces-none}
 use Rattle.reduction.proofs.Ranges.{PieceTaken, near, piece-sound, is-piece}
 use Rattle.reduction.proofs.Whole.{is-accumulator}
 use Rattle.bookmarks.specs.Steps.{andThen, joinedWithin}
+use Rattle.bookmarks.proofs.Joins.{same-acc}
 
 -- ---- what joining answers
-abbrev accIn : Answer → StableProductFloatAcc
-accIn (accumulator m e bad) = record { m = m; e = e; bad = bad }
-accIn (refusal n) = identityAcc
-
 pub in-limits : (a : StableProductFloatAcc) → Sound a → withinLimit (a .e) ≡ true → inLimits a ≡ true
 unfolding inLimits
 in-limits a s h = rw (s .in-unit, h)
@@ -48,7 +45,7 @@ module _ (a b : StableProductFloatAcc) (A : inLimits a ≡ true) (B : inLimits b
   join-kept r e = go (withinLimit (combined a b .e)) refl
     where
       same : withinLimit (combined a b .e) ≡ true → r ≡ combined a b
-      same h = ap accIn (e ∙ sym (accepted a b A B h))
+      same h = same-acc (combined a b) r (accepted a b A B h ∙ sym e)
 
       go : (t : Bool) → withinLimit (combined a b .e) ≡ t → (r ≡ combined a b) × (withinLimit (r .e) ≡ true)
       go true h = (same h, ap (λ (c : StableProductFloatAcc). withinLimit (c .e)) (same h) ∙ h)

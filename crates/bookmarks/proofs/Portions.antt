@@ -3,15 +3,15 @@
 use Prim.Native.Nat.{ℕ, zero, suc, _+_, _-_, _*_, _/_, _%_, _≤_, _<_, min}
 use mathlib.Core.Path.{_≡_, refl, sym, _∙_, ap}
 use mathlib.Core.Bool.{Bool, true, false, cond}
-use mathlib.Core.List.{List, [], _∷_}
+use mathlib.Core.List.{List, [], _∷_, _++_}
 use native.Mathlib.Omega.{arith}
-use native.Mathlib.Nat.{le-refl, le-trans, mod-lt, mul-mod-left}
-use native.Mathlib.Nat.{div-add-mod', div-le-self, div-mul-le-self, le-div-iff-mul-le, div-lt-iff-lt-mul, div-eq-of-lt-le, mul-div-cancel}
+use native.Mathlib.Nat.{le-refl, le-trans, mod-lt, mul-mod-left, mul-le-mul-right, add-zero, zero-add, suc-add}
+use native.Mathlib.Nat.{div-add-mod', div-le-self, div-mul-le-self, le-div-iff-mul-le, div-eq-of-lt-le, mul-div-cancel}
 use lib.ListN.{length, length-append}
 use lib.Dec.{ltb, leb, leb·suc-suc}
 use lib.IntN.{ℤ, pos}
 use lib.Ieee.{Float}
-use borrow.Author.Tests.{lt-ltb, ltb-true, ltb-false, le-leb, lt-leb, leb-false}
+use borrow.Author.Tests.{lt-ltb, ltb-true, ltb-false, le-leb, lt-leb, leb-true, leb-false}
 use Rattle.integers.specs.Integers.{eqZ}
 use Rattle.laws.proofs.Tests.{by-test}
 use Rattle.layout.specs.declared.traversal.FullTraversal.{FullTraversal}
@@ -36,7 +36,15 @@ module _ (len end n k : ℕ) where
   unfolding stopAt
   stop-part h = ap (λ (b : Bool). cond b end ((k / len + n) * len)) (lt-leb (piecesLeft len end k) n h)
 
-stop-none : (len end k : ℕ) → k % len ≡ 0 → stopAt len end 0 k ≡ k
+-- pieces are left before an end that is not reached
+pub stop-inside : (len end n k : ℕ) → stopAt len end n k < end → n < piecesLeft len end k
+stop-inside len end n k h = go (leb (piecesLeft len end k) n) refl
+  where
+    go : (b : Bool) → leb (piecesLeft len end k) n ≡ b → n < piecesLeft len end k
+    go true e = absurd (omega (arith, stop-all len end n k (leb-true (piecesLeft len end k) n e)))
+    go false e = leb-false (piecesLeft len end k) n e
+
+pub stop-none : (len end k : ℕ) → k % len ≡ 0 → stopAt len end 0 k ≡ k
 stop-none len end k r = stop-part len end 0 k (omega arith) ∙ omega (arith, div-add-mod' k len)
 
 module _ (len end k : ℕ) (some : 1 ≤ len) (h : k < end) where
@@ -49,16 +57,24 @@ module _ (len end k : ℕ) (some : 1 ≤ len) (h : k < end) where
   pub stop-small : (n : ℕ) → n < piecesLeft len end k → (k / len + n) * len ≤ end - 1
   stop-small n q = le-div-iff-mul-le some .0 (omega (arith, run-upto))
 
+  pub stop-before : (n : ℕ) → n < piecesLeft len end k → stopAt len end n k < end
+  stop-before n q = omega (arith, stop-part len end n k q, stop-small n q)
+
   pub stop-upto : (n : ℕ) → stopAt len end n k ≤ end
   unfolding stopAt
   stop-upto n =
       by-test (λ (m : ℕ). m ≤ end) (leb (piecesLeft len end k) n) (λ e. le-refl end)
       (λ e. let q = stop-small n (leb-false (piecesLeft len end k) n e) in omega arith)
 
-  pub stop-forward : (n : ℕ) → 1 ≤ n → k < stopAt len end n k
+  -- the piece at k is one of them
+  pub stop-behind : (n : ℕ) → 1 ≤ n → k + pieceLength len end k ≤ stopAt len end n k
   unfolding stopAt
-  stop-forward n q =
-      by-test (λ (m : ℕ). k < m) (leb (piecesLeft len end k) n) (λ e. h) (λ e. div-lt-iff-lt-mul some .0 (omega arith))
+  stop-behind n q =
+      by-test (λ (m : ℕ). k + pieceLength len end k ≤ m) (leb (piecesLeft len end k) n) (λ e. omega arith)
+      (λ e. let r : k / len + 1 ≤ k / len + n = omega arith in omega (arith, mul-le-mul-right len r, div-add-mod' k len, mod-lt k some))
+
+  pub stop-forward : (n : ℕ) → 1 ≤ n → k < stopAt len end n k
+  stop-forward n q = omega (arith, stop-behind n q, mod-lt k some)
 
 -- ---- the piece at element k, and what is left behind it
 module _ (len end k : ℕ) (some : 1 ≤ len) (h : k < end) where
@@ -72,7 +88,7 @@ module _ (len end k : ℕ) (some : 1 ≤ len) (h : k < end) where
 
   -- behind any other a run begins
   module _ (more : k + pieceLength len end k < end) where
-    pub behind : k + pieceLength len end k ≡ (k / len + 1) * len
+    behind : k + pieceLength len end k ≡ (k / len + 1) * len
     behind = omega (arith, div-add-mod' k len, mod-lt k some)
 
     behind-run : (k + pieceLength len end k) / len ≡ k / len + 1
@@ -129,6 +145,24 @@ module _ (l : FullTraversal) (t : Traversal l) (base : ℤ) (b : Bounded (runOf 
         length-append (ratesFrom l base values k (pieceLength (l .«run_len») end k)) (ratesOf (portion n (next k))),
         length-rates l base values k (pieceLength (l .«run_len») end k),
       )
+
+  -- n pieces, and m behind them
+  pub portion-split : (n m k : ℕ)
+      → piecesFrom l base values end (n + m) k
+      ≡ piecesFrom l base values end n k ++ piecesFrom l base values end m (k + length (ratesOf (piecesFrom l base values end n k)))
+  unfolding piecesFrom ratesOf
+  portion-split zero m k = rw (zero-add m, add-zero k)
+  portion-split (suc n) m k = go (ltb k end) refl (portion-split n m (next k))
+    where
+      go : (x : Bool) → ltb k end ≡ x → portion (n + m) (next k) ≡ portion n (next k) ++ portion m (next k + length (ratesOf (portion n (next k))))
+          → portion (suc n + m) k ≡ portion (suc n) k ++ portion m (k + length (ratesOf (portion (suc n) k)))
+      go true e f =
+          let h = ltb-true k end e in
+          rw (suc-add n m, rates-more n k h, portion-more (n + m) k h, portion-more n k h, f)
+      go false e f =
+          let h = ltb-false k end e in
+          rw (pieces-none l base values end (suc n + m) k h, pieces-none l base values end (suc n) k h)
+          (sym (pieces-none l base values end m (k + 0) (omega arith)))
 
   pieces-over : (k to : ℕ) → to ≤ k → piecesOf l base values k to ≡ []
   pieces-over k to h = pieces-none l base values to (to - k) k h

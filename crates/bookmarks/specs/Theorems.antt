@@ -45,11 +45,10 @@ pub record RuleB3 (ns : List ℕ) (ss : List ℤ) (base : ℤ) (start end : ℕ)
       → (pieces ≡ n) × (to .next < end) × (beginsPiece ((compileOf PLACES ns ss) .traversal .«run_len») start end (to .next) ≡ true)
       × Worked ((compileOf PLACES ns ss) .traversal) base values start end mark (to .next) pieces (to .acc)
 
--- it holds of every call, over values of binary64, as every f64 is
+-- it holds of every call
 abbrev pub RuleB3Law : Type 0
 RuleB3Law =
-    (ns : List ℕ) (ss : List ℤ) (base : ℤ) (start end : ℕ) (values : List Float) (mark : Bookmark) (n : ℕ)
-    → Each (λ (x : Float). T (fits binary64 x)) values → RuleB3 ns ss base start end values mark n
+    (ns : List ℕ) (ss : List ℤ) (base : ℤ) (start end : ℕ) (values : List Float) (mark : Bookmark) (n : ℕ) → RuleB3 ns ss base start end values mark n
 
 -- rule B4, a caller's loop from a bookmark on: after so many calls, none of them refused, it is done with the accumulator a
 pub data Loop (call : Bookmark → Step) : Bookmark → ℕ → StableProductFloatAcc → Type 0 where
@@ -57,7 +56,8 @@ pub data Loop (call : Bookmark → Step) : Bookmark → ℕ → StableProductFlo
   again : {mark to : Bookmark} {a : StableProductFloatAcc} {pieces calls : ℕ} → call mark ≡ More to pieces → Loop call to calls a
       → Loop call mark (suc calls) a
 
--- over any accepted range, from its start on with any accumulator: p pieces, n a call, take p / n calls, rounded up, and give the unbroken reduction's product
+-- Over any accepted range, from its start on with any accumulator: p pieces, n a call, take p / n calls, rounded up, and give the unbroken reduction's
+-- product. The values are of binary64, as every f64 is.
 abbrev pub RuleB4Law : Type 0
 RuleB4Law =
     (ns : List ℕ) (ss : List ℤ) (base : ℤ) (start end : ℕ) (values : List Float) (any : StableProductFloatAcc) (n : ℕ)

@@ -65,11 +65,11 @@ fn step_code(len: u64, start: u64, end: u64, mark: Bookmark, n: u64) -> u32
     if n == 0 {
         return refusals::NO_PIECES;
     }
-    let next = mark.next;
-    if !begins_piece(len, start, end, next) {
+    let at = mark.next;
+    if !begins_piece(len, start, end, at) {
         return refusals::NOT_A_PIECE;
     }
-    if next == start {
+    if at == start {
         return 0;
     }
     if accumulator::in_limits(mark.acc) {

@@ -8,7 +8,6 @@ use mathlib.Core.Option.{some}
 use native.Mathlib.Omega.{arith}
 use lib.Dec.{ltb, leb, eqb}
 use lib.ListN.{length, drop}
-use native.Mathlib.Decide.{decLt}
 use lib.IntN.{ℤ}
 use borrow.Author.Tests.{lt-ltb, le-ltb, le-leb, lt-leb, eqb-true, eq-eqb, ne-eqb, ltb-false, leb-false, not-false}
 use Rattle.layout.specs.declared.axis.ReduceOuterAxis.{ReduceOuterAxis}
@@ -47,6 +46,16 @@ first-hides (r ∷ rs) qs n = go (r .1) refl (first-hides rs qs)
         → cond (r .1) (r .0) (firstOf (rs ++ qs)) ≡ cond (r .1) (r .0) (firstOf rs)
     go true e f = rw e
     go false e f = rw e (f (λ z. n (rw e z)))
+
+-- where none of a longer list applies, none of its beginning does
+pub first-none : (rs qs : List Refusal) → firstOf (rs ++ qs) ≡ 0 → firstOf rs ≡ 0
+unfolding firstOf
+first-none [] qs e = refl
+first-none (r ∷ rs) qs e = go (r .1) (first-none rs qs) e
+  where
+    go : (b : Bool) → (firstOf (rs ++ qs) ≡ 0 → firstOf rs ≡ 0) → cond b (r .0) (firstOf (rs ++ qs)) ≡ 0 → cond b (r .0) (firstOf rs) ≡ 0
+    go true f e = e
+    go false f e = f e
 
 module _ (ns : List ℕ) (ss : List ℤ) where
   -- what a compile that refuses nothing says
@@ -138,17 +147,7 @@ module _ (ns : List ℕ) (ss : List ℤ) (base : ℤ) (start end len : ℕ) wher
 
   cleared : rangeCode ns ss base start end len ≡ 0 → Clear ns ss
   unfolding rangeCode
-  cleared e = go (decLt 0 (firstOf (compileRefusals PLACES ns ss)))
-    where
-      go : Dec (0 < firstOf (compileRefusals PLACES ns ss)) → Clear ns ss
-      go (yes h) = absurd (clash (first-hides (compileRefusals PLACES ns ss) (rangeRefusals ns ss base start end len) nz))
-        where
-          nz : firstOf (compileRefusals PLACES ns ss) ≡ 0 → ⊥
-          nz k = omega arith
-
-          clash : firstOf (compileRefusals PLACES ns ss ++ rangeRefusals ns ss base start end len) ≡ firstOf (compileRefusals PLACES ns ss) → ⊥
-          clash q = omega (arith, sym q ∙ e)
-      go (no h) = clear ns ss (code-is (omega arith))
+  cleared e = clear ns ss (code-is (first-none (compileRefusals PLACES ns ss) (rangeRefusals ns ss base start end len) e))
 
   pub ranged : rangeCode ns ss base start end len ≡ 0 → Ranged ns ss base start end len
   unfolding rangeCode rangeRefusals totalIn firstOf

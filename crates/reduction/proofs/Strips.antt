@@ -28,7 +28,7 @@ use Rattle.offsets.specs.InnerPieces.{rangeAt, pieceOf}
 use Rattle.offsets.proofs.Walking.{piece-len}
 use Rattle.offsets.proofs.Skipping.{firstAxis}
 use Rattle.offsets.proofs.Runs.{run-some, runs-begin, runs-end, runs-at}
-use Rattle.kernels.specs.Pieces.{Piece, worked, workedPiece, joinedOnto}
+use Rattle.kernels.specs.Pieces.{worked, workedPiece, joinedOnto}
 use Rattle.kernels.specs.InnerStrided.{strided, PlacesInside}
 use Rattle.kernels.specs.InnerStepped.{Sound}
 use Rattle.kernels.proofs.Sizes.{combined-size}

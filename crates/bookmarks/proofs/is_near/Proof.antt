@@ -25,10 +25,7 @@ returns c =
     rw exact (both e (rw exact at (c .if1 .taken)))
 
 returns-2 : tie.Need-returns-2
-returns-2 c h =
-    let e = c .before .args .e in
-    let exact = toZ-ofZ w64 e (c .before .fits .e) in
-    absurd (true≢false (sym h ∙ c .if1 .left))
+returns-2 c h = absurd (true≢false (sym h ∙ c .if1 .left))
 
 pub is-near-spec : {M : Type 1} → statement M
 is-near-spec = tie.close (tie.spec sub-if1 returns returns-2)

@@ -1,7 +1,7 @@
 -- `bookmarks::join_each` meets its contract. The loop's invariant: what is left joins to the whole answer (`Joining`).
 -- Assumes nothing.
 use Prim.Native.Nat.{ℕ, _-_}
-use mathlib.Core.Path.{_≡_, refl, sym, _∙_, ap}
+use mathlib.Core.Path.{_≡_, sym, _∙_, ap}
 use native.Mathlib.Omega.{arith}
 use lib.IntN.{pos}
 use mir.Val.{toZ, SFits}

@@ -22,8 +22,6 @@ use Rattle.reduction.proofs.Demand.{values-fit, full-pieces, length-rates, rang
 use Rattle.bookmarks.proofs.Joins.{joined-near}
 use Rattle.bookmarks.proofs.join_portion.Statement.{statement}
 use Rattle.bookmarks.proofs.join_portion.Tie as tie
-use Rattle.bookmarks.proofs.join_portion.Reads as reads
-use Rattle.bookmarks.proofs.join_portion.Lts as lts
 
 is-near-requires : tie.Need-is-near-requires
 is-near-requires c κs = search needs

@@ -1,10 +1,9 @@
 -- `bookmarks::reduce_portion` meets its contract: at the start the range's product up to the stop, elsewhere the pieces joined. Assumes nothing.
 use Prim.Native.Nat.{ℕ}
-use mathlib.Core.Path.{_≡_, sym, _∙_, ap}
-use mathlib.Core.Bool.{Bool, cond}
+use mathlib.Core.Path.{sym, _∙_, ap}
+use mathlib.Core.Bool.{Bool}
 use native.Mathlib.Omega.{arith}
 use mir.Facts.{toZ-ofZ}
-use borrow.Author.Needs.{needs}
 use borrow.Author.Tests.{eq-eqb, ne-eqb}
 use Rattle.accumulator.specs.declared.StableProductFloatAcc.{StableProductFloatAcc}
 use Rattle.accumulator.specs.declared.Reduced.the-variants.{Acc}
@@ -14,8 +13,6 @@ use Rattle.reduction.specs.Ranges.{piecesOf}
 use Rattle.bookmarks.specs.Steps.{portionOf}
 use Rattle.bookmarks.proofs.reduce_portion.Statement.{statement}
 use Rattle.bookmarks.proofs.reduce_portion.Tie as tie
-use Rattle.bookmarks.proofs.reduce_portion.Reads as reads
-use Rattle.bookmarks.proofs.reduce_portion.Lts as lts
 
 reduce-full-range-requires : tie.Need-reduce-full-range-requires
 reduce-full-range-requires c κs =

@@ -1,7 +1,6 @@
 -- `bookmarks::reduce_step` meets its contract, refused or not. Assumes nothing.
-use Prim.Native.Nat.{ℕ, _+_, _≤_, _<_, min}
-use mathlib.Core.Path.{_≡_, sym, _∙_, ap}
-use mathlib.Core.List.{List}
+use Prim.Native.Nat.{ℕ, _+_, _<_}
+use mathlib.Core.Path.{_≡_, refl, sym, _∙_, ap}
 use native.Mathlib.Omega.{arith}
 use native.Mathlib.Nat.{le-trans}
 use lib.ListN.{length}
@@ -19,13 +18,12 @@ use Rattle.offsets.proofs.Runs.{run-some}
 use Rattle.kernels.specs.Pieces.{ratesOf}
 use Rattle.accumulator.specs.Joining.{answerOf}
 use Rattle.reduction.specs.Ranges.{piecesFrom, piecesOf}
-use Rattle.bookmarks.specs.Steps.{stepRefusals, portionOf, told}
+use Rattle.bookmarks.specs.Steps.{stepRefusals, stepCode, portionOf, told}
 use Rattle.bookmarks.proofs.Portions.{portion-count, portion-stop, portion-pieces, stop-forward, stop-upto}
-use Rattle.bookmarks.proofs.Calls.{Bookmarked, bookmarked, code-range, code-faults, step-refused, step-accepted}
+use Rattle.bookmarks.proofs.Counting.{begins-inside}
+use Rattle.bookmarks.proofs.Calls.{code-range, code-faults, Allowed, allowed, stands-within, step-refused, step-tells}
 use Rattle.bookmarks.proofs.reduce_step.Statement.{statement}
 use Rattle.bookmarks.proofs.reduce_step.Tie as tie
-use Rattle.bookmarks.proofs.reduce_step.Reads as reads
-use Rattle.bookmarks.proofs.reduce_step.Lts as lts
 
 compile-requires : tie.Need-compile-requires
 compile-requires c κs = search needs
@@ -82,17 +80,32 @@ returns-2 c =
     (s .args .n) (accepted (f .before) .code)) (c .if2 .taken)
 
 -- an accepted bookmark
-marked : (c : tie.Else2) → let f = c .before in let s = f .before .before .before .before .before .before in
-    Bookmarked (f .before .before .before .compile .result .traversal .«run_len») (s .args .start) (s .args .end) (s .args .mark) (s .args .n)
-marked c =
+code-none : (c : tie.Else2) → let s = c .before .before .before .before .before .before .before in
+    stepCode (s .args .sizes .now) (s .args .strides .now) (s .args .base) (s .args .start) (s .args .end) (length (s .args .values .now)) (s .args .mark)
+    (s .args .n)
+    ≡ 0
+code-none c =
     let f = c .before in
     let s = f .before .before .before .before .before .before in
-    bookmarked _ (s .args .start) (s .args .end) (s .args .mark) (s .args .n) (accepted (f .before) .forward) (sym (f .step-code .ensures) ∙ c .if2 .left)
+    sym (code-faults (s .args .sizes .now) (s .args .strides .now) (s .args .base) (s .args .start) (s .args .end) (s .args .values .now) (s .args .mark)
+    (s .args .n) (accepted (f .before) .code)) ∙ sym (fault-of f) ∙ c .if2 .left
+
+marked : (c : tie.Else2) → let s = c .before .before .before .before .before .before .before in
+    Allowed (s .args .sizes .now) (s .args .strides .now) (s .args .base) (s .args .start) (s .args .end) (s .args .values .now) (s .args .mark) (s .args .n)
+marked c =
+    let s = c .before .before .before .before .before .before .before in
+    allowed (s .args .sizes .now) (s .args .strides .now) (s .args .base) (s .args .start) (s .args .end) (s .args .values .now) (s .args .mark) (s .args .n)
+    (code-none c)
+
+below : (c : tie.Else2) → let s = c .before .before .before .before .before .before .before in s .args .mark .next < s .args .end
+below c =
+    let s = c .before .before .before .before .before .before .before in
+    begins-inside _ (s .args .start) (s .args .end) (s .args .mark .next) (accepted (c .before .before) .forward) (marked c .begins) .1
 
 portion-from-requires : tie.Need-portion-from-requires
 portion-from-requires c κs =
     let a = accepted (c .before .before) in
-    (run-some (c .before .before .before .before .compile .result .traversal) (a .traversal), marked c .below, le-trans (a .inside) (a .few))
+    (run-some (c .before .before .before .before .compile .result .traversal) (a .traversal), below c, le-trans (a .inside) (a .few))
 
 reduce-portion-requires : tie.Need-reduce-portion-requires
 reduce-portion-requires c κs =
@@ -103,10 +116,18 @@ reduce-portion-requires c κs =
     let m = marked e in
     let len = run-some (f .before .before .before .compile .result .traversal) (a .traversal) in
     let stop = c .portion-from .ensures .0 in
-    let forward = stop-forward _ (s .args .end) (s .args .mark .next) len (m .below) (s .args .n) (m .some-piece) in
-    let upto = stop-upto _ (s .args .end) (s .args .mark .next) len (m .below) (s .args .n) in
-    simp (toZ-ofZ (s .fits .base))
-    (a .traversal, a .bounded, omega (arith, stop, forward), omega (arith, stop, upto, a .inside), a .few, a .within, m .within)
+    let forward = stop-forward _ (s .args .end) (s .args .mark .next) len (below e) (s .args .n) (m .some-piece) in
+    let upto = stop-upto _ (s .args .end) (s .args .mark .next) len (below e) (s .args .n) in
+    simp (toZ-ofZ (s .fits .base)) (
+      a .traversal,
+      a .bounded,
+      omega (arith, stop, forward),
+      omega (arith, stop, upto, a .inside),
+      a .few,
+      a .within,
+      stands-within (s .args .sizes .now) (s .args .strides .now) (s .args .base) (s .args .start) (s .args .end) (s .args .values .now) (s .args .mark)
+          (s .args .n) m,
+    )
 
 tell-requires : tie.Need-tell-requires
 tell-requires c κs = search needs
@@ -129,20 +150,18 @@ returns-3 c =
     (simp (toZ-ofZ (s .fits .base)) at (r .reduce-portion .ensures))
     ∙ ap (portionOf first (s .args .mark .acc))
     (ap (piecesOf l (s .args .base) (s .args .values .now) at) stop
-    ∙ sym (portion-pieces l (a .traversal) (s .args .base) (a .bounded) (s .args .values .now) (s .args .end) (s .args .n) at (m .some-piece) (m .below))) in
+    ∙ sym (portion-pieces l (a .traversal) (s .args .base) (a .bounded) (s .args .values .now) (s .args .end) (s .args .n) at (m .some-piece) (below e))) in
     c .tell .ensures
     ∙ ap (told (s .args .end) (p .portion-from .result .stop) (p .portion-from .result .pieces)) worked
     ∙ ap (λ (k : ℕ). told (s .args .end) k (p .portion-from .result .pieces) (portionOf first (s .args .mark .acc) ps))
-    (stop ∙ sym (portion-stop l (a .traversal) (s .args .base) (a .bounded) (s .args .values .now) (s .args .end) (s .args .n) at (m .some-piece) (m .below)))
+    (stop ∙ sym (portion-stop l (a .traversal) (s .args .base) (a .bounded) (s .args .values .now) (s .args .end) (s .args .n) at (m .some-piece) (below e)))
     ∙ ap (λ (k : ℕ). told (s .args .end) (at + length (ratesOf ps)) k (portionOf first (s .args .mark .acc) ps))
     (p .portion-from .ensures .1
-    ∙ sym (portion-count l (a .traversal) (s .args .base) (a .bounded) (s .args .values .now) (s .args .end) (s .args .n) at (m .some-piece) (m .below)))
+    ∙ sym (portion-count l (a .traversal) (s .args .base) (a .bounded) (s .args .values .now) (s .args .end) (s .args .n) at (m .some-piece) (below e)))
     ∙ ap (λ (l : FullTraversal). let ps = piecesFrom l (s .args .base) (s .args .values .now) (s .args .end) (s .args .n) at in
     told (s .args .end) (at + length (ratesOf ps)) (length ps) (portionOf first (s .args .mark .acc) ps)) (a .is)
-    ∙ step-accepted (s .args .sizes .now) (s .args .strides .now) (s .args .base) (s .args .start) (s .args .end) (s .args .values .now) (s .args .mark)
-    (s .args .n)
-    (sym (code-faults (s .args .sizes .now) (s .args .strides .now) (s .args .base) (s .args .start) (s .args .end) (s .args .values .now) (s .args .mark)
-    (s .args .n) (a .code)) ∙ sym (fault-of f) ∙ e .if2 .left)
+    ∙ sym (step-tells (s .args .sizes .now) (s .args .strides .now) (s .args .base) (s .args .start) (s .args .end) (s .args .values .now) (s .args .mark)
+    (s .args .n) (code-none e) _ _ refl refl)
 
 pub reduce-step-spec : {M : Type 1} → statement M
 reduce-step-spec =

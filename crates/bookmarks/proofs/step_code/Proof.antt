@@ -1,10 +1,9 @@
 -- `bookmarks::step_code` meets its contract. Assumes nothing.
 use mathlib.Core.Path.{_≡_, sym, _∙_}
-use mathlib.Core.Bool.{true, false}
+use mathlib.Core.Bool.{true}
 use borrow.Author.Needs.{needs}
 use borrow.Author.Tests.{eq-eqb, ne-eqb, not-true, not-false}
 use Rattle.refusals.specs.Refusals.{firstOf}
-use Rattle.accumulator.specs.Joining.{inLimits}
 use Rattle.bookmarks.specs.Steps.{beginsPiece, stepRefusals}
 use Rattle.bookmarks.proofs.step_code.Statement.{statement}
 use Rattle.bookmarks.proofs.step_code.Tie as tie

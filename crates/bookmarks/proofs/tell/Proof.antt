@@ -1,7 +1,7 @@
 -- `bookmarks::tell` meets its contract. Assumes nothing.
 use native.Mathlib.Omega.{arith}
 use borrow.Author.Needs.{needs}
-use Rattle.bookmarks.proofs.Telling.{told-more, told-done, told-refused}
+use Rattle.bookmarks.proofs.Telling.{more-told, done-told, refused-told}
 use Rattle.bookmarks.proofs.tell.Statement.{statement}
 use Rattle.bookmarks.proofs.tell.Tie as tie
 
@@ -15,20 +15,20 @@ returns : tie.Need-returns
 returns c =
     let a = c .before .before in
     let s = a .before .before in
-    told-more (s .args .end) (s .args .p .stop) (s .args .p .pieces) (s .args .answer) (a .answer .given .0 .0) (a .answer .given .1) (c .if1 .taken)
+    more-told (s .args .end) (s .args .p .stop) (s .args .p .pieces) (s .args .answer) (a .answer .given .0 .0) (a .answer .given .1) (c .if1 .taken)
 
 returns-2 : tie.Need-returns-2
 returns-2 c =
     let a = c .before .before in
     let s = a .before .before in
-    told-done (s .args .end) (s .args .p .stop) (s .args .p .pieces) (s .args .answer) (a .answer .given .0 .0) (a .answer .given .1)
+    done-told (s .args .end) (s .args .p .stop) (s .args .p .pieces) (s .args .answer) (a .answer .given .0 .0) (a .answer .given .1)
     (omega (arith, c .if1 .left))
 
 returns-3 : tie.Need-returns-3
 returns-3 c =
     let a = c .before in
     let s = a .before .before in
-    told-refused (s .args .end) (s .args .p .stop) (s .args .p .pieces) (s .args .answer) (a .answer2 .given .0 .0) (a .answer2 .given .1)
+    refused-told (s .args .end) (s .args .p .stop) (s .args .p .pieces) (s .args .answer) (a .answer2 .given .0 .0) (a .answer2 .given .1)
 
 pub tell-spec : {M : Type 1} → statement M
 tell-spec = tie.close (tie.spec enum-known-answer enum-known-answer-2 returns returns-2 returns-3)

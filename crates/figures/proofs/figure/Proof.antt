@@ -1,19 +1,14 @@
 -- `figures::figure` meets its contract: a refusal of the range, the ordered product where the mark is set, or the finished number.
 -- Assumes nothing.
-use Prim.Native.Nat.{ℕ}
-use mathlib.Core.Path.{_≡_, sym, _∙_, ap, subst}
-use mathlib.Core.List.{List}
-use lib.ListN.{length, getD}
-use lib.Dec.{T}
-use lib.IntN.{pos}
-use lib.Ieee.{Float, nan, binary64, fits}
+use mathlib.Core.Path.{_≡_, sym, _∙_, ap}
+use lib.ListN.{length}
+use lib.Ieee.{fits}
 use mir.Facts.{toZ-ofZ}
 use borrow.Author.Needs.{needs}
 use Rattle.layout.specs.declared.traversal.FullTraversal.{FullTraversal}
 use Rattle.accumulator.specs.declared.StableProductFloatAcc.{StableProductFloatAcc}
 use Rattle.accumulator.specs.declared.Reduced.the-variants.{Acc}
 use Rattle.accumulator.specs.Joining.{answerOf}
-use Rattle.laws.specs.Lists.{Each}
 use Rattle.kernels.specs.Pieces.{joinedPieces}
 use Rattle.finishing.specs.Finishing.{value, refusal}
 use Rattle.layout.specs.declared.traversal.Compiled.{Compiled}

@@ -11,7 +11,6 @@ use lib.IntN.{pos}
 use mir.Val.{toZ, SFits}
 use mir.Facts.{toZ-ofZ}
 use mir.Syntax.{w64}
-use Rattle.offsets.specs.declared.pieces.RangeCursor.{RangeCursor}
 use Rattle.offsets.specs.InnerPieces.{rangeAt, OnRange}
 use Rattle.offsets.proofs.Stepping.{small-fits}
 use Rattle.offsets.proofs.Walking.{on-run}
