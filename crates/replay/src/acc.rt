@@ -1,5 +1,5 @@
 // Accumulators in a line: the bits of m, the exponent e, and the mark as 0 or 1. And the answers with an accumulator, a number, a bad rate or a refusal.
-ghost use Prim.Native.Nat.{_≤_};
+ghost use Prim.Native.Nat.{_+_, _≤_};
 ghost use lib.ListN.{length};
 use crate::float::ReadFloat;
 use accumulator::Reduced;
@@ -72,10 +72,18 @@ fn put_acc(a: StableProductFloatAcc, out: &mut [u8]) -> usize
     ensures { λ r. ⌜ r ≤ 131072 ⌝ }
 {
     let mut at = text::print::put(&mut *out, 0, b"acc");
-    at = text::print::put_bits(&mut *out, at, crate::float::bits_of(a.m));
-    at = text::print::put_i64(&mut *out, at, a.e);
-    at = text::print::put_u64(&mut *out, at, mark_of(a.bad));
+    at = put_fields(a, &mut *out, at);
     text::print::put(&mut *out, at, b"\n")
+}
+
+// The three words of an accumulator, each with a space before it.
+pub fn put_fields(a: StableProductFloatAcc, out: &mut [u8], from: usize) -> usize
+    requires { ⌜ from + 60 ≤ length (now out) ⌝ }
+    ensures { λ r. ⌜ r ≤ from + 60 ⌝ }
+{
+    let mut at = text::print::put_bits(&mut *out, from, crate::float::bits_of(a.m));
+    at = text::print::put_i64(&mut *out, at, a.e);
+    text::print::put_u64(&mut *out, at, mark_of(a.bad))
 }
 
 fn put_number(value: f64, out: &mut [u8]) -> usize
@@ -104,7 +112,7 @@ fn mark_of(bad: bool) -> u64 {
     0
 }
 
-fn put_refused(code: u32, out: &mut [u8]) -> usize
+pub fn put_refused(code: u32, out: &mut [u8]) -> usize
     requires { ⌜ 131072 ≤ length (now out) ⌝ }
     ensures { λ r. ⌜ r ≤ 131072 ⌝ }
 {

@@ -1,8 +1,8 @@
 // The answer to one line. The buffer holds 128 KiB, more than the longest answer.
 ghost use Prim.Native.Nat.{_+_, _≤_};
 ghost use lib.ListN.{length};
-use crate::product::RangeCall;
 use crate::product::ReadAnswer;
+use crate::product::ReadCall;
 use crate::range::Range;
 use crate::range::ReadRange;
 use layout::axis::PLACES;
@@ -49,6 +49,7 @@ fn put_answer(r: ReadAnswer, out: &mut [u8]) -> usize
         ReadAnswer::Reduced(answer) => crate::acc::put_reduced(answer, &mut *out),
         ReadAnswer::Finished(answer) => crate::acc::put_finished(answer, &mut *out),
         ReadAnswer::Search(answer) => crate::acc::put_search(answer, &mut *out),
+        ReadAnswer::Step(answer) => crate::step::put_step(answer, &mut *out),
         ReadAnswer::Malformed => malformed(&mut *out),
     }
 }
@@ -90,29 +91,17 @@ fn answer_layout(
     if check::same(call, b"list") {
         return answer_list(sizes, strides, line, at, &mut *out);
     }
-    if check::same(call, b"reduce") {
-        return answer_range(RangeCall::Reduce, sizes, strides, line, at, &mut *out);
-    }
-    if check::same(call, b"product") {
-        return answer_range(RangeCall::Product, sizes, strides, line, at, &mut *out);
-    }
-    if check::same(call, b"ordered") {
-        return answer_range(RangeCall::Ordered, sizes, strides, line, at, &mut *out);
-    }
-    if check::same(call, b"figure") {
-        return answer_range(RangeCall::Figure, sizes, strides, line, at, &mut *out);
-    }
-    if check::same(call, b"first") {
-        return answer_range(RangeCall::First, sizes, strides, line, at, &mut *out);
+    if check::same(call, b"step") {
+        return put_answer(crate::step::read_step(sizes, strides, line, at), &mut *out);
     }
     if check::same(call, b"write") {
         return crate::job::answer_write(sizes, strides, line, at, &mut *out);
     }
-    malformed(&mut *out)
+    answer_range(call, sizes, strides, line, at, &mut *out)
 }
 
 fn answer_range(
-    call: RangeCall,
+    word: &[u8],
     sizes: &[u64],
     strides: &[i64],
     line: &[u8],
@@ -122,6 +111,9 @@ fn answer_range(
     requires { ⌜ 131072 ≤ length (now out) ⌝ }
     ensures { λ r. ⌜ r ≤ 131072 ⌝ }
 {
+    let ReadCall::Is(call) = crate::product::range_call(word) else {
+        return malformed(&mut *out);
+    };
     put_answer(
         crate::product::read_over_range(call, sizes, strides, line, at),
         &mut *out,

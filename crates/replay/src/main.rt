@@ -6,6 +6,7 @@ mod input;
 mod job;
 mod product;
 mod range;
+mod step;
 
 fn main() {
     let mut space = [0u8; 131073];

@@ -1,14 +1,13 @@
 // The calls whose answer is an accumulator, a number, a bad rate or a refusal, each read from the rest of its line.
 use crate::acc::ReadAcc;
+use crate::float::VALUES;
 use crate::range::Range;
 use crate::range::ReadRange;
 use accumulator::Reduced;
+use bookmarks::Step;
 use finishing::Finished;
 use search::Search;
 use text::word::ReadU64;
-
-// How many values a line may have.
-const VALUES: usize = 4096;
 
 const U32_MAX: u64 = 0xffff_ffff;
 
@@ -21,11 +20,17 @@ pub enum RangeCall {
     First,
 }
 
+pub enum ReadCall {
+    Is(RangeCall),
+    Malformed,
+}
+
 // The answer, unless the line was malformed.
 pub enum ReadAnswer {
     Reduced(Reduced),
     Finished(Finished),
     Search(Search),
+    Step(Step),
     Malformed,
 }
 
@@ -47,6 +52,25 @@ pub fn read_join(line: &[u8], at: usize) -> ReadAnswer {
         return ReadAnswer::Malformed;
     }
     ReadAnswer::Reduced(accumulator::join(a, b))
+}
+
+pub fn range_call(word: &[u8]) -> ReadCall {
+    if check::same(word, b"reduce") {
+        return ReadCall::Is(RangeCall::Reduce);
+    }
+    if check::same(word, b"product") {
+        return ReadCall::Is(RangeCall::Product);
+    }
+    if check::same(word, b"ordered") {
+        return ReadCall::Is(RangeCall::Ordered);
+    }
+    if check::same(word, b"figure") {
+        return ReadCall::Is(RangeCall::Figure);
+    }
+    if check::same(word, b"first") {
+        return ReadCall::Is(RangeCall::First);
+    }
+    ReadCall::Malformed
 }
 
 // A range and its values, read once for every call.
