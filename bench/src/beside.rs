@@ -60,7 +60,7 @@ impl Table {
 }
 
 /// A number with a comma between thousands.
-fn grouped(number: u64) -> String {
+pub fn grouped(number: u64) -> String {
     match number {
         0..=999 => number.to_string(),
         _ => format!("{},{:03}", grouped(number / 1000), number % 1000),

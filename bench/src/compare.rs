@@ -1,7 +1,7 @@
 //! Random calls to the engine and to the Rust, whose answers must be the same to the bit: the number of the
 //! refusal, the accumulator, and every place of a buffer. The offsets of each range are listed and compared too, and
 //! its ordered product, its figure and its first bad rate; then these for calls that are drawn for them. Jobs are read
-//! and written. Now and then comes a long piece.
+//! and written. Steps of a few pieces are asked, by themselves and in callers' loops. Now and then comes a long piece.
 
 use crate::erased::calls::{self, Layout};
 use crate::generate::reduce::Call;
@@ -13,6 +13,7 @@ use crate::probe::{self, Bits, Place};
 use crate::rules;
 use crate::searches;
 use crate::sent_answers;
+use crate::step_answers;
 use std::collections::BTreeMap;
 
 /// What an answer's place holds before a call.
@@ -55,6 +56,7 @@ struct Seen {
     numbers: Counts,
     searches: searches::Counts,
     jobs: sent_answers::Counts,
+    steps: step_answers::Counts,
 }
 
 /// Whether all answers were the same.
@@ -81,6 +83,9 @@ pub fn run(count: u64, seed: u64) -> bool {
     println!("{count} jobs that are read, and {count} that are written, beside the oracle's own reader and writer:");
     println!("all answers are the same");
     seen.jobs.print();
+    println!("{count} steps of a few pieces from a bookmark, and callers' loops of such steps from the start of a range:");
+    println!("all answers are the same, and those of the loops are the unbroken reduction's");
+    seen.steps.print();
     true
 }
 
@@ -91,6 +96,7 @@ impl Seen {
         self.numbers_alone(dice)?;
         self.search_alone(dice)?;
         self.jobs.ask(dice)?;
+        self.steps.ask(dice)?;
         if long {
             long_piece(dice)?;
         }

@@ -6,7 +6,7 @@
 //! checks.
 
 use crate::erased::calls::{Acc, Answer, Plan};
-use crate::probe::{self, BadPlace, Bits, Numbered, Reduced};
+use crate::probe::{self, BadPlace, Bits, Numbered, Reduced, StepPlace};
 use crate::searches;
 use crate::rules;
 use std::hint::black_box;
@@ -17,6 +17,7 @@ pub struct Job {
     dims: Vec<usize>,
     steps: Vec<isize>,
     count: u64,
+    run_len: u64,
     bases: Vec<i64>,
     pub values: Vec<f64>,
 }
@@ -32,13 +33,14 @@ impl Job {
     pub fn new(axes: &[(u64, i64)], count: u64, bases: Vec<i64>, values: Vec<f64>) -> Job {
         let sizes: Vec<u64> = axes.iter().map(|axis| axis.0).collect();
         let strides: Vec<i64> = axes.iter().map(|axis| axis.1).collect();
+        let mut run_len = 0;
         for &base in &bases {
             let range = rules::Range { base, start: 0, end: count, length: values.len() as u64 };
-            assert!(rules::range(&sizes, &strides, &range).is_ok(), "a timed call is accepted");
+            run_len = rules::range(&sizes, &strides, &range).expect("a timed call is accepted").run_len;
         }
         let dims = sizes.iter().map(|&size| size as usize).collect();
         let steps = strides.iter().map(|&stride| stride as isize).collect();
-        Job { sizes, strides, dims, steps, count, bases, values }
+        Job { sizes, strides, dims, steps, count, run_len, bases, values }
     }
 
     pub fn count(&self) -> u64 {
@@ -86,6 +88,27 @@ impl Job {
         self.plan().figure(base, 0..black_box(self.count) as usize, black_box(&self.values))
     }
 
+    /// The whole range by calls of at most `n` pieces: each compiles the layout, and joins its pieces one by one.
+    #[inline(never)]
+    pub fn rust_by_steps(&self, turn: usize, n: u64) -> Answer {
+        let base = black_box(self.bases[turn]) as isize;
+        let (end, run_len, n) = (black_box(self.count), black_box(self.run_len), black_box(n));
+        let mut acc: Option<Answer> = None;
+        let mut next = 0;
+        while next < end {
+            let plan = self.plan();
+            let mut pieces = 0;
+            while next < end && pieces < n {
+                let past = ((next / run_len + 1) * run_len).min(end);
+                let piece = plan.product(base, next as usize..past as usize, black_box(&self.values));
+                acc = Some(acc.map_or(piece, |left| left.then(piece)));
+                next = past;
+                pieces += 1;
+            }
+        }
+        acc.expect("a timed call has a piece")
+    }
+
     #[inline]
     fn range(&self, turn: usize) -> probe::Range<'_> {
         probe::Range {
@@ -117,6 +140,18 @@ impl Job {
         let mut place = searches::BEFORE;
         let code = probe::first_into(&self.range(turn), black_box(&self.values), &mut place);
         (code, place)
+    }
+
+    /// A call of at most `n` pieces.
+    #[inline(never)]
+    pub fn step(&self, turn: usize, n: u64, place: &mut StepPlace) -> u32 {
+        probe::step_into(&self.range(turn), black_box(&self.values), black_box(n), place)
+    }
+
+    /// The whole range by such calls, each from the bookmark of the one before.
+    #[inline(never)]
+    pub fn by_steps(&self, turn: usize, n: u64) -> Reduced {
+        probe::by_steps(&self.range(turn), black_box(&self.values), black_box(n)).0
     }
 
     /// The first base at which the two answers differ, with them.

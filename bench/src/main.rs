@@ -2,7 +2,7 @@
 //!
 //! `bench table` prints a row for each kind of call, `bench rare` a row for those seldom met, `bench figures` the calls
 //! that hand out a number, `bench search` the search for the first bad rate, `bench jobs` reading and writing jobs,
-//! `bench growth` the time against the number of values, `bench check` the cases that take longer than the Rust, or than
+//! `bench steps` the reduction a few pieces at a time, `bench growth` the time against the number of values, `bench check` the cases that take longer than the Rust, or than
 //! aimed at, `bench compare COUNT SEED` the answers to random calls, by kind. Each ends with 1 if two answers differ, and
 //! `bench check` if a case takes longer.
 //!
@@ -40,6 +40,8 @@ mod search;
 mod searches;
 mod sent;
 mod sent_answers;
+mod step_answers;
+mod stepping;
 mod table;
 mod timing;
 
@@ -49,7 +51,7 @@ pub use oracle::error::{Result, StridedError};
 use oracle::{erased, generate, inline, jobs, rules, simd, steps};
 
 fn usage() -> ! {
-    eprintln!("usage: bench table | rare | figures | search | jobs | growth | check, or bench compare COUNT SEED");
+    eprintln!("usage: bench table | rare | figures | search | jobs | steps | growth | check, or bench compare COUNT SEED");
     std::process::exit(2);
 }
 
@@ -62,6 +64,7 @@ fn main() {
         ["figures"] => beside::print(&figures::TABLES),
         ["search"] => beside::print(&search::TABLES),
         ["jobs"] => sent::print(),
+        ["steps"] => stepping::print(),
         ["growth"] => growth::print(),
         ["check"] => check::print(),
         ["compare", count, seed] => match (count.parse(), seed.parse()) {

@@ -76,6 +76,25 @@ extern "C" {
         offset: *mut i64,
     ) -> u32;
 
+    fn probe_step(
+        sizes: *const u64,
+        sizes_len: usize,
+        strides: *const i64,
+        strides_len: usize,
+        base: i64,
+        start: u64,
+        end: u64,
+        values: *const f64,
+        values_len: usize,
+        n: u64,
+        next: *mut u64,
+        m: *mut f64,
+        e: *mut i64,
+        bad: *mut u8,
+        pieces: *mut u64,
+        done: *mut u8,
+    ) -> u32;
+
     fn probe_read(
         bytes: *const u8,
         bytes_len: usize,
@@ -127,6 +146,23 @@ pub struct BadPlace {
     pub found: u8,
     pub element: u64,
     pub offset: i64,
+}
+
+/// A bookmark, how many pieces were worked, and whether the range is done; or places for these. Whether it is done is
+/// read as the byte it is, which must be 0 or 1.
+#[derive(Clone, Copy)]
+pub struct StepPlace {
+    pub next: u64,
+    pub acc: Place,
+    pub pieces: u64,
+    pub done: u8,
+}
+
+impl StepPlace {
+    /// A loop of calls begins here. The accumulator is ignored, and none that a call gives.
+    pub fn at(start: u64) -> StepPlace {
+        StepPlace { next: start, acc: Place { m: f64::NAN, e: i64::MIN, bad: 1 }, pieces: 0, done: 0 }
+    }
 }
 
 /// A job that was read, or places for one.
@@ -250,6 +286,32 @@ pub fn first_into(range: &Range, values: &[f64], place: &mut BadPlace) -> u32 {
     unsafe {
         over_range!(probe_first, range, values.as_ptr(), values.len(), &mut place.found, &mut place.element, &mut place.offset)
     }
+}
+
+/// 0, with the bookmark behind at most `n` pieces in `place` (the next element number stays where the range is done), how
+/// many they were, and whether it is done; or the refusal 1 to 7, 14, 15, 9 or 10, with `place` as it was.
+#[inline]
+pub fn step_into(range: &Range, values: &[f64], n: u64, place: &mut StepPlace) -> u32 {
+    let StepPlace { next, acc, pieces, done } = place;
+    // SAFETY: each pointer goes with the length of its own slice, and only the fields of `place` are written.
+    unsafe {
+        over_range!(probe_step, range, values.as_ptr(), values.len(), n, next, &mut acc.m, &mut acc.e, &mut acc.bad, pieces, done)
+    }
+}
+
+/// A caller's loop over a range, by calls of at most `n` pieces: the accumulator or a refusal, and after how many calls.
+#[inline]
+pub fn by_steps(range: &Range, values: &[f64], n: u64) -> (Reduced, u64) {
+    let mut place = StepPlace::at(range.start);
+    let mut calls = 0;
+    while place.done == 0 {
+        calls += 1;
+        match step_into(range, values, n, &mut place) {
+            0 => (),
+            code => return (Err(code), calls),
+        }
+    }
+    (Ok(place.acc.bits()), calls)
 }
 
 /// 0, with the job in `place`; or the refusal 2, 11 or 12, with `place` as it was.

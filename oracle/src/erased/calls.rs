@@ -92,6 +92,11 @@ impl Plan {
 }
 
 impl Answer {
+    /// Joined with what comes behind it. The exponents are small enough.
+    pub fn then(self, right: Answer) -> Answer {
+        Answer(f64::sp_combine(self.0, right.0))
+    }
+
     pub fn read(self) -> Acc {
         read(self.0)
     }

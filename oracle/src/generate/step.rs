@@ -63,7 +63,7 @@ fn answer(call: &Call, from: &Bookmark, count: u64) -> Result<StepResult, u32> {
     steps::step(&call.axes.sizes, &call.axes.strides, &call.range, &call.floats(), from, count)
 }
 
-fn text(call: &Call, from: &Bookmark, count: u64) -> String {
+pub fn text(call: &Call, from: &Bookmark, count: u64) -> String {
     let Bookmark { next, acc } = from;
     format!("{} {next} {:016x} {} {} {count}", call.text(), acc.m.to_bits(), acc.e, u8::from(acc.bad))
 }
