@@ -327,6 +327,7 @@ steps() {
         die 'steps: a bookmark at the start is not shown'
     has "$work/out" '1.5 .. and 1 more; from element 2 with 1.5 × 2^-3, bad, at most 9 of the pieces' ||
         die 'steps: a bookmark is not shown'
+    check 'an example of steps' 0 '    finished: 1.2578482756360152 × 2^-1382; pieces worked: 200' '' run_sh 'examples/step.cases'
 }
 
 # Each refusal has a name and a condition, in the file that is their home.
