@@ -8,12 +8,13 @@ use crate::generate::reduce::Call;
 use crate::generate::{first, ordered, Dice};
 use crate::job;
 use crate::long;
-use crate::numbers::Counts;
+use crate::numbers;
 use crate::probe::{self, Bits, Place};
 use crate::rules;
 use crate::searches;
 use crate::sent_answers;
 use crate::step_answers;
+use crate::tally::Tally;
 use std::collections::BTreeMap;
 
 /// What an answer's place holds before a call.
@@ -53,10 +54,10 @@ type Listed = (u32, Vec<i64>);
 #[derive(Default)]
 struct Seen {
     kinds: BTreeMap<Kind, u64>,
-    numbers: Counts,
-    searches: searches::Counts,
-    jobs: sent_answers::Counts,
-    steps: step_answers::Counts,
+    numbers: Tally,
+    searches: Tally,
+    jobs: Tally,
+    steps: Tally,
 }
 
 /// Whether all answers were the same.
@@ -95,8 +96,8 @@ impl Seen {
         self.reduction(dice)?;
         self.numbers_alone(dice)?;
         self.search_alone(dice)?;
-        self.jobs.ask(dice)?;
-        self.steps.ask(dice)?;
+        sent_answers::ask(&mut self.jobs, dice)?;
+        step_answers::ask(&mut self.steps, dice)?;
         if long {
             long_piece(dice)?;
         }
@@ -118,21 +119,21 @@ impl Seen {
             return Err(format!("the list of {}\nthe Rust gives {expected:?}, the engine {found:?}", call.text()));
         }
         *self.kinds.entry(kind).or_default() += 1;
-        self.searches.ask(&call, &values)?;
-        self.numbers.ask(&call, &values)
+        searches::ask(&mut self.searches, &call, &values)?;
+        numbers::ask(&mut self.numbers, &call, &values)
     }
 
     /// A call whose values lead the ordered product to its limits. Its NaNs have any pattern, of which the engine's
     /// accumulator keeps nothing, so that is not compared.
     fn numbers_alone(&mut self, dice: &mut Dice) -> Result<(), String> {
         let call = ordered::drawn(dice);
-        self.numbers.ask(&call, &call.floats())
+        numbers::ask(&mut self.numbers, &call, &call.floats())
     }
 
     /// A call whose values lie on both sides of what many at a time are tested by.
     fn search_alone(&mut self, dice: &mut Dice) -> Result<(), String> {
         let call = first::drawn(dice);
-        self.searches.ask(&call, &call.floats())
+        searches::ask(&mut self.searches, &call, &call.floats())
     }
 }
 

@@ -2,9 +2,9 @@
 //!
 //! `bench table` prints a row for each kind of call, `bench rare` a row for those seldom met, `bench figures` the calls
 //! that hand out a number, `bench search` the search for the first bad rate, `bench jobs` reading and writing jobs,
-//! `bench steps` the reduction a few pieces at a time, `bench growth` the time against the number of values, `bench check` the cases that take longer than the Rust, or than
-//! aimed at, `bench compare COUNT SEED` the answers to random calls, by kind. Each ends with 1 if two answers differ, and
-//! `bench check` if a case takes longer.
+//! `bench steps` the reduction a few pieces at a time, `bench growth` the time against the number of values, `bench check`
+//! the cases that take longer than the Rust, or than aimed at, `bench compare COUNT SEED` the answers to random calls, by
+//! kind. Each ends with 1 if two answers differ, and `bench check` if a case takes longer.
 //!
 //! The Rust is the oracle's, included by its path, so that nothing is copied and both see the same source.
 
@@ -43,6 +43,7 @@ mod sent_answers;
 mod step_answers;
 mod stepping;
 mod table;
+mod tally;
 mod timing;
 
 // The oracle's files name each other from the root of the crate.

@@ -2,8 +2,8 @@
 //! number must be the same to the bit, each NaN the one NaN, and a refused call leaves its place as it was.
 
 use crate::generate::reduce::Call;
+use crate::tally::Tally;
 use crate::{probe, rules};
-use std::collections::BTreeMap;
 use std::num::FpCategory;
 
 /// What an answer's place holds before a call, as bits.
@@ -21,38 +21,26 @@ const PAIRS: [Pair; 2] = [
     Pair { name: "figure", rust: rules::figure, engine: probe::figure_into },
 ];
 
-/// How often each kind of answer was given.
-#[derive(Default)]
-pub struct Counts(BTreeMap<String, u64>);
-
-impl Counts {
-    /// Both calls. What differs is the error.
-    pub fn ask(&mut self, call: &Call, values: &[f64]) -> Result<(), String> {
-        let bad = rules::reduce(&call.axes.sizes, &call.axes.strides, &call.range, values).is_ok_and(|acc| acc.bad);
-        for pair in &PAIRS {
-            let answer = (pair.rust)(&call.axes.sizes, &call.axes.strides, &call.range, values);
-            let expected = match answer {
-                Ok(number) => (0, number.to_bits()),
-                Err(code) => (code, BEFORE),
-            };
-            let mut place = f64::from_bits(BEFORE);
-            let code = (pair.engine)(&probe::Range::of(call), values, &mut place);
-            let found = (code, place.to_bits());
-            if found != expected {
-                let (name, text) = (pair.name, call.text());
-                return Err(format!("the {name} of {text}\nthe Rust gives {expected:x?}, the engine {found:x?}"));
-            }
-            let mark = if bad { ", bad" } else { "" };
-            *self.0.entry(format!("{}, {}{mark}", pair.name, kind(answer))).or_default() += 1;
+/// Both calls. What differs is the error.
+pub fn ask(tally: &mut Tally, call: &Call, values: &[f64]) -> Result<(), String> {
+    let bad = rules::reduce(&call.axes.sizes, &call.axes.strides, &call.range, values).is_ok_and(|acc| acc.bad);
+    for pair in &PAIRS {
+        let answer = (pair.rust)(&call.axes.sizes, &call.axes.strides, &call.range, values);
+        let expected = match answer {
+            Ok(number) => (0, number.to_bits()),
+            Err(code) => (code, BEFORE),
+        };
+        let mut place = f64::from_bits(BEFORE);
+        let code = (pair.engine)(&probe::Range::of(call), values, &mut place);
+        let found = (code, place.to_bits());
+        if found != expected {
+            let (name, text) = (pair.name, call.text());
+            return Err(format!("the {name} of {text}\nthe Rust gives {expected:x?}, the engine {found:x?}"));
         }
-        Ok(())
+        let mark = if bad { ", bad" } else { "" };
+        tally.count(format!("{}, {}{mark}", pair.name, kind(answer)));
     }
-
-    pub fn print(&self) {
-        for (kind, count) in &self.0 {
-            println!("{count:>9} {kind}");
-        }
-    }
+    Ok(())
 }
 
 fn kind(answer: Result<f64, u32>) -> String {

@@ -4,7 +4,7 @@
 use crate::generate::reduce::Call;
 use crate::probe::{self, BadPlace};
 use crate::rules;
-use std::collections::BTreeMap;
+use crate::tally::Tally;
 
 /// What the places hold before a call.
 pub const BEFORE: BadPlace = BadPlace { found: 1, element: u64::MAX, offset: i64::MIN };
@@ -18,33 +18,21 @@ pub fn expected(sizes: &[u64], strides: &[i64], range: &rules::Range, values: &[
     }
 }
 
-/// How often each kind of answer was given.
-#[derive(Default)]
-pub struct Counts(BTreeMap<String, u64>);
-
-impl Counts {
-    /// What differs is the error.
-    pub fn ask(&mut self, call: &Call, values: &[f64]) -> Result<(), String> {
-        let expected = expected(&call.axes.sizes, &call.axes.strides, &call.range, values);
-        let mut place = BEFORE;
-        let code = probe::first_into(&probe::Range::of(call), values, &mut place);
-        let found = (code, place);
-        if found != expected {
-            let text = call.text();
-            return Err(format!("the first bad rate of {text}\nthe Rust gives {expected:?}, the engine {found:?}"));
-        }
-        let kind = match found {
-            (0, BadPlace { found: 0, .. }) => String::from("no bad rate"),
-            (0, _) => String::from("a bad rate"),
-            (code, _) => format!("refused {code}"),
-        };
-        *self.0.entry(kind).or_default() += 1;
-        Ok(())
+/// What differs is the error.
+pub fn ask(tally: &mut Tally, call: &Call, values: &[f64]) -> Result<(), String> {
+    let expected = expected(&call.axes.sizes, &call.axes.strides, &call.range, values);
+    let mut place = BEFORE;
+    let code = probe::first_into(&probe::Range::of(call), values, &mut place);
+    let found = (code, place);
+    if found != expected {
+        let text = call.text();
+        return Err(format!("the first bad rate of {text}\nthe Rust gives {expected:?}, the engine {found:?}"));
     }
-
-    pub fn print(&self) {
-        for (kind, count) in &self.0 {
-            println!("{count:>9} {kind}");
-        }
-    }
+    let kind = match found {
+        (0, BadPlace { found: 0, .. }) => String::from("no bad rate"),
+        (0, _) => String::from("a bad rate"),
+        (code, _) => format!("refused {code}"),
+    };
+    tally.count(kind);
+    Ok(())
 }

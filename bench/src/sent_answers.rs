@@ -5,7 +5,7 @@ use crate::generate::{jobs as drawn, Dice};
 use crate::jobs::{self, Job};
 use crate::plain;
 use crate::probe::{self, JobPlace, Range, PLACES};
-use std::collections::BTreeMap;
+use crate::tally::Tally;
 
 /// What the places hold before a call.
 pub const BEFORE: JobPlace =
@@ -77,38 +77,22 @@ pub fn same_written(job: &Job, buffer: Vec<u8>) -> Result<Written, String> {
     same(expected, engine_write(job, buffer), rust).map_err(|difference| format!("writing {job:?}\n{difference}"))
 }
 
-/// How often each kind of answer was given.
-#[derive(Default)]
-pub struct Counts(BTreeMap<String, u64>);
-
-impl Counts {
-    /// A job that is read, and one that is written. What differs is the error.
-    pub fn ask(&mut self, dice: &mut Dice) -> Result<(), String> {
-        let bytes = drawn::to_read(dice);
-        self.count(match same_read(&bytes)? {
-            (0, place) if bytes == fewest(&place) => String::from("read, in the fewest words"),
-            (0, _) => String::from("read, with needless words"),
-            (code, _) => format!("reading refused {code}"),
-        });
-        let (job, buffer) = drawn::to_write(dice);
-        let room = buffer.len();
-        self.count(match same_written(&job, buffer)? {
-            (0, count, _) if count == room => String::from("written, the buffer is full"),
-            (0, _, _) => String::from("written, with room left"),
-            (code, _, _) => format!("writing refused {code}"),
-        });
-        Ok(())
-    }
-
-    fn count(&mut self, kind: String) {
-        *self.0.entry(kind).or_default() += 1;
-    }
-
-    pub fn print(&self) {
-        for (kind, count) in &self.0 {
-            println!("{count:>9} {kind}");
-        }
-    }
+/// A job that is read, and one that is written. What differs is the error.
+pub fn ask(tally: &mut Tally, dice: &mut Dice) -> Result<(), String> {
+    let bytes = drawn::to_read(dice);
+    tally.count(match same_read(&bytes)? {
+        (0, place) if bytes == fewest(&place) => String::from("read, in the fewest words"),
+        (0, _) => String::from("read, with needless words"),
+        (code, _) => format!("reading refused {code}"),
+    });
+    let (job, buffer) = drawn::to_write(dice);
+    let room = buffer.len();
+    tally.count(match same_written(&job, buffer)? {
+        (0, count, _) if count == room => String::from("written, the buffer is full"),
+        (0, _, _) => String::from("written, with room left"),
+        (code, _, _) => format!("writing refused {code}"),
+    });
+    Ok(())
 }
 
 /// The bytes of a job as it is written.

@@ -9,7 +9,7 @@ use crate::job;
 use crate::probe::{self, Bits, Place, StepPlace};
 use crate::rules;
 use crate::steps::{self, Bookmark, StepResult};
-use std::collections::BTreeMap;
+use crate::tally::Tally;
 
 /// What the places of a call hold before it, beside the bookmark: no call gives such a count.
 const PIECES_BEFORE: u64 = u64::MAX;
@@ -47,54 +47,38 @@ fn engine(call: &Call, values: &[f64], from: &Bookmark, n: u64) -> Answer {
     answer(code, place)
 }
 
-/// How often each kind of answer was given.
-#[derive(Default)]
-pub struct Counts(BTreeMap<String, u64>);
-
-impl Counts {
-    /// A call from a bookmark, and a loop of calls over its range. What differs is the error.
-    pub fn ask(&mut self, dice: &mut Dice) -> Result<(), String> {
-        let (call, from, n) = drawn::drawn(dice);
-        let values = call.floats();
-        let (expected, found) = (expected(&call, &values, &from, n), engine(&call, &values, &from, n));
-        if found != expected {
-            let text = drawn::text(&call, &from, n);
-            return Err(format!("{text}\nthe oracle gives {expected:x?}, the engine {found:x?}"));
-        }
-        self.count(match found {
-            (0, .., 1) => String::from("a step to the end of its range"),
-            (0, ..) => String::from("a step to a further bookmark"),
-            (code, ..) => format!("refused {code}"),
-        });
-        self.whole_loop(&call, &values, n)
+/// A call from a bookmark, and a loop of calls over its range. What differs is the error.
+pub fn ask(tally: &mut Tally, dice: &mut Dice) -> Result<(), String> {
+    let (call, from, n) = drawn::drawn(dice);
+    let values = call.floats();
+    let (expected, found) = (expected(&call, &values, &from, n), engine(&call, &values, &from, n));
+    if found != expected {
+        let text = drawn::text(&call, &from, n);
+        return Err(format!("{text}\nthe oracle gives {expected:x?}, the engine {found:x?}"));
     }
+    tally.count(match found {
+        (0, .., 1) => String::from("a step to the end of its range"),
+        (0, ..) => String::from("a step to a further bookmark"),
+        (code, ..) => format!("refused {code}"),
+    });
+    whole_loop(tally, &call, &values, n)
+}
 
-    /// If the range is accepted, and short.
-    fn whole_loop(&mut self, call: &Call, values: &[f64], n: u64) -> Result<(), String> {
-        let range = &call.range;
-        let Ok(layout) = rules::range(&call.axes.sizes, &call.axes.strides, range) else { return Ok(()) };
-        if n == 0 || range.end - range.start > MOST_ELEMENTS {
-            return Ok(());
-        }
-        let pieces = (range.end - 1) / layout.run_len - range.start / layout.run_len + 1;
-        let product = calls::product(&layout, range.base, (range.start, range.end), values);
-        let expected = (Ok(job::bits(product)), pieces.div_ceil(n));
-        let found = probe::by_steps(&probe::Range::of(call), values, n);
-        if found != expected {
-            let text = call.text();
-            return Err(format!("by {n} pieces: {text}\nthe oracle gives {expected:x?}, the engine {found:x?}"));
-        }
-        self.count(String::from(if product.bad { "a loop over a bad range" } else { "a loop over a range" }));
-        Ok(())
+/// If the range is accepted, and short.
+fn whole_loop(tally: &mut Tally, call: &Call, values: &[f64], n: u64) -> Result<(), String> {
+    let range = &call.range;
+    let Ok(layout) = rules::range(&call.axes.sizes, &call.axes.strides, range) else { return Ok(()) };
+    if n == 0 || range.end - range.start > MOST_ELEMENTS {
+        return Ok(());
     }
-
-    fn count(&mut self, kind: String) {
-        *self.0.entry(kind).or_default() += 1;
+    let pieces = (range.end - 1) / layout.run_len - range.start / layout.run_len + 1;
+    let product = calls::product(&layout, range.base, (range.start, range.end), values);
+    let expected = (Ok(job::bits(product)), pieces.div_ceil(n));
+    let found = probe::by_steps(&probe::Range::of(call), values, n);
+    if found != expected {
+        let text = call.text();
+        return Err(format!("by {n} pieces: {text}\nthe oracle gives {expected:x?}, the engine {found:x?}"));
     }
-
-    pub fn print(&self) {
-        for (kind, count) in &self.0 {
-            println!("{count:>9} {kind}");
-        }
-    }
+    tally.count(if product.bad { "a loop over a bad range" } else { "a loop over a range" });
+    Ok(())
 }
