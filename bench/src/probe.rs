@@ -6,95 +6,43 @@ use crate::generate::reduce::Call;
 /// A job has at most so many axes.
 pub const PLACES: usize = 16;
 
+/// A C function over a layout and a range, as all but one begin, with its own words behind them.
+macro_rules! declared {
+    ($name:ident($($word:ident: $type:ty),+)) => {
+        extern "C" {
+            fn $name(
+                sizes: *const u64,
+                sizes_len: usize,
+                strides: *const i64,
+                strides_len: usize,
+                base: i64,
+                start: u64,
+                end: u64,
+                $($word: $type),+
+            ) -> u32;
+        }
+    };
+}
+
+declared!(probe_reduce(values: *const f64, values_len: usize, m: *mut f64, e: *mut i64, bad: *mut u8));
+declared!(probe_list(length: u64, out: *mut i64, out_len: usize));
+declared!(probe_ordered(values: *const f64, values_len: usize, number: *mut f64));
+declared!(probe_figure(values: *const f64, values_len: usize, number: *mut f64));
+declared!(probe_first(values: *const f64, values_len: usize, found: *mut u8, element: *mut u64, offset: *mut i64));
+declared!(probe_step(
+    values: *const f64,
+    values_len: usize,
+    n: u64,
+    next: *mut u64,
+    m: *mut f64,
+    e: *mut i64,
+    bad: *mut u8,
+    pieces: *mut u64,
+    done: *mut u8
+));
+declared!(probe_write(out: *mut u8, out_len: usize, count: *mut usize));
+
 extern "C" {
-    fn probe_reduce(
-        sizes: *const u64,
-        sizes_len: usize,
-        strides: *const i64,
-        strides_len: usize,
-        base: i64,
-        start: u64,
-        end: u64,
-        values: *const f64,
-        values_len: usize,
-        m: *mut f64,
-        e: *mut i64,
-        bad: *mut u8,
-    ) -> u32;
-
-    fn probe_list(
-        sizes: *const u64,
-        sizes_len: usize,
-        strides: *const i64,
-        strides_len: usize,
-        base: i64,
-        start: u64,
-        end: u64,
-        length: u64,
-        out: *mut i64,
-        out_len: usize,
-    ) -> u32;
-
-    fn probe_ordered(
-        sizes: *const u64,
-        sizes_len: usize,
-        strides: *const i64,
-        strides_len: usize,
-        base: i64,
-        start: u64,
-        end: u64,
-        values: *const f64,
-        values_len: usize,
-        number: *mut f64,
-    ) -> u32;
-
-    fn probe_figure(
-        sizes: *const u64,
-        sizes_len: usize,
-        strides: *const i64,
-        strides_len: usize,
-        base: i64,
-        start: u64,
-        end: u64,
-        values: *const f64,
-        values_len: usize,
-        number: *mut f64,
-    ) -> u32;
-
-    fn probe_first(
-        sizes: *const u64,
-        sizes_len: usize,
-        strides: *const i64,
-        strides_len: usize,
-        base: i64,
-        start: u64,
-        end: u64,
-        values: *const f64,
-        values_len: usize,
-        found: *mut u8,
-        element: *mut u64,
-        offset: *mut i64,
-    ) -> u32;
-
-    fn probe_step(
-        sizes: *const u64,
-        sizes_len: usize,
-        strides: *const i64,
-        strides_len: usize,
-        base: i64,
-        start: u64,
-        end: u64,
-        values: *const f64,
-        values_len: usize,
-        n: u64,
-        next: *mut u64,
-        m: *mut f64,
-        e: *mut i64,
-        bad: *mut u8,
-        pieces: *mut u64,
-        done: *mut u8,
-    ) -> u32;
-
     fn probe_read(
         bytes: *const u8,
         bytes_len: usize,
@@ -104,19 +52,6 @@ extern "C" {
         base: *mut i64,
         start: *mut u64,
         end: *mut u64,
-    ) -> u32;
-
-    fn probe_write(
-        sizes: *const u64,
-        sizes_len: usize,
-        strides: *const i64,
-        strides_len: usize,
-        base: i64,
-        start: u64,
-        end: u64,
-        out: *mut u8,
-        out_len: usize,
-        count: *mut usize,
     ) -> u32;
 }
 
