@@ -2,7 +2,6 @@
 ghost use Prim.Native.Nat.{_+_, _≤_};
 ghost use lib.ListN.{length};
 use crate::product::ReadAnswer;
-use crate::product::ReadCall;
 use crate::range::Range;
 use crate::range::ReadRange;
 use layout::axis::PLACES;
@@ -91,9 +90,6 @@ fn answer_layout(
     if check::same(call, b"list") {
         return answer_list(sizes, strides, line, at, &mut *out);
     }
-    if check::same(call, b"step") {
-        return put_answer(crate::step::read_step(sizes, strides, line, at), &mut *out);
-    }
     if check::same(call, b"write") {
         return crate::job::answer_write(sizes, strides, line, at, &mut *out);
     }
@@ -111,11 +107,8 @@ fn answer_range(
     requires { ⌜ 131072 ≤ length (now out) ⌝ }
     ensures { λ r. ⌜ r ≤ 131072 ⌝ }
 {
-    let ReadCall::Is(call) = crate::product::range_call(word) else {
-        return malformed(&mut *out);
-    };
     put_answer(
-        crate::product::read_over_range(call, sizes, strides, line, at),
+        crate::product::read_over_range(word, sizes, strides, line, at),
         &mut *out,
     )
 }

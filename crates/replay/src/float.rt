@@ -12,9 +12,6 @@ const INFINITE: u64 = 0x7ff0_0000_0000_0000;
 // What is written for the one NaN.
 const NAN: u64 = 0x7ff8_0000_0000_0000;
 
-// How many values a line may have.
-pub const VALUES: usize = 4096;
-
 // A float, and where the next word begins.
 pub enum ReadFloat {
     Is(f64, usize),

@@ -1,25 +1,30 @@
-// The calls whose answer is an accumulator, a number, a bad rate or a refusal, each read from the rest of its line.
+// The calls whose answer is an accumulator, a number, a bad rate, a step or a refusal, each read from the rest of its line.
 use crate::acc::ReadAcc;
-use crate::float::VALUES;
 use crate::range::Range;
 use crate::range::ReadRange;
 use accumulator::Reduced;
+use bookmarks::Bookmark;
 use bookmarks::Step;
 use finishing::Finished;
 use search::Search;
 use text::word::ReadU64;
 
+// How many values a line may have.
+const VALUES: usize = 4096;
+
 const U32_MAX: u64 = 0xffff_ffff;
 
-// The calls over a range and its values.
+// The calls over a range and its values. A step has a bookmark and a count besides.
 pub enum RangeCall {
     Reduce,
     Product,
     Ordered,
     Figure,
     First,
+    Step(Bookmark, u64),
 }
 
+// The call, unless its words are malformed.
 pub enum ReadCall {
     Is(RangeCall),
     Malformed,
@@ -54,7 +59,18 @@ pub fn read_join(line: &[u8], at: usize) -> ReadAnswer {
     ReadAnswer::Reduced(accumulator::join(a, b))
 }
 
-pub fn range_call(word: &[u8]) -> ReadCall {
+// A call by its word, and by what stands behind the values: of a step its own words, of any other nothing.
+fn read_call(word: &[u8], line: &[u8], at: usize) -> ReadCall {
+    if check::same(word, b"step") {
+        return crate::step::read_step(line, at);
+    }
+    if !text::word::at_end(line, at) {
+        return ReadCall::Malformed;
+    }
+    call_of(word)
+}
+
+fn call_of(word: &[u8]) -> ReadCall {
     if check::same(word, b"reduce") {
         return ReadCall::Is(RangeCall::Reduce);
     }
@@ -75,7 +91,7 @@ pub fn range_call(word: &[u8]) -> ReadCall {
 
 // A range and its values, read once for every call.
 pub fn read_over_range(
-    call: RangeCall,
+    word: &[u8],
     sizes: &[u64],
     strides: &[i64],
     line: &[u8],
@@ -89,9 +105,9 @@ pub fn read_over_range(
     if !v.ok {
         return ReadAnswer::Malformed;
     }
-    if !text::word::at_end(line, v.next) {
+    let ReadCall::Is(call) = read_call(word, line, v.next) else {
         return ReadAnswer::Malformed;
-    }
+    };
     let n = v.count;
     over_range(call, sizes, strides, r, &values[..n])
 }
@@ -110,6 +126,7 @@ fn over_range(
         RangeCall::Ordered => ReadAnswer::Finished(ordered(sizes, strides, r, values)),
         RangeCall::Figure => ReadAnswer::Finished(figure(sizes, strides, r, values)),
         RangeCall::First => ReadAnswer::Search(first(sizes, strides, r, values)),
+        RangeCall::Step(mark, n) => ReadAnswer::Step(step(sizes, strides, r, values, mark, n)),
     }
 }
 
@@ -131,6 +148,10 @@ fn figure(sizes: &[u64], strides: &[i64], r: Range, values: &[f64]) -> Finished 
 
 fn first(sizes: &[u64], strides: &[i64], r: Range, values: &[f64]) -> Search {
     search::first_bad_rate(sizes, strides, r.base, r.start, r.end, values)
+}
+
+fn step(sizes: &[u64], strides: &[i64], r: Range, values: &[f64], mark: Bookmark, n: u64) -> Step {
+    bookmarks::reduce_step(sizes, strides, r.base, r.start, r.end, values, mark, n)
 }
 
 // The answer of a reduction that the line itself gives, finished.

@@ -1,57 +1,30 @@
-// The line `step`: a range and its values, then a bookmark and a count of pieces.
+// What a `step` has behind its range and values, a bookmark and a count of pieces; and its answer.
 ghost use Prim.Native.Nat.{_≤_};
 ghost use lib.ListN.{length};
 use crate::acc::ReadAcc;
-use crate::float::VALUES;
-use crate::product::ReadAnswer;
-use crate::range::Range;
-use crate::range::ReadRange;
+use crate::product::RangeCall;
+use crate::product::ReadCall;
 use accumulator::StableProductFloatAcc;
 use bookmarks::Bookmark;
 use bookmarks::Step;
 use text::word::ReadU64;
 
 // A bookmark and a count, which end the line.
-enum ReadMark {
-    Is(Bookmark, u64),
-    Malformed,
-}
-
-fn read_mark(line: &[u8], at: usize) -> ReadMark {
+pub fn read_step(line: &[u8], at: usize) -> ReadCall {
     let ReadU64::Is(next, to_acc) = text::word::read_u64(line, at) else {
-        return ReadMark::Malformed;
+        return ReadCall::Malformed;
     };
     let ReadAcc::Is(acc, to_count) = crate::acc::read_acc(line, to_acc) else {
-        return ReadMark::Malformed;
+        return ReadCall::Malformed;
     };
     let ReadU64::Is(n, end) = text::word::read_u64(line, to_count) else {
-        return ReadMark::Malformed;
+        return ReadCall::Malformed;
     };
     if !text::word::at_end(line, end) {
-        return ReadMark::Malformed;
+        return ReadCall::Malformed;
     }
-    ReadMark::Is(Bookmark { next, acc }, n)
-}
-
-// The sizes and strides of the line are read already.
-pub fn read_step(sizes: &[u64], strides: &[i64], line: &[u8], at: usize) -> ReadAnswer {
-    let mut values = [0.0; VALUES];
-    let ReadRange::Is(r, to_values) = crate::range::read_range(line, at) else {
-        return ReadAnswer::Malformed;
-    };
-    let v = crate::float::read_floats(line, to_values, &mut values);
-    if !v.ok {
-        return ReadAnswer::Malformed;
-    }
-    let ReadMark::Is(mark, n) = read_mark(line, v.next) else {
-        return ReadAnswer::Malformed;
-    };
-    let count = v.count;
-    ReadAnswer::Step(step(sizes, strides, r, &values[..count], mark, n))
-}
-
-fn step(sizes: &[u64], strides: &[i64], r: Range, values: &[f64], mark: Bookmark, n: u64) -> Step {
-    bookmarks::reduce_step(sizes, strides, r.base, r.start, r.end, values, mark, n)
+    let mark = Bookmark { next, acc };
+    ReadCall::Is(RangeCall::Step(mark, n))
 }
 
 pub fn put_step(s: Step, out: &mut [u8]) -> usize

@@ -26,8 +26,14 @@ read-floats-requires c κs = search needs
 returns-2 : tie.Need-returns-2
 returns-2 c = search needs
 
-at-end-requires : tie.Need-at-end-requires
-at-end-requires c κs = search needs
+read-call-requires : tie.Need-read-call-requires
+read-call-requires c κs = search needs
+
+enum-known-call : tie.Need-enum-known-call
+enum-known-call c = search needs
+
+enum-told-2 : tie.Need-enum-told-2
+enum-told-2 c = search needs
 
 returns-3 : tie.Need-returns-3
 returns-3 c = search needs
@@ -55,7 +61,9 @@ read-over-range-spec =
     slice-aggregate-read-floats
     read-floats-requires
     returns-2
-    at-end-requires
+    read-call-requires
+    enum-known-call
+    enum-told-2
     returns-3
     array-share-prefix-values
     slice-aggregate-over-range
