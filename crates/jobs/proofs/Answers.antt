@@ -3,13 +3,13 @@
 use Prim.Native.Nat.{ℕ, _≤_, _<_}
 use mathlib.Core.Path.{_≡_, refl, sym, _∙_, ap}
 use mathlib.Core.Bool.{Bool, true, false, cond, not}
-use mathlib.Core.List.{List, [], _∷_, _++_}
-use native.Mathlib.Nat.{zero-add}
-use lib.ListN.{length, drop}
-use lib.Seq.{sets, sets-eq}
+use mathlib.Core.List.{List, [], _∷_}
+use lib.ListN.{length}
+use lib.Seq.{sets}
 use lib.Dec.{eqb, ltb}
-use borrow.Author.Tests.{lt-ltb, le-ltb, eq-eqb, ne-eqb}
+use borrow.Author.Tests.{lt-ltb, le-ltb, eq-eqb, ne-eqb, eqb-false}
 use Rattle.refusals.specs.Refusals.{firstOf, STRIDE_LENGTH_MISMATCH, TOO_MANY_AXES, JOB_BUFFER_TOO_SHORT}
+use Rattle.refusals.proofs.Buffers.{buffer-kept, buffer-set}
 use Rattle.layout.specs.Axes.{PLACES}
 use Rattle.jobs.specs.declared.writing.JobWritten.{JobWritten}
 use Rattle.jobs.specs.Sending.{Job, jobBytes}
@@ -41,8 +41,7 @@ module _ (j : Job) (out : List ℕ) where
     f
         ∙ sym (ap (λ (c : ℕ). record { code = c; count = cond (eqb c 0) (length (jobBytes j)) 0 }) e
         ∙ ap (λ (b : Bool). record { code = k; count = cond b (length (jobBytes j)) 0 }) z),
-    sym (ap (λ (c : ℕ). cond (eqb c 0) (jobBytes j ++ drop (length (jobBytes j)) out) out) e
-        ∙ ap (λ (b : Bool). cond b (jobBytes j ++ drop (length (jobBytes j)) out) out) z),
+    buffer-kept code (jobBytes j) out (λ q. eqb-false k 0 z (sym e ∙ q)),
   )
 
   module _ (r : JobWritten) where
@@ -66,11 +65,7 @@ module _ (j : Job) (out : List ℕ) where
             → Written j out r o
         unfolding firstOf code writeOf writeBuffer
         accepted h f o g =
-            let e = code-by true false false (eq-eqb _ _ pairs) (le-ltb _ _ few) (le-ltb _ _ h) in
-            let z = zero-add (length (jobBytes j)) in (
+            let e = code-by true false false (eq-eqb _ _ pairs) (le-ltb _ _ few) (le-ltb _ _ h) in (
               f ∙ sym (ap (λ (c : ℕ). record { code = c; count = cond (eqb c 0) (length (jobBytes j)) 0 }) e),
-              g
-                  ∙ sets-eq (jobBytes j) out 0 (rw z h)
-                  ∙ ap (λ (n : ℕ). jobBytes j ++ drop n out) z
-                  ∙ sym (ap (λ (c : ℕ). cond (eqb c 0) (jobBytes j ++ drop (length (jobBytes j)) out) out) e),
+              g ∙ buffer-set code (jobBytes j) out e h,
             )

@@ -1,10 +1,10 @@
 -- Rule C11: writing a job.
 use Prim.Native.Nat.{ℕ}
 use mathlib.Core.Bool.{cond, not}
-use mathlib.Core.List.{List, [], _∷_, _++_}
-use lib.ListN.{length, drop}
+use mathlib.Core.List.{List, [], _∷_}
+use lib.ListN.{length}
 use lib.Dec.{ltb, eqb}
-use Rattle.refusals.specs.Refusals.{Refusal, firstOf, STRIDE_LENGTH_MISMATCH, TOO_MANY_AXES, JOB_BUFFER_TOO_SHORT}
+use Rattle.refusals.specs.Refusals.{Refusal, firstOf, bufferAfter, STRIDE_LENGTH_MISMATCH, TOO_MANY_AXES, JOB_BUFFER_TOO_SHORT}
 use Rattle.layout.specs.Axes.{PLACES}
 use Rattle.jobs.specs.declared.writing.JobWritten.{JobWritten}
 use Rattle.jobs.specs.Sending.{Job, jobBytes}
@@ -21,6 +21,6 @@ writeOf j room =
     let code = firstOf (writeRefusals j room) in
     record { code = code; count = cond (eqb code 0) (length (jobBytes j)) 0 }
 
--- rules C11 and R0, the buffer after the call: an accepted call fills as many bytes as the job has, and changes no other
+-- rules C11 and R0, the buffer after the call: an accepted call fills as many bytes as the job has
 unfoldable pub writeBuffer : Job → List ℕ → List ℕ
-writeBuffer j out = cond (eqb (firstOf (writeRefusals j (length out))) 0) (jobBytes j ++ drop (length (jobBytes j)) out) out
+writeBuffer j out = bufferAfter (firstOf (writeRefusals j (length out))) (jobBytes j) out

@@ -15,15 +15,17 @@ use Rattle.layout.specs.declared.traversal.FullTraversal.{FullTraversal}
 use Rattle.layout.specs.Axes.{PLACES}
 use Rattle.layout.specs.Order.{axesOf}
 use Rattle.refusals.specs.Refusals.{Refusal, firstOf}
+use Rattle.refusals.proofs.Buffers.{buffer-kept, buffer-filled}
 use Rattle.layout.specs.Compile.{compileRefusals, compileOf, layoutBeside, totalOf, traversalOf, overflows, aboveMost}
 use Rattle.offsets.specs.Elements.{offset, insideValues, everyBelow, allInside}
 use Rattle.offsets.specs.Pieces.{runOf, outerOf}
 use Rattle.offsets.specs.InnerCursors.{Axes, elements, Bounded}
-use Rattle.offsets.specs.Lists.{totalIn, rangeRefusals, rangeCode, listCode, offsetsFrom, listBuffer}
+use Rattle.offsets.specs.Lists.{totalIn, endRefusals, placeRefusals, rangeRefusals, rangeCode, listCode, offsetsFrom, listBuffer}
 use Rattle.layout.specs.InnerTables.{axesIn}
 use Rattle.offsets.proofs.Ends.{ends-exact, ends-bounded}
 use Rattle.offsets.proofs.Fused.{SameElements}
 use Rattle.offsets.proofs.Given.{given-axes, given-inside}
+use Rattle.offsets.proofs.Writing.{length-offsets}
 use Rattle.offsets.proofs.Accepted.{AcceptedLayout, is-accepted, refused-none, not-over}
 
 every-below-same : (n : ℕ) (p q : ℕ → Bool) → ((k : ℕ) → p k ≡ q k) → everyBelow n p ≡ everyBelow n q
@@ -94,43 +96,96 @@ module _ (ns : List ℕ) (ss : List ℤ) where
       subst (AcceptedLayout ns ss) (sym (c .is))
       (is-accepted ns ss (c .same) (c .few) (c .layout) (c .compiled) (subst (λ (l : FullTraversal). 0 < l .total) (c .is) h))
 
+-- refusals 5 and 6 of a range
+module _ (total start end : ℕ) where
+  pub ends-5 : end ≤ start → firstOf (endRefusals total start end) ≡ 5
+  unfolding firstOf
+  ends-5 h = rw (le-leb end start h)
+
+  module _ (h : start < end) where
+    pub ends-6 : total < end → firstOf (endRefusals total start end) ≡ 6
+    unfolding firstOf
+    ends-6 k = rw (lt-leb end start h, lt-ltb total end k)
+
+    pub ends-0 : end ≤ total → firstOf (endRefusals total start end) ≡ 0
+    unfolding firstOf
+    ends-0 k = rw (lt-leb end start h, le-ltb total end k)
+
+  -- neither applies
+  pub record Within : Type 0 where
+    pub forward : start < end
+    pub inside : end ≤ total
+    pub after : (rs : List Refusal) → firstOf (endRefusals total start end ++ rs) ≡ firstOf rs
+
+  pub within : firstOf (endRefusals total start end) ≡ 0 → Within
+  unfolding firstOf
+  within e =
+      let r6 : List Refusal = (6, ltb total end) ∷ [] in
+      let a = refused-none 4 (leb end start) r6 e in
+      let b = refused-none 5 (ltb total end) [] (a .1) in
+      record { forward = leb-false end start (a .0); inside = ltb-false total end (b .0); after = λ rs. rw (a .0, b .0) }
+
+-- refusal 7 of a layout
+module _ (ns : List ℕ) (ss : List ℤ) (base : ℤ) (len : ℕ) where
+  abbrev all-inside : Bool
+  all-inside = allInside (axesOf ns ss) ((compileOf PLACES ns ss) .traversal .total) base len
+
+  pub place-7 : all-inside ≡ false → firstOf (placeRefusals ns ss base len) ≡ 7
+  unfolding firstOf totalIn
+  place-7 e = rw e
+
+  pub place-0 : all-inside ≡ true → (rs : List Refusal) → firstOf (placeRefusals ns ss base len ++ rs) ≡ firstOf rs
+  unfolding firstOf totalIn
+  place-0 e rs = rw e
+
+  pub place-empty : (compileOf PLACES ns ss) .traversal .total ≡ 0 → firstOf (placeRefusals ns ss base len) ≡ 0
+  unfolding firstOf allInside everyBelow
+  place-empty e = place-0 (ap (λ (n : ℕ). allInside (axesOf ns ss) n base len) e) []
+
+  pub place-none : firstOf (placeRefusals ns ss base len) ≡ 0 → all-inside ≡ true
+  unfolding firstOf totalIn
+  place-none e = not-false all-inside (refused-none 6 (not all-inside) [] e .0)
+
+  -- the test over the axes as they are given is the test over rule L2's
+  module _ (c : Clear ns ss) (some-element : 0 < (compileOf PLACES ns ss) .traversal .total) where
+    accepted : AcceptedLayout ns ss ((compileOf PLACES ns ss) .traversal)
+    accepted = clear-accepted ns ss c some-element
+
+    pub clear-axes : Axes (axesIn ns ss)
+    clear-axes = given-axes ns ss (accepted .axes)
+
+    pub tested : (b : Bool) → b ≡ allInside (axesIn ns ss) (elements (axesIn ns ss)) base len → all-inside ≡ b
+    tested b e =
+        ap (λ (n : ℕ). allInside (axesOf ns ss) n base len) (sym (accepted .total)) ∙ sym (given-inside ns ss base len clear-axes (accepted .axes)) ∙ sym e
+
 module _ (ns : List ℕ) (ss : List ℤ) (base : ℤ) (start end len : ℕ) where
+  abbrev ends : List Refusal
+  ends = endRefusals ((compileOf PLACES ns ss) .traversal .total) start end
+
   -- refusals 1 to 4 are the compile's
   pub range-compile : ((compileOf PLACES ns ss) .code ≡ 0 → ⊥) → (compileOf PLACES ns ss) .code ≡ rangeCode ns ss base start end len
   unfolding rangeCode compileOf
   range-compile n = sym (first-hides (compileRefusals PLACES ns ss) (rangeRefusals ns ss base start end len) n)
 
+  -- then come 5 and 6, and then 7
   module _ (c : Clear ns ss) where
+    range-ends : (firstOf ends ≡ 0 → ⊥) → rangeCode ns ss base start end len ≡ firstOf ends
+    unfolding rangeCode rangeRefusals totalIn
+    range-ends n = c .after (rangeRefusals ns ss base start end len) ∙ first-hides ends (placeRefusals ns ss base len) n
+
     pub range-5 : end ≤ start → rangeCode ns ss base start end len ≡ 5
-    unfolding rangeCode rangeRefusals firstOf
-    range-5 h = c .after (rangeRefusals ns ss base start end len) ∙ rw (le-leb end start h)
+    range-5 h = let e = ends-5 ((compileOf PLACES ns ss) .traversal .total) start end h in range-ends (λ z. omega (arith, e, z)) ∙ e
 
-    pub range-6 : start < end → (compileOf PLACES ns ss) .traversal .total < end → rangeCode ns ss base start end len ≡ 6
-    unfolding rangeCode rangeRefusals firstOf totalIn
-    range-6 h k = c .after (rangeRefusals ns ss base start end len) ∙ rw (lt-leb end start h, lt-ltb ((compileOf PLACES ns ss) .traversal .total) end k)
+    module _ (h : start < end) where
+      pub range-6 : (compileOf PLACES ns ss) .traversal .total < end → rangeCode ns ss base start end len ≡ 6
+      range-6 k = let e = ends-6 ((compileOf PLACES ns ss) .traversal .total) start end h k in range-ends (λ z. omega (arith, e, z)) ∙ e
 
-    module _ (h : start < end) (k : end ≤ (compileOf PLACES ns ss) .traversal .total) where
-      accepted : AcceptedLayout ns ss ((compileOf PLACES ns ss) .traversal)
-      accepted = clear-accepted ns ss c (omega arith)
-
-      pub range-axes : Axes (axesIn ns ss)
-      range-axes = given-axes ns ss (accepted .axes)
-
-      -- the test over the axes as they are given is the test over rule L2's
-      tested : (b : Bool) → allInside (axesIn ns ss) (elements (axesIn ns ss)) base len ≡ b
-          → allInside (axesOf ns ss) ((compileOf PLACES ns ss) .traversal .total) base len ≡ b
-      tested b e =
-          ap (λ (n : ℕ). allInside (axesOf ns ss) n base len) (sym (accepted .total)) ∙ sym (given-inside ns ss base len range-axes (accepted .axes)) ∙ e
-
-      pub range-7 : allInside (axesIn ns ss) (elements (axesIn ns ss)) base len ≡ false → rangeCode ns ss base start end len ≡ 7
-      unfolding rangeCode rangeRefusals firstOf totalIn
-      range-7 e =
-          c .after (rangeRefusals ns ss base start end len) ∙ rw (lt-leb end start h, le-ltb ((compileOf PLACES ns ss) .traversal .total) end k, tested false e)
-
-      pub range-0 : allInside (axesIn ns ss) (elements (axesIn ns ss)) base len ≡ true → rangeCode ns ss base start end len ≡ 0
-      unfolding rangeCode rangeRefusals firstOf totalIn
-      range-0 e =
-          c .after (rangeRefusals ns ss base start end len) ∙ rw (lt-leb end start h, le-ltb ((compileOf PLACES ns ss) .traversal .total) end k, tested true e)
+      pub range-places : end ≤ (compileOf PLACES ns ss) .traversal .total → rangeCode ns ss base start end len ≡ firstOf (placeRefusals ns ss base len)
+      unfolding rangeCode rangeRefusals totalIn
+      range-places k =
+          c .after (rangeRefusals ns ss base start end len)
+          ∙ within ((compileOf PLACES ns ss) .traversal .total) start end (ends-0 ((compileOf PLACES ns ss) .traversal .total) start end h k)
+          .after (placeRefusals ns ss base len)
 
 -- ---- an accepted range
 pub record Ranged (ns : List ℕ) (ss : List ℤ) (base : ℤ) (start end len : ℕ) : Type 0 where
@@ -150,25 +205,25 @@ module _ (ns : List ℕ) (ss : List ℤ) (base : ℤ) (start end len : ℕ) wher
   cleared e = clear ns ss (code-is (first-none (compileRefusals PLACES ns ss) (rangeRefusals ns ss base start end len) e))
 
   pub ranged : rangeCode ns ss base start end len ≡ 0 → Ranged ns ss base start end len
-  unfolding rangeCode rangeRefusals totalIn firstOf
+  unfolding rangeCode rangeRefusals totalIn
   ranged e =
       let c = cleared e in
-      let t = (compileOf PLACES ns ss) .traversal .total in
-      let r7 : List Refusal = (7, not (allInside (axesOf ns ss) t base len)) ∷ [] in
-      let r6 : List Refusal = (6, ltb t end) ∷ r7 in
-      let f : firstOf ((5, leb end start) ∷ r6) ≡ 0 = sym (c .after (rangeRefusals ns ss base start end len)) ∙ e in
-      let a = refused-none 4 (leb end start) r6 f in
-      let b = refused-none 5 (ltb t end) r7 (a .1) in
-      let d = refused-none 6 (not (allInside (axesOf ns ss) t base len)) [] (b .1) in
+      let rs = rangeRefusals ns ss base start end len in
+      let ends = endRefusals ((compileOf PLACES ns ss) .traversal .total) start end in
+      let f : firstOf rs ≡ 0 = sym (c .after rs) ∙ e in
+      let w = within ((compileOf PLACES ns ss) .traversal .total) start end (first-none ends (placeRefusals ns ss base len) f) in
+      let p = place-none ns ss base len (sym (w .after (placeRefusals ns ss base len)) ∙ f) in
       record {
         clears = c;
-        forward = leb-false end start (a .0);
-        inside = ltb-false t end (b .0);
-        within = not-false (allInside (axesOf ns ss) t base len) (d .0);
+        forward = w .forward;
+        inside = w .inside;
+        within = p;
         after =
-            λ rs. ap firstOf (append-assoc (compileRefusals PLACES ns ss) (rangeRefusals ns ss base start end len) rs)
-            ∙ c .after (rangeRefusals ns ss base start end len ++ rs)
-            ∙ rw (a .0, b .0, d .0);
+            λ qs. ap firstOf (append-assoc (compileRefusals PLACES ns ss) rs qs)
+            ∙ c .after (rs ++ qs)
+            ∙ ap firstOf (append-assoc ends (placeRefusals ns ss base len) qs)
+            ∙ w .after (placeRefusals ns ss base len ++ qs)
+            ∙ place-0 ns ss base len p qs;
       }
 
   module _ (r : Ranged ns ss base start end len) where
@@ -207,18 +262,17 @@ module _ (ns : List ℕ) (ss : List ℤ) (base : ℤ) (start end len : ℕ) wher
   list-refused room n = first-hides (compileRefusals PLACES ns ss ++ rangeRefusals ns ss base start end len) ((8, ltb room (end - start)) ∷ []) n
 
   -- the buffer after the call
-  pub buffer-kept : (out : List ℤ) → (listCode ns ss base start end len (length out) ≡ 0 → ⊥) → out ≡ listBuffer ns ss base start end len out
+  pub list-kept : (out : List ℤ) → (listCode ns ss base start end len (length out) ≡ 0 → ⊥) → out ≡ listBuffer ns ss base start end len out
   unfolding listBuffer
-  buffer-kept out n =
-      sym (ap (λ (b : Bool). cond b (offsetsFrom (axesOf ns ss) base start (end - start) ++ drop (end - start) out) out)
-      (ne-eqb (listCode ns ss base start end len (length out)) 0 n))
+  list-kept out = buffer-kept (listCode ns ss base start end len (length out)) (offsetsFrom (axesOf ns ss) base start (end - start)) out
 
-  pub buffer-filled : (out : List ℤ) → listCode ns ss base start end len (length out) ≡ 0
+  pub list-filled : (out : List ℤ) → listCode ns ss base start end len (length out) ≡ 0
       → offsetsFrom (axesOf ns ss) base start (end - start) ++ drop (end - start) out ≡ listBuffer ns ss base start end len out
   unfolding listBuffer
-  buffer-filled out e =
-      sym (ap (λ (b : Bool). cond b (offsetsFrom (axesOf ns ss) base start (end - start) ++ drop (end - start) out) out)
-      (eq-eqb (listCode ns ss base start end len (length out)) 0 e))
+  list-filled out e =
+      let zs = offsetsFrom (axesOf ns ss) base start (end - start) in
+      ap (λ (n : ℕ). zs ++ drop n out) (sym (length-offsets (axesOf ns ss) base start (end - start)))
+      ∙ buffer-filled (listCode ns ss base start end len (length out)) zs out e
 
 pub offsets-same : (xs ys : List ReduceOuterAxis) (base : ℤ) → SameElements xs ys → (n k : ℕ) → offsetsFrom ys base k n ≡ offsetsFrom xs base k n
 unfolding offsetsFrom

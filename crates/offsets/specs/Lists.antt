@@ -1,14 +1,14 @@
 -- Rules R5 to R8, the refusals of a range, and rule L8, the offset list.
 use Prim.Native.Nat.{ℕ, zero, suc, _-_}
-use mathlib.Core.Bool.{cond, not}
+use mathlib.Core.Bool.{not}
 use mathlib.Core.List.{List, [], _∷_, _++_}
-use lib.ListN.{length, drop}
-use lib.Dec.{ltb, leb, eqb}
+use lib.ListN.{length}
+use lib.Dec.{ltb, leb}
 use lib.IntN.{ℤ}
 use Rattle.layout.specs.declared.axis.ReduceOuterAxis.{ReduceOuterAxis}
 use Rattle.layout.specs.Axes.{PLACES}
 use Rattle.layout.specs.Order.{axesOf}
-use Rattle.refusals.specs.Refusals.{Refusal, firstOf, EMPTY_RANGE, RANGE_PAST_END, ELEMENT_OUTSIDE, BUFFER_TOO_SHORT}
+use Rattle.refusals.specs.Refusals.{Refusal, firstOf, bufferAfter, EMPTY_RANGE, RANGE_PAST_END, ELEMENT_OUTSIDE, BUFFER_TOO_SHORT}
 use Rattle.layout.specs.Compile.{compileRefusals, compileOf}
 use Rattle.offsets.specs.Elements.{offset, allInside}
 
@@ -16,11 +16,17 @@ use Rattle.offsets.specs.Elements.{offset, allInside}
 unfoldable pub totalIn : List ℕ → List ℤ → ℕ
 totalIn sizes strides = (compileOf PLACES sizes strides) .traversal .total
 
+-- rules R5 and R6, in rank: a range of a layout of so many elements
+abbrev pub endRefusals : ℕ → ℕ → ℕ → List Refusal
+endRefusals total start end = (EMPTY_RANGE, leb end start) ∷ (RANGE_PAST_END, ltb total end) ∷ []
+
+-- rule R7: a layout over so many values, whatever the range
+abbrev pub placeRefusals : List ℕ → List ℤ → ℤ → ℕ → List Refusal
+placeRefusals sizes strides base length = (ELEMENT_OUTSIDE, not (allInside (axesOf sizes strides) (totalIn sizes strides) base length)) ∷ []
+
 -- rules R5 to R7, in rank
 unfoldable pub rangeRefusals : List ℕ → List ℤ → ℤ → ℕ → ℕ → ℕ → List Refusal
-rangeRefusals sizes strides base start end length =
-    (EMPTY_RANGE, leb end start) ∷ (RANGE_PAST_END, ltb (totalIn sizes strides) end)
-    ∷ (ELEMENT_OUTSIDE, not (allInside (axesOf sizes strides) (totalIn sizes strides) base length)) ∷ []
+rangeRefusals sizes strides base start end length = endRefusals (totalIn sizes strides) start end ++ placeRefusals sizes strides base length
 
 -- the code of a range: 1 to 7, or 0
 unfoldable pub rangeCode : List ℕ → List ℤ → ℤ → ℕ → ℕ → ℕ → ℕ
@@ -37,9 +43,7 @@ unfoldable pub offsetsFrom : List ReduceOuterAxis → ℤ → ℕ → ℕ → Li
 offsetsFrom xs base k zero = []
 offsetsFrom xs base k (suc n) = offset xs base k ∷ offsetsFrom xs base (suc k) n
 
--- rules L8 and R0, the buffer after a list call: an accepted call fills the first end - start places, and changes no other
+-- rules L8 and R0, the buffer after a list call: an accepted call fills the first end - start places
 unfoldable pub listBuffer : List ℕ → List ℤ → ℤ → ℕ → ℕ → ℕ → List ℤ → List ℤ
 listBuffer sizes strides base start end len out =
-    cond (eqb (listCode sizes strides base start end len (length out)) 0)
-    (offsetsFrom (axesOf sizes strides) base start (end - start) ++ drop (end - start) out)
-    out
+    bufferAfter (listCode sizes strides base start end len (length out)) (offsetsFrom (axesOf sizes strides) base start (end - start)) out

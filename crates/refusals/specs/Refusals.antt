@@ -1,7 +1,9 @@
 -- Rules R0 to R15: a name for each refusal's number, as in src/lib, and which of several is given.
 use Prim.Native.Nat.{ℕ}
 use mathlib.Core.Bool.{Bool, cond}
-use mathlib.Core.List.{List, [], _∷_}
+use mathlib.Core.List.{List, [], _∷_, _++_}
+use lib.ListN.{length, drop}
+use lib.Dec.{eqb}
 
 abbrev pub STRIDE_LENGTH_MISMATCH : ℕ
 STRIDE_LENGTH_MISMATCH = 1
@@ -56,3 +58,7 @@ Refusal = ℕ × Bool
 unfoldable pub firstOf : List Refusal → ℕ
 firstOf [] = 0
 firstOf (r ∷ rs) = cond (r .1) (r .0) (firstOf rs)
+
+-- R0: a buffer after a call with this code that has xs to write: an accepted call fills as many of the first places, a refused one changes none
+abbrev pub bufferAfter : {X : Type 0} → ℕ → List X → List X → List X
+bufferAfter code xs out = cond (eqb code 0) (xs ++ drop (length xs) out) out

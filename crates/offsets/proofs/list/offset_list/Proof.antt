@@ -10,7 +10,7 @@ use mir.Facts.{toZ-ofZ}
 use Rattle.layout.specs.declared.traversal.Compiled.{Compiled}
 use Rattle.layout.specs.Order.{axesOf}
 use Rattle.offsets.specs.Lists.{rangeCode, offsetsFrom}
-use Rattle.offsets.proofs.Ranges.{list-0, list-8, list-refused, buffer-kept, buffer-filled}
+use Rattle.offsets.proofs.Ranges.{list-0, list-8, list-refused, list-kept, list-filled}
 use Rattle.offsets.proofs.Checked.{Checked, checked}
 use borrow.Author.Needs.{needs}
 use Rattle.offsets.proofs.list.offset_list.Statement.{statement}
@@ -52,7 +52,7 @@ returns c =
     let k = list-refused (s .args .sizes .now) (s .args .strides .now) (s .args .base) (s .args .start) (s .args .end) (s .args .length)
     (length (s .args .out .now)) n in (
       code-of m ∙ sym k,
-      buffer-kept (s .args .sizes .now) (s .args .strides .now) (s .args .base) (s .args .start) (s .args .end) (s .args .length) (s .args .out .now)
+      list-kept (s .args .sizes .now) (s .args .strides .now) (s .args .base) (s .args .start) (s .args .end) (s .args .length) (s .args .out .now)
           (λ e. n (sym k ∙ e)),
     )
 
@@ -69,7 +69,7 @@ returns-2 c =
     let k = list-8 (s .args .sizes .now) (s .args .strides .now) (s .args .base) (s .args .start) (s .args .end) (s .args .length) (accepted e .ranged)
     (length (s .args .out .now)) (c .if2 .taken) in (
       sym k,
-      buffer-kept (s .args .sizes .now) (s .args .strides .now) (s .args .base) (s .args .start) (s .args .end) (s .args .length) (s .args .out .now)
+      list-kept (s .args .sizes .now) (s .args .strides .now) (s .args .base) (s .args .start) (s .args .end) (s .args .length) (s .args .out .now)
           (λ q. no (sym k ∙ q)),
     )
 
@@ -106,7 +106,7 @@ returns-3 c =
     (length (s .args .out .now)) (t .if2 .left) in (
       sym k,
       wrote (c .before)
-          ∙ buffer-filled (s .args .sizes .now) (s .args .strides .now) (s .args .base) (s .args .start) (s .args .end) (s .args .length) (s .args .out .now) k,
+          ∙ list-filled (s .args .sizes .now) (s .args .strides .now) (s .args .base) (s .args .start) (s .args .end) (s .args .length) (s .args .out .now) k,
     )
 
 pub offset-list-spec : {M : Type 1} → statement M

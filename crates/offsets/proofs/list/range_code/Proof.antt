@@ -1,15 +1,18 @@
 -- `offsets::list::range_code` meets its contract: each refusal by the first condition that holds.
 -- Assumes nothing.
-use Prim.Native.Nat.{_≤_}
+use Prim.Native.Nat.{_≤_, _<_}
 use mathlib.Core.Path.{_≡_, sym, _∙_}
+use mathlib.Core.List.{[]}
 use native.Mathlib.Omega.{arith}
 use mir.Facts.{toZ-ofZ}
+use Rattle.refusals.specs.Refusals.{firstOf}
 use Rattle.layout.specs.Axes.{PLACES}
 use Rattle.layout.specs.Compile.{compileOf}
 use Rattle.layout.specs.InnerTables.{axesIn}
 use Rattle.offsets.specs.Elements.{allInside}
 use Rattle.offsets.specs.InnerCursors.{elements}
-use Rattle.offsets.proofs.Ranges.{Clear, clear, range-compile, range-5, range-6, range-7, range-0, range-axes}
+use Rattle.offsets.specs.Lists.{placeRefusals, rangeCode}
+use Rattle.offsets.proofs.Ranges.{Clear, clear, clear-axes, tested, place-7, place-0, range-compile, range-5, range-6, range-places}
 use Rattle.offsets.proofs.list.range_code.Statement.{statement}
 use Rattle.offsets.proofs.list.range_code.Tie as tie
 use Rattle.offsets.proofs.list.range_code.Reads as reads
@@ -45,14 +48,16 @@ inside-total : (c : tie.Else3) → let s = c .before .before .before .before in
     s .args .end ≤ (compileOf PLACES (s .args .sizes .now) (s .args .strides .now)) .traversal .total
 inside-total c = omega (arith, c .before .before .before .before .pre .1, c .if3 .left)
 
+some-element : (c : tie.Else3) → let s = c .before .before .before .before in
+    0 < (compileOf PLACES (s .args .sizes .now) (s .args .strides .now)) .traversal .total
+some-element c = omega (arith, inside-total c, c .before .if2 .left)
+
 inside-requires : tie.Need-inside-requires
 inside-requires c κs =
-    let t = c .before in
-    let e = t .before in
+    let e = c .before .before in
     let s = e .before .before in (
       cleared e .same,
-      range-axes (s .args .sizes .now) (s .args .strides .now) (s .args .base) (s .args .start) (s .args .end) (s .args .length) (cleared e) (t .if2 .left)
-          (inside-total c),
+      clear-axes (s .args .sizes .now) (s .args .strides .now) (s .args .base) (s .args .length) (cleared e) (some-element c),
     )
 
 -- what the test said, of the base itself
@@ -62,23 +67,37 @@ told : (c : tie.After-inside) → let s = c .before .before .before .before .bef
     (s .args .length)
 told c = simp (toZ-ofZ (c .before .before .before .before .before .fits .base)) at (c .inside .ensures)
 
-returns-4 : tie.Need-returns-4
-returns-4 c =
-    let k = c .before .before in
+-- the code is that of the places
+places : (k : tie.Else3) → let s = k .before .before .before .before in
+    firstOf (placeRefusals (s .args .sizes .now) (s .args .strides .now) (s .args .base) (s .args .length))
+    ≡ rangeCode (s .args .sizes .now) (s .args .strides .now) (s .args .base) (s .args .start) (s .args .end) (s .args .length)
+places k =
     let t = k .before in
     let e = t .before in
     let s = e .before .before in
-    sym (range-0 (s .args .sizes .now) (s .args .strides .now) (s .args .base) (s .args .start) (s .args .end) (s .args .length) (cleared e) (t .if2 .left)
-    (inside-total k) (sym (told (c .before)) ∙ c .if4 .taken))
+    sym (range-places (s .args .sizes .now) (s .args .strides .now) (s .args .base) (s .args .start) (s .args .end) (s .args .length) (cleared e) (t .if2 .left)
+    (inside-total k))
+
+returns-4 : tie.Need-returns-4
+unfolding firstOf
+returns-4 c =
+    let i = c .before in
+    let k = i .before in
+    let e = k .before .before in
+    let s = e .before .before in
+    sym (place-0 (s .args .sizes .now) (s .args .strides .now) (s .args .base) (s .args .length)
+    (tested (s .args .sizes .now) (s .args .strides .now) (s .args .base) (s .args .length) (cleared e) (some-element k) _ (sym (c .if4 .taken) ∙ told i)) [])
+    ∙ places k
 
 returns-5 : tie.Need-returns-5
 returns-5 c =
-    let k = c .before .before in
-    let t = k .before in
-    let e = t .before in
+    let i = c .before in
+    let k = i .before in
+    let e = k .before .before in
     let s = e .before .before in
-    sym (range-7 (s .args .sizes .now) (s .args .strides .now) (s .args .base) (s .args .start) (s .args .end) (s .args .length) (cleared e) (t .if2 .left)
-    (inside-total k) (sym (told (c .before)) ∙ c .if4 .left))
+    sym (place-7 (s .args .sizes .now) (s .args .strides .now) (s .args .base) (s .args .length)
+    (tested (s .args .sizes .now) (s .args .strides .now) (s .args .base) (s .args .length) (cleared e) (some-element k) _ (sym (c .if4 .left) ∙ told i)))
+    ∙ places k
 
 pub range-code-spec : {M : Type 1} → statement M
 range-code-spec =
