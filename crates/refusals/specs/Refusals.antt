@@ -1,4 +1,4 @@
--- Rules R0 to R15: a name for each refusal's number, as in src/lib, and which of several is given.
+-- Rules R0 to R16: a name for each refusal's number, as in src/lib, and which of several is given.
 use Prim.Native.Nat.{ℕ}
 use mathlib.Core.Bool.{Bool, cond}
 use mathlib.Core.List.{List, [], _∷_, _++_}
@@ -49,6 +49,9 @@ NO_PIECES = 14
 
 abbrev pub NOT_A_PIECE : ℕ
 NOT_A_PIECE = 15
+
+abbrev pub ANSWER_BUFFER_TOO_SHORT : ℕ
+ANSWER_BUFFER_TOO_SHORT = 16
 
 -- a refusal: its number, and whether its condition holds
 abbrev pub Refusal : Type 0

@@ -1,4 +1,4 @@
-// The refusals of every call, one number and one name each (docs/RULES.md, R1 to R13). The line above a constant is its condition in plain words:
+// The refusals of every call, one number and one name each (docs/RULES.md, R1 to R16). The line above a constant is its condition in plain words:
 // `./run` prints it, and specs/Refusals has the same numbers for the definitions.
 
 // sizes and strides differ in number
@@ -45,3 +45,6 @@ pub const NO_PIECES: u32 = 14;
 
 // no piece of the range begins at the next element number
 pub const NOT_A_PIECE: u32 = 15;
+
+// the lists of starts and ends differ in length, or a buffer is too short for the answers
+pub const ANSWER_BUFFER_TOO_SHORT: u32 = 16;

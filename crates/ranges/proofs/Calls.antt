@@ -1,0 +1,61 @@
+-- What a call tells: its code, and the three buffers after it. Assumes nothing.
+use Prim.Native.Nat.{ℕ, _<_}
+use mathlib.Core.Path.{_≡_, refl, sym, _∙_, ap, subst}
+use mathlib.Core.List.{List, map}
+use lib.ListN.{length, getD}
+use lib.IntN.{ℤ}
+use lib.Ieee.{Float}
+use Rattle.refusals.specs.Refusals.{bufferAfter}
+use Rattle.refusals.proofs.Buffers.{buffer-kept}
+use Rattle.layout.specs.declared.traversal.FullTraversal.{FullTraversal}
+use Rattle.layout.specs.Axes.{PLACES}
+use Rattle.layout.specs.Compile.{compileOf}
+use Rattle.offsets.proofs.Checked.{accepted-range}
+use Rattle.accumulator.specs.declared.StableProductFloatAcc.{StableProductFloatAcc}
+use Rattle.ranges.specs.Many.{rangesOf, badByte, manyCode, products, msAfter, esAfter, badsAfter}
+use Rattle.ranges.specs.InnerReady.{Ready, productsOver}
+use Rattle.ranges.proofs.Codes.{Accepted, range-accepted}
+
+module _ (ns : List ℕ) (ss : List ℤ) (base : ℤ) (starts ends : List ℕ) (values ms : List Float) (es : List ℤ) (bads : List ℕ) where
+  abbrev code : ℕ
+  code = manyCode ns ss base starts ends values ms es bads
+
+  abbrev all : List StableProductFloatAcc
+  all = products ns ss base starts ends values ms es bads
+
+  -- the answer r, and the buffers after it
+  abbrev pub Told : ℕ → List Float → List ℤ → List ℕ → Type 0
+  Told r m e b =
+      (r ≡ code)
+      × ((m ≡ msAfter ns ss base starts ends values ms es bads)
+      × ((e ≡ esAfter ns ss base starts ends values ms es bads) × (b ≡ badsAfter ns ss base starts ends values ms es bads)))
+
+  pub told-refused : (r : ℕ) → r ≡ code → (r ≡ 0 → ⊥) → Told r ms es bads
+  unfolding msAfter esAfter badsAfter
+  told-refused r e n =
+      let k : code ≡ 0 → ⊥ = λ z. n (e ∙ z) in
+      (e, (buffer-kept code (map (λ (a : StableProductFloatAcc). a .m) all) ms k, (buffer-kept code (map (λ (a : StableProductFloatAcc). a .e) all) es k, buffer-kept code (map (λ (a : StableProductFloatAcc). badByte (a .bad)) all) bads k)))
+
+  -- over any layout that is the compiled one
+  module _ (l : FullTraversal) (is : l ≡ (compileOf PLACES ns ss) .traversal) where
+    over : {X : Type 0} (f : StableProductFloatAcc → X) (out : List X) → 0 ≡ code
+        → bufferAfter 0 (map f (productsOver l base values (rangesOf starts ends))) out ≡ bufferAfter code (map f all) out
+    over f out e =
+        ap (λ (t : FullTraversal). bufferAfter 0 (map f (productsOver t base values (rangesOf starts ends))) out) is
+        ∙ ap (λ (n : ℕ). bufferAfter n (map f all) out) e
+
+    pub told-accepted : 0 ≡ code → (m : List Float) (e : List ℤ) (b : List ℕ)
+        → m ≡ bufferAfter 0 (map (λ (a : StableProductFloatAcc). a .m) (productsOver l base values (rangesOf starts ends))) ms
+        → e ≡ bufferAfter 0 (map (λ (a : StableProductFloatAcc). a .e) (productsOver l base values (rangesOf starts ends))) es
+        → b ≡ bufferAfter 0 (map (λ (a : StableProductFloatAcc). badByte (a .bad)) (productsOver l base values (rangesOf starts ends))) bads
+        → Told 0 m e b
+    unfolding msAfter esAfter badsAfter
+    told-accepted z m e b p q r =
+        (z, (p ∙ over (λ (a : StableProductFloatAcc). a .m) ms z, (q ∙ over (λ (a : StableProductFloatAcc). a .e) es z, r ∙ over (λ (a : StableProductFloatAcc). badByte (a .bad)) bads z)))
+
+    -- each range of an accepted call can be reduced
+    pub ready : Accepted ns ss base starts ends values ms es bads → (i : ℕ) → i < length starts → Ready l base (length values) (getD starts i 0) (getD ends i 0)
+    ready a i h =
+        let c = accepted-range ns ss base (getD starts i 0) (getD ends i 0) (length values) (range-accepted ns ss base starts ends values ms es bads a i h) in
+        subst (λ (t : FullTraversal). Ready t base (length values) (getD starts i 0) (getD ends i 0)) (sym is)
+        (record { traversal = c .traversal; bounded = c .bounded; forward = c .forward; inside = c .inside; few = c .few; within = c .within })

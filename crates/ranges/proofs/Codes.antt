@@ -1,0 +1,169 @@
+-- The code of a call, by the first refusal that applies.
+-- Assumes nothing.
+use Prim.Native.Nat.{ℕ, zero, suc, _≤_, _<_}
+use mathlib.Core.Path.{_≡_, refl, sym, _∙_, ap}
+use mathlib.Core.Bool.{Bool, true, false, not, _||_}
+use mathlib.Core.List.{List, [], _∷_, _++_, append-assoc}
+use native.Mathlib.Omega.{arith}
+use lib.ListN.{length, getD}
+use lib.Dec.{ltb, eqb}
+use lib.IntN.{ℤ}
+use lib.Ieee.{Float}
+use borrow.Author.Tests.{eqb-true, eq-eqb, ne-eqb, ltb-false, lt-ltb, le-ltb, not-false}
+use Rattle.refusals.specs.Refusals.{Refusal, firstOf}
+use Rattle.layout.specs.Axes.{PLACES}
+use Rattle.layout.specs.Compile.{compileRefusals, compileOf}
+use Rattle.offsets.specs.Lists.{totalIn, endRefusals, placeRefusals, rangeCode}
+use Rattle.offsets.proofs.Accepted.{refused-none}
+use Rattle.offsets.proofs.Ranges.{first-hides, first-none, Clear, clear, Within, within, range-places}
+use Rattle.kernels.proofs.Feeding.{neither}
+use Rattle.ranges.specs.Many.{rangesOf, eachRefusals, unfit, manyCode}
+use Rattle.ranges.proofs.Lists.{length-ranges, range-at}
+
+-- ---- 5 and 6 range by range
+module _ (total : ℕ) where
+  -- a faulty range hides those behind it, a good one leads to the next
+  pub each-fault : (r : ℕ × ℕ) (rs : List (ℕ × ℕ)) → (firstOf (endRefusals total (r .0) (r .1)) ≡ 0 → ⊥)
+      → firstOf (eachRefusals total (r ∷ rs)) ≡ firstOf (endRefusals total (r .0) (r .1))
+  unfolding eachRefusals
+  each-fault r rs n = first-hides (endRefusals total (r .0) (r .1)) (eachRefusals total rs) n
+
+  pub each-next : (r : ℕ × ℕ) (rs : List (ℕ × ℕ)) → firstOf (endRefusals total (r .0) (r .1)) ≡ 0
+      → firstOf (eachRefusals total (r ∷ rs)) ≡ firstOf (eachRefusals total rs)
+  unfolding eachRefusals
+  each-next r rs e = within total (r .0) (r .1) e .after (eachRefusals total rs)
+
+  -- none is faulty: what comes behind them decides, and each lies within the layout
+  pub each-after : (rs : List (ℕ × ℕ)) → firstOf (eachRefusals total rs) ≡ 0 → (qs : List Refusal) → firstOf (eachRefusals total rs ++ qs) ≡ firstOf qs
+  unfolding eachRefusals
+  each-after [] e qs = refl
+  each-after (r ∷ rs) e qs =
+      let w = within total (r .0) (r .1) (first-none (endRefusals total (r .0) (r .1)) (eachRefusals total rs) e) in
+      ap firstOf (append-assoc (endRefusals total (r .0) (r .1)) (eachRefusals total rs) qs)
+      ∙ w .after (eachRefusals total rs ++ qs)
+      ∙ each-after rs (sym (w .after (eachRefusals total rs)) ∙ e) qs
+
+  pub each-within : (rs : List (ℕ × ℕ)) → firstOf (eachRefusals total rs) ≡ 0 → (i : ℕ) → i < length rs → (d : ℕ × ℕ)
+      → Within total (getD rs i d .0) (getD rs i d .1)
+  unfolding eachRefusals
+  each-within [] e i h d = absurd (omega arith)
+  each-within (r ∷ rs) e zero h d = within total (r .0) (r .1) (first-none (endRefusals total (r .0) (r .1)) (eachRefusals total rs) e)
+  each-within (r ∷ rs) e (suc i) h d =
+      let w = within total (r .0) (r .1) (first-none (endRefusals total (r .0) (r .1)) (eachRefusals total rs) e) in
+      each-within rs (sym (w .after (eachRefusals total rs)) ∙ e) i (omega arith) d
+
+-- ---- the lengths
+module _ (starts ends ms es bads : ℕ) where
+  pub record Fit : Type 0 where
+    pub same : starts ≡ ends
+    pub room-m : starts ≤ ms
+    pub room-e : starts ≤ es
+    pub room-bad : starts ≤ bads
+
+  -- by the first test that fails
+  pub unfit-lists : (starts ≡ ends → ⊥) → true ≡ unfit starts ends ms es bads
+  unfit-lists n = rw (ne-eqb starts ends n)
+
+  module _ (q : starts ≡ ends) where
+    pub unfit-m : ms < starts → true ≡ unfit starts ends ms es bads
+    unfit-m h = rw (eq-eqb starts ends q, lt-ltb ms starts h)
+
+    module _ (p : starts ≤ ms) where
+      pub unfit-e : es < starts → true ≡ unfit starts ends ms es bads
+      unfit-e h = rw (eq-eqb starts ends q, le-ltb ms starts p, lt-ltb es starts h)
+
+      module _ (r : starts ≤ es) where
+        pub unfit-bad : bads < starts → true ≡ unfit starts ends ms es bads
+        unfit-bad h = rw (eq-eqb starts ends q, le-ltb ms starts p, le-ltb es starts r, lt-ltb bads starts h)
+
+        pub all-fit : starts ≤ bads → false ≡ unfit starts ends ms es bads
+        all-fit h = rw (eq-eqb starts ends q, le-ltb ms starts p, le-ltb es starts r, le-ltb bads starts h)
+
+  pub fit : unfit starts ends ms es bads ≡ false → Fit
+  fit u =
+      let a = neither (not (eqb starts ends) || ltb ms starts || ltb es starts) (ltb bads starts) u in
+      let b = neither (not (eqb starts ends) || ltb ms starts) (ltb es starts) (a .0) in
+      let c = neither (not (eqb starts ends)) (ltb ms starts) (b .0) in
+      record {
+        same = eqb-true starts ends (not-false (eqb starts ends) (c .0));
+        room-m = ltb-false ms starts (c .1);
+        room-e = ltb-false es starts (b .1);
+        room-bad = ltb-false bads starts (a .1);
+      }
+
+-- ---- the whole code
+module _ (ns : List ℕ) (ss : List ℤ) (base : ℤ) (starts ends : List ℕ) (values ms : List Float) (es : List ℤ) (bads : List ℕ) where
+  abbrev code : ℕ
+  code = manyCode ns ss base starts ends values ms es bads
+
+  abbrev total : ℕ
+  total = (compileOf PLACES ns ss) .traversal .total
+
+  abbrev each : List Refusal
+  each = eachRefusals total (rangesOf starts ends)
+
+  abbrev places : List Refusal
+  places = placeRefusals ns ss base (length values)
+
+  abbrev misfit : Bool
+  misfit = unfit (length starts) (length ends) (length ms) (length es) (length bads)
+
+  pub many-compile : ((compileOf PLACES ns ss) .code ≡ 0 → ⊥) → (compileOf PLACES ns ss) .code ≡ code
+  unfolding manyCode compileOf totalIn
+  many-compile n = sym (first-hides (compileRefusals PLACES ns ss) ((16, misfit) ∷ (each ++ places)) n)
+
+  module _ (c : Clear ns ss) where
+    by-fit : (b : Bool) → misfit ≡ b → code ≡ firstOf ((16, b) ∷ (each ++ places))
+    unfolding manyCode totalIn
+    by-fit b e = c .after ((16, misfit) ∷ (each ++ places)) ∙ ap (λ (t : Bool). firstOf ((16, t) ∷ (each ++ places))) e
+
+    pub many-16 : misfit ≡ true → 16 ≡ code
+    unfolding firstOf
+    many-16 e = sym (by-fit true e)
+
+    module _ (f : misfit ≡ false) where
+      past : code ≡ firstOf (each ++ places)
+      unfolding firstOf
+      past = by-fit false f
+
+      pub many-each : (firstOf each ≡ 0 → ⊥) → firstOf each ≡ code
+      many-each n = sym (past ∙ first-hides each places n)
+
+      pub many-places : firstOf each ≡ 0 → firstOf places ≡ code
+      many-places e = sym (past ∙ each-after total (rangesOf starts ends) e places)
+
+  -- ---- an accepted call
+  pub record Accepted : Type 0 where
+    pub clears : Clear ns ss
+    pub fits : Fit (length starts) (length ends) (length ms) (length es) (length bads)
+    pub each-good : firstOf each ≡ 0
+    pub places-good : firstOf places ≡ 0
+
+  compiled : firstOf (compileRefusals PLACES ns ss) ≡ 0 → (compileOf PLACES ns ss) .code ≡ 0
+  unfolding compileOf
+  compiled q = q
+
+  pub accepted : code ≡ 0 → Accepted
+  unfolding manyCode totalIn
+  accepted e =
+      let c = clear ns ss (compiled (first-none (compileRefusals PLACES ns ss) ((16, misfit) ∷ (each ++ places)) e)) in
+      let u = refused-none 15 misfit (each ++ places) (sym (c .after ((16, misfit) ∷ (each ++ places))) ∙ e) in
+      let g = first-none each places (u .1) in
+      record {
+        clears = c;
+        fits = fit (length starts) (length ends) (length ms) (length es) (length bads) (u .0);
+        each-good = g;
+        places-good = sym (each-after total (rangesOf starts ends) g places) ∙ u .1;
+      }
+
+  -- so is each of its ranges by itself
+  module _ (a : Accepted) (i : ℕ) (h : i < length starts) where
+    pub range-within : Within total (getD starts i 0) (getD ends i 0)
+    range-within =
+        rw (range-at starts ends (a .fits .same) i h (0, 0)) at
+        (each-within total (rangesOf starts ends) (a .each-good) i (rw (length-ranges starts ends (a .fits .same)) h) (0, 0))
+
+    pub range-accepted : rangeCode ns ss base (getD starts i 0) (getD ends i 0) (length values) ≡ 0
+    range-accepted =
+        range-places ns ss base (getD starts i 0) (getD ends i 0) (length values) (a .clears) (range-within .forward) (range-within .inside)
+        ∙ a .places-good

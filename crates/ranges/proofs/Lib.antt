@@ -1,0 +1,5 @@
+-- Laws of many ranges, and the proofs of the functions.
+pub mod Lists
+pub mod Codes
+pub mod Writing
+pub mod Calls

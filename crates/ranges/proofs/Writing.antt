@@ -1,0 +1,60 @@
+-- The products of many ranges, written into a buffer one after another.
+-- Assumes nothing.
+use Prim.Native.Nat.{ℕ, suc, _+_, _≤_, _<_}
+use mathlib.Core.Path.{_≡_, refl, sym, _∙_, ap}
+use mathlib.Core.List.{List, map}
+use native.Mathlib.Omega.{arith}
+use native.Mathlib.Numerals.{add-one}
+use native.Mathlib.Nat.{zero-add}
+use lib.ListN.{length, getD, set, length-map, List·getD-map}
+use lib.Seq.{paste, paste-zero, paste-suc, length-paste}
+use lib.IntN.{ℤ}
+use lib.Ieee.{Float}
+use Rattle.refusals.specs.Refusals.{bufferAfter}
+use Rattle.refusals.proofs.Buffers.{buffer-pasted}
+use Rattle.layout.specs.declared.traversal.FullTraversal.{FullTraversal}
+use Rattle.accumulator.specs.declared.StableProductFloatAcc.{StableProductFloatAcc}
+use Rattle.ranges.specs.Many.{rangesOf}
+use Rattle.ranges.specs.InnerReady.{productOver, productsOver}
+use Rattle.ranges.proofs.Lists.{length-ranges, range-at}
+
+-- what is written of them, by f: m, e or the byte
+module _ (l : FullTraversal) (base : ℤ) (values : List Float) (starts ends : List ℕ) {X : Type 0} (f : StableProductFloatAcc → X) (out : List X) where
+  abbrev all : List X
+  all = map f (productsOver l base values (rangesOf starts ends))
+
+  -- the buffer with i of them written
+  abbrev pub wrote : ℕ → List X
+  wrote i = paste out 0 all i
+
+  pub wrote-none : out ≡ wrote 0
+  wrote-none = paste-zero out 0 all
+
+  module _ (same : length starts ≡ length ends) (room : length starts ≤ length out) where
+    length-all : length all ≡ length starts
+    length-all =
+        length-map (productsOver l base values (rangesOf starts ends)) f
+        ∙ length-map (rangesOf starts ends) (productOver l base values)
+        ∙ length-ranges starts ends same
+
+    product-at : (i : ℕ) → i < length starts
+        → getD all i (f (productOver l base values (0, 0))) ≡ f (productOver l base values (getD starts i 0, getD ends i 0))
+    product-at i h =
+        List·getD-map f (productsOver l base values (rangesOf starts ends)) i (productOver l base values (0, 0))
+        ∙ ap f (List·getD-map (productOver l base values) (rangesOf starts ends) i (0, 0) ∙ ap (productOver l base values) (range-at starts ends same i h (0, 0)))
+
+    pub wrote-more : (i : ℕ) → i < length starts → (r : List X) → r ≡ wrote i → (x : X)
+        → x ≡ f (productOver l base values (getD starts i 0, getD ends i 0)) → set r i x ≡ wrote (i + 1)
+    wrote-more i h r e x q =
+        let z = f (productOver l base values (0, 0)) in
+        ap (λ (o : List X). set o i x) e
+        ∙ ap (set (wrote i) i) (q ∙ sym (product-at i h))
+        ∙ ap (λ (n : ℕ). set (wrote i) n (getD all i z)) (sym (zero-add i))
+        ∙ paste-suc out 0 all i z (rw (zero-add i) (omega arith)) (rw length-all h)
+        ∙ ap wrote (sym (add-one i))
+
+    pub length-wrote : (i : ℕ) → i ≤ length starts → (r : List X) → r ≡ wrote i → length r ≡ length out
+    length-wrote i h r e = ap length e ∙ length-paste out 0 all i (rw (zero-add i) (omega arith)) (rw length-all h)
+
+    pub wrote-all : (i : ℕ) → i ≡ length starts → (r : List X) → r ≡ wrote i → r ≡ bufferAfter 0 all out
+    wrote-all i h r e = e ∙ ap wrote (h ∙ sym length-all) ∙ buffer-pasted 0 all out refl

@@ -1,0 +1,3 @@
+-- All workers' ranges in one call. Definitions only.
+pub mod Many
+pub mod InnerReady

@@ -1,0 +1,165 @@
+// All workers' ranges in one call: every range is checked before anything is written, and the layout is compiled and tested once.
+ghost use mathlib.Core.Path.{_≡_};
+ghost use mathlib.Core.Bool.{not};
+ghost use mathlib.Core.List.{map};
+ghost use Prim.Native.Nat.{ℕ, _≤_, _<_};
+ghost use lib.ListN.{length, getD};
+ghost use Rattle.refusals.specs.Refusals.{firstOf, bufferAfter};
+ghost use Rattle.layout.specs.Axes.{PLACES};
+ghost use Rattle.layout.specs.Compile.{compileOf};
+ghost use Rattle.offsets.specs.Lists.{endRefusals, placeRefusals};
+ghost use Rattle.accumulator.specs.declared.StableProductFloatAcc.{StableProductFloatAcc};
+ghost use Rattle.ranges.specs.Many.{rangesOf, eachRefusals, unfit, badByte, manyCode, msAfter, esAfter, badsAfter};
+ghost use Rattle.ranges.specs.InnerReady.{Ready, productsOver};
+use layout::traversal::FullTraversal;
+
+// Whether the two lists are of one length, and no buffer is shorter.
+fn lists_fit(starts: usize, ends: usize, ms: usize, es: usize, bads: usize) -> bool
+    ensures { λ r. ⌜ not r ≡ unfit starts ends ms es bads ⌝ }
+{
+    if starts != ends {
+        return false;
+    }
+    if ms < starts {
+        return false;
+    }
+    if es < starts {
+        return false;
+    }
+    if bads < starts {
+        return false;
+    }
+    true
+}
+
+// Refusals 5 and 6 of a range of a layout of so many elements.
+fn end_code(total: u64, start: u64, end: u64) -> u32
+    ensures { λ r. ⌜ r ≡ firstOf (endRefusals total start end) ⌝ }
+{
+    if end <= start {
+        return refusals::EMPTY_RANGE;
+    }
+    if total < end {
+        return refusals::RANGE_PAST_END;
+    }
+    0
+}
+
+// Refusals 5 and 6 of the first faulty range.
+fn each_code(total: u64, starts: &[u64], ends: &[u64]) -> u32
+    requires { ⌜ length (now starts) ≡ length (now ends) ⌝ }
+    ensures { λ r. ⌜ r ≡ firstOf (eachRefusals total (rangesOf (now (starts .entry)) (now (ends .entry)))) ⌝ }
+{
+    let mut i: usize = 0;
+    while i < starts.len() {
+        let code = end_code(total, starts[i], ends[i]);
+        if code != 0 {
+            return code;
+        }
+        i += 1;
+    }
+    0
+}
+
+// Refusal 7 of a layout that compiling let through, with its total. Without elements none lies outside.
+fn place_code(total: u64, sizes: &[u64], strides: &[i64], base: i64, length: u64) -> u32
+    requires { ⌜ ((compileOf PLACES (now sizes) (now strides)) .code ≡ 0) × (total ≡ (compileOf PLACES (now sizes) (now strides)) .traversal .total) ⌝ }
+    ensures { λ r. ⌜ r ≡ firstOf (placeRefusals (now (sizes .entry)) (now (strides .entry)) base length) ⌝ }
+{
+    if total == 0 {
+        return 0;
+    }
+    if offsets::bounds::inside(sizes, strides, base, length) {
+        return 0;
+    }
+    refusals::ELEMENT_OUTSIDE
+}
+
+fn bad_byte(bad: bool) -> u8
+    ensures { λ r. ⌜ r ≡ badByte bad ⌝ }
+{
+    if bad { 1 } else { 0 }
+}
+
+// Each range's product in its place of the three buffers.
+fn write_products(
+    l: FullTraversal,
+    base: i64,
+    starts: &[u64],
+    ends: &[u64],
+    values: &[f64],
+    ms: &mut [f64],
+    es: &mut [i64],
+    bads: &mut [u8],
+)
+    requires { ⌜ (length (now starts) ≡ length (now ends)) × (length (now starts) ≤ length (now ms)) × (length (now starts) ≤ length (now es))
+        × (length (now starts) ≤ length (now bads))
+        × ((i : ℕ) → i < length (now starts) → Ready l base (length (now values)) (getD (now starts) i 0) (getD (now ends) i 0)) ⌝ }
+    ensures { λ _. ⌜ now (ms .exit) ≡ bufferAfter 0 (map (λ (a : StableProductFloatAcc). a .m)
+        (productsOver l base (now (values .entry)) (rangesOf (now (starts .entry)) (now (ends .entry))))) (now (ms .entry)) ⌝ }
+    ensures { λ _. ⌜ now (es .exit) ≡ bufferAfter 0 (map (λ (a : StableProductFloatAcc). a .e)
+        (productsOver l base (now (values .entry)) (rangesOf (now (starts .entry)) (now (ends .entry))))) (now (es .entry)) ⌝ }
+    ensures { λ _. ⌜ now (bads .exit) ≡ bufferAfter 0 (map (λ (a : StableProductFloatAcc). badByte (a .bad))
+        (productsOver l base (now (values .entry)) (rangesOf (now (starts .entry)) (now (ends .entry))))) (now (bads .entry)) ⌝ }
+{
+    let mut i: usize = 0;
+    while i < starts.len() {
+        let acc = reduction::full::reduce_full_range(l, base, starts[i], ends[i], values);
+        let e = acc.e;
+        ms[i] = acc.m;
+        es[i] = e;
+        bads[i] = bad_byte(acc.bad);
+        i += 1;
+    }
+}
+
+// The product of each range start to end - 1 of a layout over the lent values, in list order in the first places of three buffers; or one of refusals
+// 1 to 4, 16, then 5 and 6 range by range, then 7, with nothing written.
+pub fn reduce_ranges(
+    sizes: &[u64],
+    strides: &[i64],
+    base: i64,
+    starts: &[u64],
+    ends: &[u64],
+    values: &[f64],
+    ms: &mut [f64],
+    es: &mut [i64],
+    bads: &mut [u8],
+) -> u32
+    ensures { λ r. ⌜ r ≡ manyCode (now (sizes .entry)) (now (strides .entry)) base (now (starts .entry)) (now (ends .entry)) (now (values .entry))
+        (now (ms .entry)) (now (es .entry)) (now (bads .entry)) ⌝ }
+    ensures { λ _. ⌜ now (ms .exit) ≡ msAfter (now (sizes .entry)) (now (strides .entry)) base (now (starts .entry)) (now (ends .entry))
+        (now (values .entry)) (now (ms .entry)) (now (es .entry)) (now (bads .entry)) ⌝ }
+    ensures { λ _. ⌜ now (es .exit) ≡ esAfter (now (sizes .entry)) (now (strides .entry)) base (now (starts .entry)) (now (ends .entry))
+        (now (values .entry)) (now (ms .entry)) (now (es .entry)) (now (bads .entry)) ⌝ }
+    ensures { λ _. ⌜ now (bads .exit) ≡ badsAfter (now (sizes .entry)) (now (strides .entry)) base (now (starts .entry)) (now (ends .entry))
+        (now (values .entry)) (now (ms .entry)) (now (es .entry)) (now (bads .entry)) ⌝ }
+{
+    let compiled = FullTraversal::compile(sizes, strides);
+    if compiled.code != 0 {
+        return compiled.code;
+    }
+    if !lists_fit(starts.len(), ends.len(), ms.len(), es.len(), bads.len()) {
+        return refusals::ANSWER_BUFFER_TOO_SHORT;
+    }
+    let total = compiled.traversal.total;
+    let fault = each_code(total, starts, ends);
+    if fault != 0 {
+        return fault;
+    }
+    let outside = place_code(total, sizes, strides, base, values.len() as u64);
+    if outside != 0 {
+        return outside;
+    }
+    write_products(
+        compiled.traversal,
+        base,
+        starts,
+        ends,
+        values,
+        &mut *ms,
+        &mut *es,
+        &mut *bads,
+    );
+    0
+}
