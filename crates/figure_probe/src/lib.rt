@@ -4,7 +4,7 @@ ghost use mathlib.Core.Path.{_≡_};
 ghost use Rattle.finishing.specs.Finishing.{finalAnswerOf};
 ghost use Rattle.ordered.specs.Ranges.{orderedOf};
 ghost use Rattle.figures.specs.Figures.{figureOf};
-ghost use Rattle.figure_probe.specs.Answers.{numberCode, numberGiven};
+ghost use Rattle.handed.specs.Answers.{numberCode, numberGiven};
 use finishing::Finished;
 
 // A number into its place, and 0; or the number of a refusal, with the place as it was.

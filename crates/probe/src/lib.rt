@@ -2,7 +2,7 @@
 ghost use mathlib.Core.Path.{_≡_};
 ghost use Rattle.offsets.specs.Lists.{listCode, listBuffer};
 ghost use Rattle.reduction.specs.Ranges.{reduceOf};
-ghost use Rattle.probe.specs.Answers.{codeGiven, mGiven, eGiven, badGiven};
+ghost use Rattle.handed.specs.Answers.{codeGiven, mGiven, eGiven, badGiven};
 use accumulator::Reduced;
 
 // 0 with the accumulator in m, e and bad, or the number of a refusal with nothing written.

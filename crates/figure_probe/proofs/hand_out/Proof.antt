@@ -2,7 +2,7 @@
 use mathlib.Core.Path.{sym, ap}
 use borrow.Author.Needs.{needs}
 use Rattle.finishing.specs.Finishing.{finalAnswerOf}
-use Rattle.figure_probe.specs.Answers.{numberCode, numberGiven}
+use Rattle.handed.specs.Answers.{numberCode, numberGiven}
 use Rattle.figure_probe.proofs.hand_out.Statement.{statement}
 use Rattle.figure_probe.proofs.hand_out.Tie as tie
 

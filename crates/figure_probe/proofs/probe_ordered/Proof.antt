@@ -4,7 +4,7 @@ use mir.Facts.{toZ-ofZ}
 use borrow.Author.Needs.{needs}
 use Rattle.finishing.specs.Finishing.{finalAnswerOf}
 use Rattle.ordered.specs.Ranges.{orderedOf}
-use Rattle.figure_probe.specs.Answers.{numberCode, numberGiven}
+use Rattle.handed.specs.Answers.{numberCode, numberGiven}
 use Rattle.figure_probe.proofs.probe_ordered.Statement.{statement}
 use Rattle.figure_probe.proofs.probe_ordered.Tie as tie
 

@@ -6,7 +6,7 @@ use mir.Syntax.{w64}
 use borrow.Author.Needs.{needs}
 use Rattle.accumulator.specs.Joining.{answerOf}
 use Rattle.reduction.specs.Ranges.{reduceOf}
-use Rattle.probe.specs.Answers.{codeGiven, mGiven, eGiven, badGiven}
+use Rattle.handed.specs.Answers.{codeGiven, mGiven, eGiven, badGiven}
 use Rattle.probe.proofs.probe_reduce.Statement.{statement}
 use Rattle.probe.proofs.probe_reduce.Tie as tie
 use Rattle.probe.proofs.probe_reduce.Reads as reads

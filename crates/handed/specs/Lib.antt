@@ -1,0 +1,3 @@
+-- What the static libraries hand out. Definitions only.
+pub mod Answers
+pub mod Cases

@@ -1,0 +1,1 @@
+// What the static libraries hand out of an answer: definitions alone, in specs.
