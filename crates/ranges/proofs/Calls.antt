@@ -12,9 +12,10 @@ use Rattle.layout.specs.Axes.{PLACES}
 use Rattle.layout.specs.Compile.{compileOf}
 use Rattle.offsets.proofs.Checked.{accepted-range}
 use Rattle.accumulator.specs.declared.StableProductFloatAcc.{StableProductFloatAcc}
-use Rattle.ranges.specs.Many.{rangesOf, badByte, manyCode, products, msAfter, esAfter, badsAfter}
+use Rattle.ranges.specs.Many.{rangesOf, manyCode, products, msAfter, esAfter, badsAfter}
 use Rattle.ranges.specs.InnerReady.{Ready, productsOver}
 use Rattle.ranges.proofs.Codes.{Accepted, range-accepted}
+use Rattle.ranges.proofs.Writing.{mOf, eOf, byteOf}
 
 module _ (ns : List ℕ) (ss : List ℤ) (base : ℤ) (starts ends : List ℕ) (values ms : List Float) (es : List ℤ) (bads : List ℕ) where
   abbrev code : ℕ
@@ -34,7 +35,7 @@ module _ (ns : List ℕ) (ss : List ℤ) (base : ℤ) (starts ends : List ℕ) (
   unfolding msAfter esAfter badsAfter
   told-refused r e n =
       let k : code ≡ 0 → ⊥ = λ z. n (e ∙ z) in
-      (e, (buffer-kept code (map (λ (a : StableProductFloatAcc). a .m) all) ms k, (buffer-kept code (map (λ (a : StableProductFloatAcc). a .e) all) es k, buffer-kept code (map (λ (a : StableProductFloatAcc). badByte (a .bad)) all) bads k)))
+      (e, (buffer-kept code (map mOf all) ms k, (buffer-kept code (map eOf all) es k, buffer-kept code (map byteOf all) bads k)))
 
   -- over any layout that is the compiled one
   module _ (l : FullTraversal) (is : l ≡ (compileOf PLACES ns ss) .traversal) where
@@ -45,13 +46,13 @@ module _ (ns : List ℕ) (ss : List ℤ) (base : ℤ) (starts ends : List ℕ) (
         ∙ ap (λ (n : ℕ). bufferAfter n (map f all) out) e
 
     pub told-accepted : 0 ≡ code → (m : List Float) (e : List ℤ) (b : List ℕ)
-        → m ≡ bufferAfter 0 (map (λ (a : StableProductFloatAcc). a .m) (productsOver l base values (rangesOf starts ends))) ms
-        → e ≡ bufferAfter 0 (map (λ (a : StableProductFloatAcc). a .e) (productsOver l base values (rangesOf starts ends))) es
-        → b ≡ bufferAfter 0 (map (λ (a : StableProductFloatAcc). badByte (a .bad)) (productsOver l base values (rangesOf starts ends))) bads
+        → m ≡ bufferAfter 0 (map mOf (productsOver l base values (rangesOf starts ends))) ms
+        → e ≡ bufferAfter 0 (map eOf (productsOver l base values (rangesOf starts ends))) es
+        → b ≡ bufferAfter 0 (map byteOf (productsOver l base values (rangesOf starts ends))) bads
         → Told 0 m e b
     unfolding msAfter esAfter badsAfter
     told-accepted z m e b p q r =
-        (z, (p ∙ over (λ (a : StableProductFloatAcc). a .m) ms z, (q ∙ over (λ (a : StableProductFloatAcc). a .e) es z, r ∙ over (λ (a : StableProductFloatAcc). badByte (a .bad)) bads z)))
+        (z, (p ∙ over mOf ms z, (q ∙ over eOf es z, r ∙ over byteOf bads z)))
 
     -- each range of an accepted call can be reduced
     pub ready : Accepted ns ss base starts ends values ms es bads → (i : ℕ) → i < length starts → Ready l base (length values) (getD starts i 0) (getD ends i 0)

@@ -8,6 +8,12 @@ use lib.ListN.{length, getD, drop}
 use lib.Seq.{drop-cons}
 use Rattle.ranges.specs.Many.{rangesOf}
 
+-- what stands in for a value that is not there does not matter where there is one
+pub at-any : {X : Type 0} (xs : List X) (i : ℕ) → i < length xs → (c d : X) → getD xs i c ≡ getD xs i d
+at-any [] i h c d = absurd (omega arith)
+at-any (x ∷ xs) zero h c d = refl
+at-any (x ∷ xs) (suc i) h c d = at-any xs i (omega arith) c d
+
 pub length-ranges : (ss ns : List ℕ) → length ss ≡ length ns → length (rangesOf ss ns) ≡ length ss
 unfolding rangesOf
 length-ranges [] ns e = refl

@@ -14,11 +14,21 @@ use Rattle.refusals.specs.Refusals.{bufferAfter}
 use Rattle.refusals.proofs.Buffers.{buffer-pasted}
 use Rattle.layout.specs.declared.traversal.FullTraversal.{FullTraversal}
 use Rattle.accumulator.specs.declared.StableProductFloatAcc.{StableProductFloatAcc}
-use Rattle.ranges.specs.Many.{rangesOf}
+use Rattle.ranges.specs.Many.{rangesOf, badByte}
 use Rattle.ranges.specs.InnerReady.{productOver, productsOver}
 use Rattle.ranges.proofs.Lists.{length-ranges, range-at}
 
--- what is written of them, by f: m, e or the byte
+-- what is written of a product
+abbrev pub mOf : StableProductFloatAcc → Float
+mOf a = a .m
+
+abbrev pub eOf : StableProductFloatAcc → ℤ
+eOf a = a .e
+
+abbrev pub byteOf : StableProductFloatAcc → ℕ
+byteOf a = badByte (a .bad)
+
+-- what is written of them all, by one of these
 module _ (l : FullTraversal) (base : ℤ) (values : List Float) (starts ends : List ℕ) {X : Type 0} (f : StableProductFloatAcc → X) (out : List X) where
   abbrev all : List X
   all = map f (productsOver l base values (rangesOf starts ends))

@@ -103,7 +103,7 @@ fn write_products(
         (productsOver l base (now (values .entry)) (rangesOf (now (starts .entry)) (now (ends .entry))))) (now (bads .entry)) ⌝ }
 {
     let mut i: usize = 0;
-    while i < starts.len() {
+    while i < ends.len() {
         let acc = reduction::full::reduce_full_range(l, base, starts[i], ends[i], values);
         let e = acc.e;
         ms[i] = acc.m;

@@ -1,12 +1,12 @@
 -- A buffer after a call that has xs to write, by its code.
 -- Assumes nothing.
-use Prim.Native.Nat.{ℕ, _+_, _≤_}
+use Prim.Native.Nat.{ℕ, _+_, _≤_, _<_}
 use mathlib.Core.Path.{_≡_, sym, _∙_, ap}
 use mathlib.Core.Bool.{Bool, cond}
 use mathlib.Core.List.{List, _++_}
 use native.Mathlib.Nat.{zero-add}
-use lib.ListN.{length, drop}
-use lib.Seq.{sets, sets-eq, paste, take-length}
+use lib.ListN.{length, getD, take, drop}
+use lib.Seq.{sets, sets-eq, paste, take-length, take-append-seam, getD-take}
 use borrow.Author.Tests.{eq-eqb, ne-eqb}
 use Rattle.refusals.specs.Refusals.{bufferAfter}
 
@@ -33,3 +33,10 @@ module _ {X : Type 0} (code : ℕ) (xs out : List X) where
     pub buffer-pasted : paste out 0 xs (length xs) ≡ bufferAfter code xs out
     buffer-pasted =
         ap (λ (ys : List X). ys ++ drop (0 + length xs) out) (take-length xs) ∙ ap (λ (n : ℕ). xs ++ drop n out) (zero-add (length xs)) ∙ buffer-filled
+
+    -- what stands in its first places
+    pub buffer-first : take (length xs) (bufferAfter code xs out) ≡ xs
+    buffer-first = ap (take (length xs)) (sym buffer-filled) ∙ take-append-seam xs (drop (length xs) out)
+
+    pub buffer-at : (i : ℕ) → i < length xs → (d : X) → getD (bufferAfter code xs out) i d ≡ getD xs i d
+    buffer-at i h d = sym (getD-take (length xs) (bufferAfter code xs out) i d h) ∙ ap (λ (ys : List X). getD ys i d) buffer-first

@@ -3,28 +3,14 @@ use Prim.Native.Nat.{ℕ, _+_, _-_, _*_, _^_, _≤_, _<_}
 use mathlib.Core.Path.{_≡_, refl, _∙_, ap}
 use native.Mathlib.Omega.{arith}
 use lib.ListN.{length, getD}
-use lib.IntN.{ℤ}
-use lib.Ieee.{Float}
 use mir.Val.{toZ, ofZ, SFits}
 use mir.Facts.{toZ-ofZ}
 use mir.Syntax.{w64}
-use Rattle.accumulator.specs.declared.StableProductFloatAcc.{StableProductFloatAcc}
-use Rattle.ranges.specs.Many.{badByte}
 use Rattle.ranges.specs.InnerReady.{productOver}
-use Rattle.ranges.proofs.Writing.{wrote, wrote-more, length-wrote, wrote-all}
+use Rattle.ranges.proofs.Writing.{mOf, eOf, byteOf, wrote, wrote-more, length-wrote, wrote-all}
 use borrow.Author.Needs.{needs}
 use Rattle.ranges.proofs.write_products.Statement.{statement}
 use Rattle.ranges.proofs.write_products.Tie as tie
-
--- what is written of a product
-abbrev mOf : StableProductFloatAcc → Float
-mOf a = a .m
-
-abbrev eOf : StableProductFloatAcc → ℤ
-eOf a = a .e
-
-abbrev byteOf : StableProductFloatAcc → ℕ
-byteOf a = badByte (a .bad)
 
 abbrev Inv-loop : tie.InvT-loop
 Inv-loop l base starts ends values ms₀ es₀ bads₀ i₀ ms es bads i =
@@ -44,7 +30,7 @@ entry k = k .before .before .before .before .before .before
 
 -- the place lies in both lists, and their bytes are numbered
 below : (c : tie.In-loop Inv-loop μ-loop) → c .before .loop .i < length (entry (c .before) .args .starts .now)
-below c = c .loop-test .taken
+below c = omega (arith, entry (c .before) .pre .0, c .loop-test .taken)
 
 numbered : (c : tie.In-loop Inv-loop μ-loop) → c .before .loop .i * 8 + 8 ≤ 2 ^ 63
 numbered c = omega (arith, below c, entry (c .before) .good .0 .1)
@@ -144,7 +130,7 @@ returns : tie.Need-returns Inv-loop μ-loop
 returns c =
     let k = c .before in
     let s = entry k in
-    let all : k .loop .i ≡ length (s .args .starts .now) = omega (arith, k .loop .inv .0, c .loop-test .left) in
+    let all : k .loop .i ≡ length (s .args .starts .now) = omega (arith, s .pre .0, k .loop .inv .0, c .loop-test .left) in
     let m = wrote-all _ _ _ _ _ mOf (s .args .ms .now) (s .pre .0) (s .pre .1) (k .loop .i) all _ (k .loop .inv .1) in
     let e = wrote-all _ _ _ _ _ eOf (s .args .es .now) (s .pre .0) (s .pre .2) (k .loop .i) all _ (k .loop .inv .2) in
     let b = wrote-all _ _ _ _ _ byteOf (s .args .bads .now) (s .pre .0) (s .pre .3) (k .loop .i) all _ (k .loop .inv .3) in

@@ -1,0 +1,35 @@
+-- The tables of cases hold of the definitions. Assumes nothing.
+use mathlib.Core.Path.{refl}
+use lib.Ieee.{size, odd, toBits, isNan}
+use Rattle.integers.specs.Integers.{fitsI64, eqZ}
+use Rattle.layout.specs.Axes.{span, axisOf, resetFits, placesOf}
+use Rattle.layout.specs.Order.{keptAxes, rank, precedes, insertAxis, orderFrom, axesOf, resetsFit}
+use Rattle.layout.specs.Fuse.{reach, joinOf, fuseFrom, fuse}
+use Rattle.refusals.specs.Refusals.{firstOf}
+use Rattle.layout.specs.Compile.{totalFrom, totalOf, fusedOf, layoutOf, emptyLayout, traversalAt, traversalOf}
+use Rattle.layout.specs.Compile.{overflows, aboveMost, compileRefusals, layoutBeside, compileOf}
+use Rattle.offsets.specs.Elements.{digits, shift, offset, insideValues, everyBelow, allInside}
+use Rattle.offsets.specs.Pieces.{runOf, outerOf}
+use Rattle.offsets.specs.Lists.{totalIn, rangeRefusals, rangeCode, offsetsFrom}
+use Rattle.floats.specs.Rounding.{delivered, rounded}
+use Rattle.floats.specs.Product.{product}
+use Rattle.floats.specs.Fields.{ofParts, valueOf, badBits}
+use Rattle.floats.specs.Magnitude.{inUnit, twoOrMore}
+use Rattle.floats.specs.Splitting.{isBad, split}
+use Rattle.accumulator.specs.Joining.{multiplied, combined, inLimits, answered, joined}
+use Rattle.kernels.specs.Lanes as lanes
+use Rattle.kernels.specs.Blocks as blocks
+use Rattle.kernels.specs.Pieces.{joinedPieces}
+use Rattle.reduction.specs.Ranges.{piecesFrom, reduceOf}
+use Rattle.ranges.specs.Many.{rangesOf, eachRefusals, manyCode, msAfter, esAfter, badsAfter}
+use Rattle.ranges.specs.Cases.{WrittenTable, RankTable, JoiningTable}
+
+pub many-tables : WrittenTable × RankTable × JoiningTable
+unfolding fitsI64 eqZ span axisOf resetFits placesOf keptAxes rank precedes insertAxis orderFrom axesOf resetsFit reach joinOf fuseFrom fuse totalFrom
+    totalOf fusedOf layoutOf emptyLayout traversalAt traversalOf firstOf overflows aboveMost compileRefusals layoutBeside compileOf digits shift
+    offset insideValues everyBelow allInside totalIn rangeRefusals rangeCode offsetsFrom runOf outerOf piecesFrom reduceOf joinedPieces
+    blocks.contiguous blocks.blocks blocks.block blocks.unsplit blocks.renorm blocks.renormLane lanes.inOrder lanes.feed blocks.splitStep
+    blocks.unsplitStep blocks.inRange lanes.every lanes.some blocks.laneIn blocks.lanesIn split toBits valueOf ofParts delivered isBad badBits product
+    rounded size odd isNan combined multiplied twoOrMore inUnit inLimits answered joined rangesOf eachRefusals manyCode msAfter esAfter badsAfter
+many-tables =
+    (((refl, refl, refl, refl), (refl, refl, refl, refl), (refl, refl, refl, refl), (refl, refl, refl, refl), (refl, refl, refl, refl)), ((refl, refl, refl, refl), (refl, refl, refl, refl), (refl, refl, refl, refl), (refl, refl, refl, refl), (refl, refl, refl, refl), (refl, refl, refl, refl), (refl, refl, refl, refl), (refl, refl, refl, refl), (refl, refl, refl, refl)), (refl, refl))
