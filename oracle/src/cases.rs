@@ -1,15 +1,17 @@
 //! Ours: the lines of a case file and their answers.
 
 use crate::erased::calls::{Acc, Layout};
+use crate::generate::items_text;
 use crate::jobs::{self, Job};
+use crate::ranges::{self, Buffers, Ranges};
 use crate::rules::{self, BadRate, Range};
 use crate::steps::{self, Bookmark, StepResult};
 use crate::words::Words;
-use std::fmt::Display;
 use std::io::{Read, Result, Write};
 
 const MOST_LINE: usize = 128 * 1024;
 const MOST_AXES_GIVEN: u64 = 32;
+const MOST_RANGES: u64 = 4096;
 const MOST_VALUES: u64 = 4096;
 const MOST_PLACES: u64 = 4096;
 const MOST_BYTES: u64 = 4096;
@@ -47,6 +49,7 @@ fn answer(line: &[u8]) -> Option<String> {
         b"figure" => Some(number_text(over_range(words, rules::figure)?)),
         b"first" => Some(first_text(over_range(words, rules::first_bad_rate)?)),
         b"step" => step(words),
+        b"ranges" => reduce_ranges(words),
         b"join" => join(words),
         b"finish" => finish(words),
         b"read" => read_job(words),
@@ -95,15 +98,6 @@ fn list(mut words: Words) -> Option<String> {
     Some(format!("list {code}{}", items_text(&buffer)))
 }
 
-/// A list: its count and its items, with a space before each word.
-fn items_text<T: Display>(items: &[T]) -> String {
-    let mut text = format!(" {}", items.len());
-    for item in items {
-        text += &format!(" {item}");
-    }
-    text
-}
-
 /// A base, a range and its values.
 fn range_and_values(words: &mut Words) -> Option<(Range, Vec<f64>)> {
     let base = words.i64()?;
@@ -127,6 +121,22 @@ fn step(mut words: Words) -> Option<String> {
     let most = words.u64()?;
     words.end()?;
     Some(step_text(steps::step(&sizes, &strides, &range, &values, &from, most)))
+}
+
+fn reduce_ranges(mut words: Words) -> Option<String> {
+    let (sizes, strides) = axes(&mut words)?;
+    let base = words.i64()?;
+    let starts = words.list(MOST_RANGES, Words::u64)?;
+    let ends = words.list(MOST_RANGES, Words::u64)?;
+    let values = words.list(MOST_VALUES, Words::f64)?;
+    let mut out = Buffers {
+        ms: words.list(MOST_PLACES, Words::f64)?,
+        es: words.list(MOST_PLACES, Words::i64)?,
+        bads: words.list(MOST_PLACES, Words::byte)?,
+    };
+    words.end()?;
+    let code = ranges::reduce_ranges(&sizes, &strides, base, &Ranges { starts, ends }, &values, &mut out);
+    Some(format!("ranges {code}{}", out.text()))
 }
 
 fn acc(words: &mut Words) -> Option<Acc> {

@@ -2,7 +2,7 @@
 //!
 //! A kind names what is drawn: `layout` gives lines of `compile` and `list`, `join` of `join`, `reduce` of `reduce`
 //! and `product`, `ordered` of `ordered` and `figure`, `first` of `first`, `finish` of `finish`, `jobs` of `write` and
-//! `read`, `step` of `step`.
+//! `read`, `step` of `step`, `ranges` of `ranges`.
 
 mod accumulator;
 mod axes;
@@ -12,10 +12,12 @@ pub mod jobs;
 mod join;
 mod layout;
 pub mod ordered;
+pub mod ranges;
 mod rates;
 pub mod reduce;
 pub mod step;
 
+use std::fmt::Display;
 use std::io::{Result, Write};
 
 /// Draws one line, or several that belong together, with a newline between them.
@@ -31,6 +33,7 @@ pub fn maker(kind: &str) -> Option<Maker> {
         "finish" => Some(finish::line),
         "jobs" => Some(jobs::line),
         "step" => Some(step::lines),
+        "ranges" => Some(ranges::line),
         _ => None,
     }
 }
@@ -47,6 +50,21 @@ pub fn print(make: Maker, seed: u64, count: u64) -> Result<()> {
         }
     }
     output.flush()
+}
+
+/// A list as it stands in a line: its count and its items, with a space before each word.
+pub fn items_text<T: Display>(items: &[T]) -> String {
+    let mut text = format!(" {}", items.len());
+    for item in items {
+        text += &format!(" {item}");
+    }
+    text
+}
+
+/// A list of floats, which are given by their bits.
+pub fn floats_text(floats: &[u64]) -> String {
+    let words: Vec<String> = floats.iter().map(|bits| format!("{bits:016x}")).collect();
+    items_text(&words)
 }
 
 /// A counter whose value is mixed at each draw (splitmix64).

@@ -17,6 +17,7 @@ mod error;
 mod generate;
 mod inline;
 mod jobs;
+mod ranges;
 mod rules;
 mod simd;
 mod steps;

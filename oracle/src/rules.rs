@@ -50,19 +50,34 @@ pub fn ends(sizes: &[u64], strides: &[i64], base: i64) -> (i128, i128) {
     (low, high)
 }
 
+/// Refusals 5 and 6 of a range over so many elements.
+pub fn within(total: u64, start: u64, end: u64) -> Result<(), u32> {
+    if start >= end {
+        return Err(5);
+    }
+    if end > total {
+        return Err(6);
+    }
+    Ok(())
+}
+
+/// Refusal 7 of a compiled layout over so many values. One without elements never gives it.
+pub fn inside(layout: &Layout, sizes: &[u64], strides: &[i64], base: i64, length: u64) -> Result<(), u32> {
+    if layout.total == 0 {
+        return Ok(());
+    }
+    let (low, high) = ends(sizes, strides, base);
+    if low < 0 || high > i128::from(i64::MAX) || high >= i128::from(length) {
+        return Err(7);
+    }
+    Ok(())
+}
+
 /// Refusals 1 to 7.
 pub fn range(sizes: &[u64], strides: &[i64], r: &Range) -> Result<Layout, u32> {
     let layout = compile(sizes, strides)?;
-    if r.start >= r.end {
-        return Err(5);
-    }
-    if r.end > layout.total {
-        return Err(6);
-    }
-    let (low, high) = ends(sizes, strides, r.base);
-    if low < 0 || high > i128::from(i64::MAX) || high >= i128::from(r.length) {
-        return Err(7);
-    }
+    within(layout.total, r.start, r.end)?;
+    inside(&layout, sizes, strides, r.base, r.length)?;
     Ok(layout)
 }
 

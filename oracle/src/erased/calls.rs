@@ -92,7 +92,8 @@ impl Plan {
 }
 
 impl Answer {
-    /// Joined with what comes behind it. The exponents are small enough.
+    /// Joined with what comes behind it. The exponents are small enough. Only the benchmark asks for it.
+    #[allow(dead_code)]
     pub fn then(self, right: Answer) -> Answer {
         Answer(f64::sp_combine(self.0, right.0))
     }

@@ -1,6 +1,6 @@
 //! Ours: random axes and ranges, shared by every kind of line that has a layout.
 
-use super::Dice;
+use super::{items_text, Dice};
 use crate::rules;
 
 pub struct Axes {
@@ -16,15 +16,7 @@ impl Axes {
 
     /// Both lists, each with its count, and a space before each word.
     pub fn text(&self) -> String {
-        let mut text = format!(" {}", self.sizes.len());
-        for size in &self.sizes {
-            text += &format!(" {size}");
-        }
-        text += &format!(" {}", self.strides.len());
-        for stride in &self.strides {
-            text += &format!(" {stride}");
-        }
-        text
+        items_text(&self.sizes) + &items_text(&self.strides)
     }
 }
 

@@ -4,7 +4,7 @@
 //! refused at their first word.
 
 use super::axes::Axes;
-use super::Dice;
+use super::{items_text, Dice};
 use crate::jobs::{self, Job, BASE, END, FINISH, MORE, NEXT, PAYLOAD_BITS, SIZE, STRIDE, WORD_BYTES};
 use crate::rules::MOST_AXES;
 use std::ops::RangeInclusive;
@@ -25,16 +25,8 @@ pub fn line(dice: &mut Dice) -> String {
     if dice.once_in(3) {
         write_line(dice)
     } else {
-        format!("read{}", bytes_text(&to_read(dice)))
+        format!("read{}", items_text(&to_read(dice)))
     }
-}
-
-fn bytes_text(bytes: &[u8]) -> String {
-    let mut text = format!(" {}", bytes.len());
-    for byte in bytes {
-        text += &format!(" {byte}");
-    }
-    text
 }
 
 fn unsigned(dice: &mut Dice) -> u64 {
@@ -62,7 +54,7 @@ pub fn drawn(dice: &mut Dice, axes: usize, number: fn(&mut Dice) -> u64) -> Job 
 fn write_line(dice: &mut Dice) -> String {
     let (job, buffer) = to_write(dice);
     let axes = Axes { sizes: job.sizes, strides: job.strides };
-    format!("write{} {} {} {}{}", axes.text(), job.base, job.start, job.end, bytes_text(&buffer))
+    format!("write{} {} {} {}{}", axes.text(), job.base, job.start, job.end, items_text(&buffer))
 }
 
 /// A job, and the buffer that it is written into.

@@ -1,7 +1,7 @@
 //! Ours: random lines of `compile` and of `list`.
 
 use super::axes::{self, Axes};
-use super::Dice;
+use super::{items_text, Dice};
 use crate::rules;
 
 pub fn line(dice: &mut Dice) -> String {
@@ -41,11 +41,7 @@ fn list_line(dice: &mut Dice) -> String {
     let (start, end) = axes::range(dice, total);
     let (base, length) = fit(dice, &axes);
     let buffer = buffer(dice, end.saturating_sub(start));
-    let mut text = format!("list{} {base} {start} {end} {length} {}", axes.text(), buffer.len());
-    for place in buffer {
-        text += &format!(" {place}");
-    }
-    text
+    format!("list{} {base} {start} {end} {length}{}", axes.text(), items_text(&buffer))
 }
 
 /// A base and a length by which the layout fits exactly, with room, or not by one.

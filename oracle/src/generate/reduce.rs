@@ -4,7 +4,7 @@
 //! tail. Ranges begin and end anywhere, so that many do so inside a run.
 
 use super::axes::{self, Axes};
-use super::{rates, Dice};
+use super::{floats_text, rates, Dice};
 use crate::rules::{self, Range};
 
 /// The most values that a layout of `reduce` or of `ordered` takes.
@@ -16,7 +16,7 @@ pub const LINE_VALUES: i128 = 4096;
 const BLOCK: u64 = 64;
 
 /// No range that is accepted visits more elements: a layout with stride 0 may have 2^40 of them.
-const MOST_VISITED: u64 = 5000;
+pub const MOST_VISITED: u64 = 5000;
 
 pub fn line(dice: &mut Dice) -> String {
     Call::drawn(dice).text()
@@ -171,12 +171,8 @@ impl Call {
     }
 
     pub fn text(&self) -> String {
-        let Range { base, start, end, length } = &self.range;
-        let mut text = format!("{}{} {base} {start} {end} {length}", self.word, self.axes.text());
-        for value in &self.values {
-            text += &format!(" {value:016x}");
-        }
-        text
+        let Range { base, start, end, .. } = &self.range;
+        format!("{}{} {base} {start} {end}{}", self.word, self.axes.text(), floats_text(&self.values))
     }
 
     /// The values themselves.

@@ -94,7 +94,7 @@ fn drawn_call(dice: &mut Dice) -> Call {
 }
 
 /// One outer axis or several, with a gap or without, forwards or backwards, in any order.
-fn short_runs(dice: &mut Dice) -> Axes {
+pub fn short_runs(dice: &mut Dice) -> Axes {
     let most = dice.of(&[1, 2, 4, 9, 20]);
     let length = 2 + dice.below(most);
     let stride: i64 = dice.of(&[1, 1, 1, 2, -1, -3]);
@@ -118,7 +118,7 @@ fn many_runs(dice: &mut Dice) -> Axes {
     Axes { sizes: vec![times, length], strides: vec![0, dice.of(&[1, 2, -1])] }
 }
 
-fn no_elements(dice: &mut Dice) -> Axes {
+pub fn no_elements(dice: &mut Dice) -> Axes {
     let mut axes = short_runs(dice);
     let place = dice.below(axes.sizes.len() as u64) as usize;
     axes.sizes[place] = 0;

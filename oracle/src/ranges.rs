@@ -1,0 +1,73 @@
+//! Ours: the ranges of several workers in one call. The source has no such call. Each range is reduced here by itself,
+//! by the source's loop over the layout, which is compiled once.
+
+use crate::erased::calls::{self, Layout};
+use crate::generate::{floats_text, items_text};
+use crate::rules;
+
+/// Worker i has the elements from start i to end i. Both lists should have one length.
+pub struct Ranges {
+    pub starts: Vec<u64>,
+    pub ends: Vec<u64>,
+}
+
+/// What a call fills: place i of each has the accumulator of range i. The mark is a byte, 0 or 1.
+#[derive(Clone)]
+pub struct Buffers {
+    pub ms: Vec<f64>,
+    pub es: Vec<i64>,
+    pub bads: Vec<u8>,
+}
+
+impl Buffers {
+    /// The three lists as they stand in a line and in its answer.
+    pub fn text(&self) -> String {
+        let ms: Vec<u64> = self.ms.iter().map(|m| m.to_bits()).collect();
+        floats_text(&ms) + &items_text(&self.es) + &items_text(&self.bads)
+    }
+}
+
+/// The refusal, and then nothing is written; or 0, with the accumulators in the first places.
+pub fn reduce_ranges(
+    sizes: &[u64],
+    strides: &[i64],
+    base: i64,
+    ranges: &Ranges,
+    values: &[f64],
+    out: &mut Buffers,
+) -> u32 {
+    let layout = match accepted(sizes, strides, base, ranges, values.len() as u64, out) {
+        Ok(layout) => layout,
+        Err(code) => return code,
+    };
+    // Without elements no range is accepted, so the source is asked nothing then.
+    for (place, (&start, &end)) in ranges.starts.iter().zip(&ranges.ends).enumerate() {
+        let acc = calls::product(&layout, base, (start, end), values);
+        out.ms[place] = acc.m;
+        out.es[place] = acc.e;
+        out.bads[place] = u8::from(acc.bad);
+    }
+    0
+}
+
+/// Refusals 1 to 4, then 16, then 5 and 6 of each range in turn, then 7, which is asked without any range too.
+fn accepted(
+    sizes: &[u64],
+    strides: &[i64],
+    base: i64,
+    ranges: &Ranges,
+    length: u64,
+    out: &Buffers,
+) -> Result<Layout, u32> {
+    let layout = rules::compile(sizes, strides)?;
+    let count = ranges.starts.len();
+    let shortest = out.ms.len().min(out.es.len()).min(out.bads.len());
+    if ranges.ends.len() != count || shortest < count {
+        return Err(16);
+    }
+    for (&start, &end) in ranges.starts.iter().zip(&ranges.ends) {
+        rules::within(layout.total, start, end)?;
+    }
+    rules::inside(&layout, sizes, strides, base, length)?;
+    Ok(layout)
+}
