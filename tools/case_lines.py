@@ -19,6 +19,7 @@ WRONG_FLOATS = ["", "ff8000000000000", "3ff80000000000000", "3FF8000000000000", 
 WRONG_FLOATS += ["1.5", *("3ff800000000000" + byte for byte in "g/:`")]
 WRONG_SIGNED = ["", "+1", "-0", "01", "1.0", str(MOST + 1), str(LEAST - 1), "3ff8000000000000"]
 WRONG_UNSIGNED = ["", "+1", "-1", "01", "1.0", str(2**64), "x"]
+WRONG_BYTES = [*WRONG_UNSIGNED, "-0", "00", "256", "1000"]
 WRONG_MARKS = ["", "2", "00", "01", "-0", "true", str(2**64)]
 OUT = []
 # The list calls so far, for the reductions over the same layouts.
@@ -35,6 +36,11 @@ def items(numbers):
 
 def floats(values):
     return " ".join([str(len(values)), *(f"{value:016x}" for value in values)])
+
+
+def needed(sizes, strides, base):
+    """How many values a layout needs whose elements all lie at 0 or above."""
+    return base + 1 + sum((size - 1) * max(stride, 0) for size, stride in zip(sizes, strides))
 
 
 def compile_(sizes, strides):

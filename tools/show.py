@@ -15,8 +15,9 @@ import sys
 from show_faults import ANSWERS, OVER_VALUES, fault_of, shown_line
 
 REFUSALS = os.path.join(os.path.dirname(os.path.abspath(__file__)), "..", "crates", "refusals", "src", "lib.rt")
-# How many of a case's values are shown, and how many words of a job.
+# How many of a case's values are shown, how many of its ranges, and how many words of a job.
 FEW = 4
+FEW_RANGES = 16
 JOB_WORDS = 16
 # The calls over a range that multiply bad rates as IEEE 754 does.
 WITH_BAD_RATES = ("ordered", "figure")
@@ -88,6 +89,29 @@ def shown_step(words):
     return f"{layout}, {shown_values(rest)}; from element {next_}{begins}, at most {count} of the pieces"
 
 
+def take_lists(words, count):
+    """So many lists, and the words after them."""
+    lists = []
+    for _ in range(count):
+        items, words = take_list(words)
+        lists.append(items)
+    return lists, words
+
+
+def shown_ranges(words):
+    """A layout and a base, the ranges, or both lists where they are no pairs, the values, and how long the buffers are."""
+    layout, (base, *rest) = shown_layout(words)
+    (starts, ends), rest = take_lists(rest, 2)
+    pairs = [f"{start} to {end}" for start, end in zip(starts, ends)]
+    text = f"ranges {', '.join(pairs[:FEW_RANGES])} (ends not included)" if pairs else "no range"
+    text += f" .. and {len(pairs) - FEW_RANGES} more" if len(pairs) > FEW_RANGES else ""
+    if len(starts) != len(ends):
+        text = f"{len(starts)} starts and {len(ends)} ends"
+    buffers = take_lists(rest, 4)[0][1:]
+    lengths = ", ".join(str(len(buffer)) for buffer in buffers)
+    return f"{layout}, base {base}, {text}, {shown_values(rest)}, buffers of {lengths} for m, e, bad"
+
+
 def shown_case(words, refusals):
     call = words[0]
     if call == "compile":
@@ -102,6 +126,8 @@ def shown_case(words, refusals):
         return f"write: {layout}, a buffer of {rest[0]} bytes"
     if call == "step":
         return "step: " + shown_step(words[1:])
+    if call == "ranges":
+        return "ranges: " + shown_ranges(words[1:])
     if call in OVER_VALUES:
         layout, rest = shown_range(words[1:])
         return f"{call}: {layout}, {shown_values(rest)}"
@@ -194,6 +220,14 @@ def shown_bad(case, element, offset):
     return f"the first bad rate is element {element}, at offset {offset}: {what}"
 
 
+def shown_accs(case, words):
+    """Each range with its accumulator; what the buffers have behind them is not the call's."""
+    (starts, ends), _ = take_lists(shown_layout(case[1:])[1][1:], 2)
+    accs = zip(*take_lists(words, 3)[0])
+    text = "; ".join(f"{start} to {end}: {shown_acc(acc)}" for start, end, acc in zip(starts, ends, accs))
+    return text or "accepted, with nothing to write"
+
+
 def shown_job(words):
     """What was read: the places past the axes are left out."""
     count, numbers = words[0], words[1:]
@@ -203,7 +237,7 @@ def shown_job(words):
 
 def shown_answer(case, words, refusals):
     kind, call = words[0], case[0]
-    if kind == "refused" or (kind in ("compile", "list", "job", "write") and words[1] != "0"):
+    if kind == "refused" or (kind in ("compile", "list", "job", "write", "ranges") and words[1] != "0"):
         return shown_refusal(words[1], refusals)
     if kind == "job":
         return shown_job(words[2:])
@@ -213,6 +247,8 @@ def shown_answer(case, words, refusals):
         return f"{words[2]} elements, runs of {words[3]} by {words[4]}, {shown_axes(words[5:])}"
     if kind == "list":
         return shown_offsets(case, words[2:])
+    if kind == "ranges":
+        return shown_accs(case, words[2:])
     if kind == "bad":
         return shown_bad(case, *words[1:])
     if kind == "none":

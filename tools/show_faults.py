@@ -27,9 +27,10 @@ ANSWERS = {
     "read": ("job",),
     "write": ("write",),
     "step": ("done", "more", "refused"),
+    "ranges": ("ranges",),
 }
-# The calls over a range with its values. Behind these `step` has more.
-OVER_VALUES = ("reduce", "product", "ordered", "figure", "first", "step")
+# The calls over a range with its values, or over several. Behind these `step` and `ranges` have more.
+OVER_VALUES = ("reduce", "product", "ordered", "figure", "first", "step", "ranges")
 
 
 class Fault(Exception):
@@ -189,14 +190,23 @@ def check_bytes_given(words):
     words.items("byte", ITEMS, lambda what: words.number(what, BYTE))
 
 
+def check_range(call, words):
+    """A range by its two numbers, or several by two lists."""
+    if call == "ranges":
+        words.items("start", ITEMS, lambda what: words.number(what, U64))
+        words.items("end", ITEMS, lambda what: words.number(what, U64))
+    else:
+        words.number("the start of the range", U64)
+        words.number("the end of the range", U64)
+
+
 def check_layout(call, words):
     """The calls that have sizes and strides first."""
     words.items("size", AXES, lambda what: words.number(what, U64))
     words.items("stride", AXES, lambda what: words.number(what, I64))
     if call != "compile":
         words.number("the base", I64)
-        words.number("the start of the range", U64)
-        words.number("the end of the range", U64)
+        check_range(call, words)
     if call == "list":
         words.number("the length of the values", U64)
         words.items("place", ITEMS, lambda what: words.number(what, I64))
@@ -208,6 +218,10 @@ def check_layout(call, words):
         words.number("the next element number", U64)
         check_accumulator(words)
         words.number("the count of pieces", U64)
+    if call == "ranges":
+        words.items("m place", ITEMS, words.float)
+        words.items("e place", ITEMS, lambda what: words.number(what, I64))
+        words.items("bad place", ITEMS, lambda what: words.number(what, BYTE))
 
 
 def check_call(call, words):

@@ -3,7 +3,8 @@
 
 The format has no comments, so this file says what each group is for: here layouts, joins and malformed lines,
 in stored_products.py reductions, products and finishes, in stored_figures.py ordered products and figures,
-in stored_search.py first bad rates, in stored_jobs.py layouts sent as words, in stored_steps.py reductions in steps.
+in stored_search.py first bad rates, in stored_jobs.py layouts sent as words, in stored_steps.py reductions in steps,
+in stored_ranges.py several ranges in one call.
 The answers are the oracle's: crates/replay/stdout.
 """
 
@@ -13,11 +14,12 @@ import sys
 import stored_figures
 import stored_jobs
 import stored_products
+import stored_ranges
 import stored_search
 import stored_steps
 from case_lines import BAD, GAPS, INFINITE, LEAST, LIMIT, MANY, MOST, ONE, OUT, PLAN, SIGN, THREE_HALVES, TWO
 from case_lines import WRONG_FLOATS, WRONG_MARKS, WRONG_SIGNED
-from case_lines import between_good_lines, compile_, join, list_, patterns_of_m, spoiled, unit
+from case_lines import between_good_lines, compile_, join, list_, needed, patterns_of_m, spoiled, unit
 
 
 def times(s, t, e=0, f=0, bad=(0, 0)):
@@ -110,7 +112,7 @@ def sixteen_axes():
         ([1, 3] * 7 + [1, 1], [5] * 16, 0),
     ]:
         total = math.prod(sizes)
-        length = base + 1 + sum((size - 1) * max(stride, 0) for size, stride in zip(sizes, strides))
+        length = needed(sizes, strides, base)
         compile_(sizes, strides)
         for carried in [1, 2, 8, 128, 256, 512, 768, 1024, 2**14, 2**15]:
             if carried < total:
@@ -582,6 +584,7 @@ def main():
         *stored_search.GROUPS,
         *stored_jobs.GROUPS,
         *stored_steps.GROUPS,
+        *stored_ranges.GROUPS,
     ]:
         group()
     # The last line has no newline, and counts all the same.

@@ -3,7 +3,7 @@
 A word is a pair of its kind and its payload here, and a job a list of words.
 """
 
-from case_lines import GAPS, LEAST, MOST, PLAN, WRONG_SIGNED, WRONG_UNSIGNED
+from case_lines import GAPS, LEAST, MOST, PLAN, WRONG_BYTES, WRONG_SIGNED, WRONG_UNSIGNED
 from case_lines import between_good_lines, items, say, spoiled
 
 KINDS = range(8)
@@ -304,13 +304,12 @@ def first_fault():
 def malformed():
     """Each word of both lines in turn not of the format: bytes above 255, counts above the limits, items that are too
     few or too many. A line may have 4,096 bytes."""
-    wrong_bytes = [*WRONG_UNSIGNED, "-0", "00", "256", "1000"]
     counts = [*WRONG_UNSIGNED, "33", str(2**64 - 1)]
     byte_counts = [*WRONG_UNSIGNED, "1", "3", "4097", str(2**64 - 1)]
-    lines = spoiled("read", ["2", "0", "255"], [byte_counts, wrong_bytes, wrong_bytes])
+    lines = spoiled("read", ["2", "0", "255"], [byte_counts, WRONG_BYTES, WRONG_BYTES])
     good = ["1", "2", "1", "1", "0", "0", "2", "2", "0", "255"]
     wrong = [counts, ["-1", str(2**64)], counts, ["-0", str(MOST + 1)], WRONG_SIGNED, ["-1", str(2**64)], ["-1", "02"]]
-    lines += spoiled("write", good, [*wrong, byte_counts, wrong_bytes, ["256", ""]])
+    lines += spoiled("write", good, [*wrong, byte_counts, WRONG_BYTES, ["256", ""]])
     lines += ["read 4097" + " 0" * 4097, "write 0 0 0 0 0 4097" + " 0" * 4097, "job 0"]
     between_good_lines(lines)
 

@@ -6,7 +6,7 @@ Where a line follows another in a caller's loop, its bookmark is the one that th
 from bookmarks import bookmarks, pieces
 from case_lines import INFINITE, LEAST, LIMIT, MANY, MOST, ONE, OUT, SIGN, THREE_HALVES, TWO
 from case_lines import WRONG_UNSIGNED
-from case_lines import between_good_lines, floats, items, patterns_of_m, rate, reduce, say, spoiled, unit
+from case_lines import between_good_lines, floats, items, needed, patterns_of_m, rate, reduce, say, spoiled, unit
 from stored_products import NAN, STRIDES, laid, rates, refused, with_rate
 
 ALL = 2**64 - 1
@@ -85,8 +85,7 @@ def layouts():
         ([2] * 9, list(range(-3, -12, -1)), 63, 250, 270, 3),
         ([2] * 16, list(range(3, 19)), 0, 2**15 - 9, 2**15 + 8, 2),
     ]:
-        length = base + 1 + sum((size - 1) * max(stride, 0) for size, stride in zip(sizes, strides))
-        range_ = sizes, strides, base, start, end, rates(304, length)
+        range_ = sizes, strides, base, start, end, rates(304, needed(sizes, strides, base))
         loop(range_, count)
         reduce(*range_)
 
