@@ -35,8 +35,8 @@ pub fn read_acc(line: &[u8], at: usize) -> ReadAcc {
 
 // The answer of a call that gives an accumulator or a refusal.
 pub fn put_reduced(r: Reduced, out: &mut [u8]) -> usize
-    requires { ⌜ 131072 ≤ length (now out) ⌝ }
-    ensures { λ r. ⌜ r ≤ 131072 ⌝ }
+    requires { ⌜ 262144 ≤ length (now out) ⌝ }
+    ensures { λ r. ⌜ r ≤ 262144 ⌝ }
 {
     match r {
         Reduced::Acc(a) => put_acc(a, &mut *out),
@@ -46,8 +46,8 @@ pub fn put_reduced(r: Reduced, out: &mut [u8]) -> usize
 
 // The answer of a call that gives a number or a refusal.
 pub fn put_finished(r: Finished, out: &mut [u8]) -> usize
-    requires { ⌜ 131072 ≤ length (now out) ⌝ }
-    ensures { λ r. ⌜ r ≤ 131072 ⌝ }
+    requires { ⌜ 262144 ≤ length (now out) ⌝ }
+    ensures { λ r. ⌜ r ≤ 262144 ⌝ }
 {
     match r {
         Finished::Number(value) => put_number(value, &mut *out),
@@ -57,8 +57,8 @@ pub fn put_finished(r: Finished, out: &mut [u8]) -> usize
 
 // The answer of a search: a bad rate, that there is none, or a refusal.
 pub fn put_search(r: Search, out: &mut [u8]) -> usize
-    requires { ⌜ 131072 ≤ length (now out) ⌝ }
-    ensures { λ r. ⌜ r ≤ 131072 ⌝ }
+    requires { ⌜ 262144 ≤ length (now out) ⌝ }
+    ensures { λ r. ⌜ r ≤ 262144 ⌝ }
 {
     match r {
         Search::Found(b) => put_bad_rate(b, &mut *out),
@@ -68,8 +68,8 @@ pub fn put_search(r: Search, out: &mut [u8]) -> usize
 }
 
 fn put_acc(a: StableProductFloatAcc, out: &mut [u8]) -> usize
-    requires { ⌜ 131072 ≤ length (now out) ⌝ }
-    ensures { λ r. ⌜ r ≤ 131072 ⌝ }
+    requires { ⌜ 262144 ≤ length (now out) ⌝ }
+    ensures { λ r. ⌜ r ≤ 262144 ⌝ }
 {
     let mut at = text::print::put(&mut *out, 0, b"acc");
     at = put_fields(a, &mut *out, at);
@@ -87,8 +87,8 @@ pub fn put_fields(a: StableProductFloatAcc, out: &mut [u8], from: usize) -> usiz
 }
 
 fn put_number(value: f64, out: &mut [u8]) -> usize
-    requires { ⌜ 131072 ≤ length (now out) ⌝ }
-    ensures { λ r. ⌜ r ≤ 131072 ⌝ }
+    requires { ⌜ 262144 ≤ length (now out) ⌝ }
+    ensures { λ r. ⌜ r ≤ 262144 ⌝ }
 {
     let mut at = text::print::put(&mut *out, 0, b"number");
     at = text::print::put_bits(&mut *out, at, crate::float::bits_of(value));
@@ -96,8 +96,8 @@ fn put_number(value: f64, out: &mut [u8]) -> usize
 }
 
 fn put_bad_rate(b: BadRate, out: &mut [u8]) -> usize
-    requires { ⌜ 131072 ≤ length (now out) ⌝ }
-    ensures { λ r. ⌜ r ≤ 131072 ⌝ }
+    requires { ⌜ 262144 ≤ length (now out) ⌝ }
+    ensures { λ r. ⌜ r ≤ 262144 ⌝ }
 {
     let mut at = text::print::put(&mut *out, 0, b"bad");
     at = text::print::put_u64(&mut *out, at, b.element);
@@ -113,8 +113,8 @@ fn mark_of(bad: bool) -> u64 {
 }
 
 pub fn put_refused(code: u32, out: &mut [u8]) -> usize
-    requires { ⌜ 131072 ≤ length (now out) ⌝ }
-    ensures { λ r. ⌜ r ≤ 131072 ⌝ }
+    requires { ⌜ 262144 ≤ length (now out) ⌝ }
+    ensures { λ r. ⌜ r ≤ 262144 ⌝ }
 {
     let mut at = text::print::put(&mut *out, 0, b"refused");
     at = text::print::put_u64(&mut *out, at, code as u64);

@@ -1,4 +1,4 @@
-// The answer to one line. The buffer holds 128 KiB, more than the longest answer.
+// The answer to one line. The buffer holds 256 KiB, more than the longest answer: three buffers of 4,096 places.
 ghost use Prim.Native.Nat.{_+_, _≤_};
 ghost use lib.ListN.{length};
 use crate::product::ReadAnswer;
@@ -16,16 +16,16 @@ const AXES: usize = 32;
 const BUFFER_PLACES: usize = 4096;
 
 pub fn malformed(out: &mut [u8]) -> usize
-    requires { ⌜ 131072 ≤ length (now out) ⌝ }
-    ensures { λ r. ⌜ r ≤ 131072 ⌝ }
+    requires { ⌜ 262144 ≤ length (now out) ⌝ }
+    ensures { λ r. ⌜ r ≤ 262144 ⌝ }
 {
     text::print::put(&mut *out, 0, b"malformed\n")
 }
 
 // The answer to a line, with its newline: how many bytes it takes.
 pub fn answer(line: &[u8], out: &mut [u8]) -> usize
-    requires { ⌜ 131072 ≤ length (now out) ⌝ }
-    ensures { λ r. ⌜ r ≤ 131072 ⌝ }
+    requires { ⌜ 262144 ≤ length (now out) ⌝ }
+    ensures { λ r. ⌜ r ≤ 262144 ⌝ }
 {
     let end = text::word::find(line, 0, b' ');
     if check::same(&line[..end], b"join") {
@@ -41,8 +41,8 @@ pub fn answer(line: &[u8], out: &mut [u8]) -> usize
 }
 
 fn put_answer(r: ReadAnswer, out: &mut [u8]) -> usize
-    requires { ⌜ 131072 ≤ length (now out) ⌝ }
-    ensures { λ r. ⌜ r ≤ 131072 ⌝ }
+    requires { ⌜ 262144 ≤ length (now out) ⌝ }
+    ensures { λ r. ⌜ r ≤ 262144 ⌝ }
 {
     match r {
         ReadAnswer::Reduced(answer) => crate::acc::put_reduced(answer, &mut *out),
@@ -55,8 +55,8 @@ fn put_answer(r: ReadAnswer, out: &mut [u8]) -> usize
 
 // Every other call has its sizes and strides first, so they are read before it is known which one it is.
 fn answer_axes(call: &[u8], line: &[u8], at: usize, out: &mut [u8]) -> usize
-    requires { ⌜ 131072 ≤ length (now out) ⌝ }
-    ensures { λ r. ⌜ r ≤ 131072 ⌝ }
+    requires { ⌜ 262144 ≤ length (now out) ⌝ }
+    ensures { λ r. ⌜ r ≤ 262144 ⌝ }
 {
     let mut sizes = [0u64; AXES];
     let mut strides = [0i64; AXES];
@@ -81,8 +81,8 @@ fn answer_layout(
     at: usize,
     out: &mut [u8],
 ) -> usize
-    requires { ⌜ 131072 ≤ length (now out) ⌝ }
-    ensures { λ r. ⌜ r ≤ 131072 ⌝ }
+    requires { ⌜ 262144 ≤ length (now out) ⌝ }
+    ensures { λ r. ⌜ r ≤ 262144 ⌝ }
 {
     if check::same(call, b"compile") {
         return answer_compile(sizes, strides, line, at, &mut *out);
@@ -92,6 +92,9 @@ fn answer_layout(
     }
     if check::same(call, b"write") {
         return crate::job::answer_write(sizes, strides, line, at, &mut *out);
+    }
+    if check::same(call, b"ranges") {
+        return crate::many::answer_ranges(sizes, strides, line, at, &mut *out);
     }
     answer_range(call, sizes, strides, line, at, &mut *out)
 }
@@ -104,8 +107,8 @@ fn answer_range(
     at: usize,
     out: &mut [u8],
 ) -> usize
-    requires { ⌜ 131072 ≤ length (now out) ⌝ }
-    ensures { λ r. ⌜ r ≤ 131072 ⌝ }
+    requires { ⌜ 262144 ≤ length (now out) ⌝ }
+    ensures { λ r. ⌜ r ≤ 262144 ⌝ }
 {
     put_answer(
         crate::product::read_over_range(word, sizes, strides, line, at),
@@ -114,8 +117,8 @@ fn answer_range(
 }
 
 fn answer_compile(sizes: &[u64], strides: &[i64], line: &[u8], at: usize, out: &mut [u8]) -> usize
-    requires { ⌜ 131072 ≤ length (now out) ⌝ }
-    ensures { λ r. ⌜ r ≤ 131072 ⌝ }
+    requires { ⌜ 262144 ≤ length (now out) ⌝ }
+    ensures { λ r. ⌜ r ≤ 262144 ⌝ }
 {
     if !text::word::at_end(line, at) {
         return malformed(&mut *out);
@@ -124,8 +127,8 @@ fn answer_compile(sizes: &[u64], strides: &[i64], line: &[u8], at: usize, out: &
 }
 
 fn put_compiled(c: Compiled, out: &mut [u8]) -> usize
-    requires { ⌜ 131072 ≤ length (now out) ⌝ }
-    ensures { λ r. ⌜ r ≤ 131072 ⌝ }
+    requires { ⌜ 262144 ≤ length (now out) ⌝ }
+    ensures { λ r. ⌜ r ≤ 262144 ⌝ }
 {
     let head = put_head(c, &mut *out);
     let run = put_run(c.traversal, &mut *out, head);
@@ -134,7 +137,7 @@ fn put_compiled(c: Compiled, out: &mut [u8]) -> usize
 }
 
 fn put_head(c: Compiled, out: &mut [u8]) -> usize
-    requires { ⌜ 131072 ≤ length (now out) ⌝ }
+    requires { ⌜ 262144 ≤ length (now out) ⌝ }
     ensures { λ r. ⌜ r ≤ 100 ⌝ }
 {
     let mut at = text::print::put(&mut *out, 0, b"compile");
@@ -143,7 +146,7 @@ fn put_head(c: Compiled, out: &mut [u8]) -> usize
 }
 
 fn put_run(t: FullTraversal, out: &mut [u8], from: usize) -> usize
-    requires { ⌜ (from ≤ 100) × (131072 ≤ length (now out)) ⌝ }
+    requires { ⌜ (from ≤ 100) × (262144 ≤ length (now out)) ⌝ }
     ensures { λ r. ⌜ r ≤ 200 ⌝ }
 {
     let mut at = text::print::put_u64(&mut *out, from, t.run_len);
@@ -152,7 +155,7 @@ fn put_run(t: FullTraversal, out: &mut [u8], from: usize) -> usize
 }
 
 fn put_axes(t: FullTraversal, out: &mut [u8], from: usize) -> usize
-    requires { ⌜ (from ≤ 200) × (131072 ≤ length (now out)) ⌝ }
+    requires { ⌜ (from ≤ 200) × (262144 ≤ length (now out)) ⌝ }
     ensures { λ r. ⌜ r ≤ 2000 ⌝ }
 {
     let mut at = from;
@@ -175,8 +178,8 @@ fn put_axis(a: ReduceOuterAxis, out: &mut [u8], from: usize) -> usize
 }
 
 fn answer_list(sizes: &[u64], strides: &[i64], line: &[u8], at: usize, out: &mut [u8]) -> usize
-    requires { ⌜ 131072 ≤ length (now out) ⌝ }
-    ensures { λ r. ⌜ r ≤ 131072 ⌝ }
+    requires { ⌜ 262144 ≤ length (now out) ⌝ }
+    ensures { λ r. ⌜ r ≤ 262144 ⌝ }
 {
     let ReadRange::Is(r, to_length) = crate::range::read_range(line, at) else {
         return malformed(&mut *out);
@@ -196,8 +199,8 @@ fn answer_places(
     at: usize,
     out: &mut [u8],
 ) -> usize
-    requires { ⌜ 131072 ≤ length (now out) ⌝ }
-    ensures { λ r. ⌜ r ≤ 131072 ⌝ }
+    requires { ⌜ 262144 ≤ length (now out) ⌝ }
+    ensures { λ r. ⌜ r ≤ 262144 ⌝ }
 {
     let mut places = [0i64; BUFFER_PLACES];
     let b = text::word::read_i64s(line, at, &mut places);
@@ -219,8 +222,8 @@ fn answer_offsets(
     places: &mut [i64],
     out: &mut [u8],
 ) -> usize
-    requires { ⌜ (length (now places) ≤ 4096) × (131072 ≤ length (now out)) ⌝ }
-    ensures { λ r. ⌜ r ≤ 131072 ⌝ }
+    requires { ⌜ (length (now places) ≤ 4096) × (262144 ≤ length (now out)) ⌝ }
+    ensures { λ r. ⌜ r ≤ 262144 ⌝ }
 {
     let code = offsets::list::offset_list(
         sizes,
@@ -235,8 +238,8 @@ fn answer_offsets(
 }
 
 fn put_list(code: u32, places: &[i64], out: &mut [u8]) -> usize
-    requires { ⌜ (length (now places) ≤ 4096) × (131072 ≤ length (now out)) ⌝ }
-    ensures { λ r. ⌜ r ≤ 131072 ⌝ }
+    requires { ⌜ (length (now places) ≤ 4096) × (262144 ≤ length (now out)) ⌝ }
+    ensures { λ r. ⌜ r ≤ 262144 ⌝ }
 {
     let mut at = text::print::put(&mut *out, 0, b"list");
     at = text::print::put_u64(&mut *out, at, code as u64);

@@ -1,5 +1,5 @@
 // Floats in a line: the 16 hex digits of their bits.
-ghost use Prim.Native.Nat.{_≤_};
+ghost use Prim.Native.Nat.{_+_, _*_, _≤_};
 ghost use lib.ListN.{length};
 use text::word::Items;
 use text::word::ReadU64;
@@ -64,4 +64,18 @@ pub fn read_floats(line: &[u8], at: usize, out: &mut [f64]) -> Items
         count,
         next,
     }
+}
+
+// Floats one after the other, each with a space before it.
+pub fn put_floats(out: &mut [u8], from: usize, items: &[f64]) -> usize
+    requires { ⌜ from + 17 * length (now items) ≤ length (now out) ⌝ }
+    ensures { λ r. ⌜ r ≤ from + 17 * length (now (items .entry)) ⌝ }
+{
+    let mut at = from;
+    let mut i: usize = 0;
+    while i < items.len() {
+        at = text::print::put_bits(&mut *out, at, bits_of(items[i]));
+        i += 1;
+    }
+    at
 }

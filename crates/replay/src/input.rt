@@ -49,8 +49,8 @@ fn write_answer(answer: &[u8]) -> bool {
 
 // A line that was cut is too long to be of the format.
 fn answer_of(line: &[u8], cut: bool, out: &mut [u8]) -> usize
-    requires { ⌜ 131072 ≤ length (now out) ⌝ }
-    ensures { λ r. ⌜ r ≤ 131072 ⌝ }
+    requires { ⌜ 262144 ≤ length (now out) ⌝ }
+    ensures { λ r. ⌜ r ≤ 262144 ⌝ }
 {
     if cut {
         return crate::answer::malformed(&mut *out);
@@ -59,14 +59,14 @@ fn answer_of(line: &[u8], cut: bool, out: &mut [u8]) -> usize
 }
 
 fn answer_line(line: &[u8], cut: bool, out: &mut [u8]) -> bool
-    requires { ⌜ 131072 ≤ length (now out) ⌝ }
+    requires { ⌜ 262144 ≤ length (now out) ⌝ }
 {
     let n = answer_of(line, cut, &mut *out);
     write_answer(&out[..n])
 }
 
 fn answer_lines(chunk: &[u8], cut_before: bool, out: &mut [u8]) -> Left
-    requires { ⌜ 131072 ≤ length (now out) ⌝ }
+    requires { ⌜ 262144 ≤ length (now out) ⌝ }
     ensures { λ r. ⌜ r .from ≤ length (now (chunk .entry)) ⌝ }
 {
     let mut cut = cut_before;
@@ -114,7 +114,7 @@ fn move_down(buf: &mut [u8], from: usize, to: usize) -> usize
 
 // Answers the whole lines among the first `count` bytes and keeps what is left of the last.
 fn keep_rest(buf: &mut [u8], count: usize, cut: bool, out: &mut [u8]) -> Held
-    requires { ⌜ (count ≤ length (now buf)) × (131072 ≤ length (now out)) ⌝ }
+    requires { ⌜ (count ≤ length (now buf)) × (262144 ≤ length (now out)) ⌝ }
     ensures { λ r. ⌜ r .count ≤ length (now (buf .entry)) ⌝ }
 {
     let left = answer_lines(&buf[..count], cut, &mut *out);
@@ -146,7 +146,7 @@ fn keep_rest(buf: &mut [u8], count: usize, cut: bool, out: &mut [u8]) -> Held
 
 // The input has ended: a line with no newline is answered too.
 fn answer_last(buf: &[u8], count: usize, cut: bool, out: &mut [u8])
-    requires { ⌜ (count ≤ length (now buf)) × (131072 ≤ length (now out)) ⌝ }
+    requires { ⌜ (count ≤ length (now buf)) × (262144 ≤ length (now out)) ⌝ }
 {
     if cut {
         answer_line(buf, cut, &mut *out);
@@ -159,7 +159,7 @@ fn answer_last(buf: &[u8], count: usize, cut: bool, out: &mut [u8])
 
 // One read behind the bytes that are held, and the answers to the lines that are whole now.
 fn turn(buf: &mut [u8], held: Held, out: &mut [u8]) -> Held
-    requires { ⌜ (held .count ≤ length (now buf)) × (131072 ≤ length (now out)) ⌝ }
+    requires { ⌜ (held .count ≤ length (now buf)) × (262144 ≤ length (now out)) ⌝ }
     ensures { λ r. ⌜ r .count ≤ length (now (buf .entry)) ⌝ }
 {
     let count = held.count;
@@ -191,7 +191,7 @@ fn read_some(space: &mut [u8]) -> Got
 
 // Every function ends, so the turns are counted down from a number that no run uses up.
 pub fn answer_all(buf: &mut [u8], out: &mut [u8])
-    requires { ⌜ 131072 ≤ length (now out) ⌝ }
+    requires { ⌜ 262144 ≤ length (now out) ⌝ }
 {
     let mut held = Held {
         more: true,

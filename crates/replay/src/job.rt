@@ -11,7 +11,7 @@ use text::word::Items;
 const BYTES: usize = 4096;
 
 // The bytes that end a line: nothing stands behind them.
-fn read_last_bytes(line: &[u8], at: usize, bytes: &mut [u8]) -> Items
+pub fn read_last_bytes(line: &[u8], at: usize, bytes: &mut [u8]) -> Items
     ensures { λ r. ⌜ r .count ≤ length (now (bytes .entry)) ⌝ }
 {
     let b = text::word::read_bytes(line, at, &mut *bytes);
@@ -22,8 +22,8 @@ fn read_last_bytes(line: &[u8], at: usize, bytes: &mut [u8]) -> Items
 }
 
 pub fn answer_read(line: &[u8], at: usize, out: &mut [u8]) -> usize
-    requires { ⌜ 131072 ≤ length (now out) ⌝ }
-    ensures { λ r. ⌜ r ≤ 131072 ⌝ }
+    requires { ⌜ 262144 ≤ length (now out) ⌝ }
+    ensures { λ r. ⌜ r ≤ 262144 ⌝ }
 {
     let mut bytes = [0u8; BYTES];
     let b = read_last_bytes(line, at, &mut bytes);
@@ -35,8 +35,8 @@ pub fn answer_read(line: &[u8], at: usize, out: &mut [u8]) -> usize
 }
 
 fn put_job(job: JobRead, out: &mut [u8]) -> usize
-    requires { ⌜ 131072 ≤ length (now out) ⌝ }
-    ensures { λ r. ⌜ r ≤ 131072 ⌝ }
+    requires { ⌜ 262144 ≤ length (now out) ⌝ }
+    ensures { λ r. ⌜ r ≤ 262144 ⌝ }
 {
     let mut at = put_axes(job, &mut *out);
     at = text::print::put_i64(&mut *out, at, job.base);
@@ -47,7 +47,7 @@ fn put_job(job: JobRead, out: &mut [u8]) -> usize
 
 // All that stands before the range.
 fn put_axes(job: JobRead, out: &mut [u8]) -> usize
-    requires { ⌜ 131072 ≤ length (now out) ⌝ }
+    requires { ⌜ 262144 ≤ length (now out) ⌝ }
     ensures { λ r. ⌜ r ≤ 1000 ⌝ }
 {
     let mut at = text::print::put(&mut *out, 0, b"job");
@@ -59,8 +59,8 @@ fn put_axes(job: JobRead, out: &mut [u8]) -> usize
 
 // The sizes and strides of the line are read already.
 pub fn answer_write(sizes: &[u64], strides: &[i64], line: &[u8], at: usize, out: &mut [u8]) -> usize
-    requires { ⌜ 131072 ≤ length (now out) ⌝ }
-    ensures { λ r. ⌜ r ≤ 131072 ⌝ }
+    requires { ⌜ 262144 ≤ length (now out) ⌝ }
+    ensures { λ r. ⌜ r ≤ 262144 ⌝ }
 {
     let mut bytes = [0u8; BYTES];
     let ReadRange::Is(r, to_bytes) = crate::range::read_range(line, at) else {
@@ -75,16 +75,16 @@ pub fn answer_write(sizes: &[u64], strides: &[i64], line: &[u8], at: usize, out:
 }
 
 fn write_job(sizes: &[u64], strides: &[i64], r: Range, bytes: &mut [u8], out: &mut [u8]) -> usize
-    requires { ⌜ (length (now bytes) ≤ 4096) × (131072 ≤ length (now out)) ⌝ }
-    ensures { λ r. ⌜ r ≤ 131072 ⌝ }
+    requires { ⌜ (length (now bytes) ≤ 4096) × (262144 ≤ length (now out)) ⌝ }
+    ensures { λ r. ⌜ r ≤ 262144 ⌝ }
 {
     let w = jobs::writing::write_job(sizes, strides, r.base, r.start, r.end, &mut *bytes);
     put_written(w, &*bytes, &mut *out)
 }
 
 fn put_written(w: JobWritten, bytes: &[u8], out: &mut [u8]) -> usize
-    requires { ⌜ (length (now bytes) ≤ 4096) × (131072 ≤ length (now out)) ⌝ }
-    ensures { λ r. ⌜ r ≤ 131072 ⌝ }
+    requires { ⌜ (length (now bytes) ≤ 4096) × (262144 ≤ length (now out)) ⌝ }
+    ensures { λ r. ⌜ r ≤ 262144 ⌝ }
 {
     let mut at = text::print::put(&mut *out, 0, b"write");
     at = text::print::put_u64(&mut *out, at, w.code as u64);

@@ -4,12 +4,13 @@ mod answer;
 mod float;
 mod input;
 mod job;
+mod many;
 mod product;
 mod range;
 mod step;
 
 fn main() {
     let mut space = [0u8; 131073];
-    let mut out = [0u8; 131072];
+    let mut out = [0u8; 262144];
     input::answer_all(&mut space, &mut out);
 }

@@ -28,8 +28,8 @@ pub fn read_step(line: &[u8], at: usize) -> ReadCall {
 }
 
 pub fn put_step(s: Step, out: &mut [u8]) -> usize
-    requires { ⌜ 131072 ≤ length (now out) ⌝ }
-    ensures { λ r. ⌜ r ≤ 131072 ⌝ }
+    requires { ⌜ 262144 ≤ length (now out) ⌝ }
+    ensures { λ r. ⌜ r ≤ 262144 ⌝ }
 {
     match s {
         Step::Done(acc, pieces) => put_done(acc, pieces, &mut *out),
@@ -39,8 +39,8 @@ pub fn put_step(s: Step, out: &mut [u8]) -> usize
 }
 
 fn put_done(acc: StableProductFloatAcc, pieces: u64, out: &mut [u8]) -> usize
-    requires { ⌜ 131072 ≤ length (now out) ⌝ }
-    ensures { λ r. ⌜ r ≤ 131072 ⌝ }
+    requires { ⌜ 262144 ≤ length (now out) ⌝ }
+    ensures { λ r. ⌜ r ≤ 262144 ⌝ }
 {
     let mut at = text::print::put(&mut *out, 0, b"done");
     at = crate::acc::put_fields(acc, &mut *out, at);
@@ -49,8 +49,8 @@ fn put_done(acc: StableProductFloatAcc, pieces: u64, out: &mut [u8]) -> usize
 }
 
 fn put_more(to: Bookmark, pieces: u64, out: &mut [u8]) -> usize
-    requires { ⌜ 131072 ≤ length (now out) ⌝ }
-    ensures { λ r. ⌜ r ≤ 131072 ⌝ }
+    requires { ⌜ 262144 ≤ length (now out) ⌝ }
+    ensures { λ r. ⌜ r ≤ 262144 ⌝ }
 {
     let mut at = text::print::put(&mut *out, 0, b"more");
     at = text::print::put_u64(&mut *out, at, to.next);
