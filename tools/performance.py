@@ -3,10 +3,11 @@
 
     bench/run > build/table.txt && bench/run rare > build/rare.txt && bench/run growth > build/growth.txt &&
         bench/run figures > build/figures.txt && bench/run search > build/search.txt &&
-        bench/run steps > build/steps.txt && bench/run jobs > build/jobs.txt &&
+        bench/run steps > build/steps.txt && bench/run ranges > build/ranges.txt &&
+        bench/run threads > build/threads.txt && bench/run jobs > build/jobs.txt &&
         python3 tools/growth.py build/growth.txt docs/growth.svg && python3 tools/performance.py
 
-It reads those seven files and what tools/stack_frames.py says of the static libraries. With names behind it, as
+It reads those nine files and what tools/stack_frames.py says of the static libraries. With names behind it, as
 `performance.py figures`, it puts in those alone, and reads no other file.
 """
 
@@ -87,12 +88,16 @@ PLACES = {
     "figures": lambda: built("figures.txt"),
     "search": lambda: built("search.txt"),
     "steps": lambda: built("steps.txt"),
+    "ranges": lambda: built("ranges.txt"),
+    "threads": lambda: built("threads.txt"),
     "jobs": lambda: built("jobs.txt"),
     "growth": lambda: grown(built("growth.txt").splitlines()),
     "stack": lambda: stack("probe"),
     "figure-stack": lambda: stack("figure_probe"),
     "search-stack": lambda: stack("search_probe"),
     "step-stack": lambda: stack("step_probe"),
+    "ranges-stack": lambda: stack("ranges_probe"),
+    "join-stack": lambda: stack("join_probe"),
     "job-stack": lambda: stack("job_probe"),
 }
 

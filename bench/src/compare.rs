@@ -1,7 +1,8 @@
 //! Random calls to the engine and to the Rust, whose answers must be the same to the bit: the number of the
 //! refusal, the accumulator, and every place of a buffer. The offsets of each range are listed and compared too, and
 //! its ordered product, its figure and its first bad rate; then these for calls that are drawn for them. Jobs are read
-//! and written. Steps of a few pieces are asked, by themselves and in callers' loops. Now and then comes a long piece.
+//! and written. Steps of a few pieces are asked, by themselves and in callers' loops, and lists of ranges, whose answers
+//! are joined and finished. Now and then comes a long piece. At the end a host with threads is asked.
 
 use crate::erased::calls::{self, Layout};
 use crate::generate::reduce::Call;
@@ -10,11 +11,13 @@ use crate::job;
 use crate::long;
 use crate::numbers;
 use crate::probe::{self, Bits, Place};
+use crate::range_answers;
 use crate::rules;
 use crate::searches;
 use crate::sent_answers;
 use crate::step_answers;
 use crate::tally::Tally;
+use crate::threads;
 use std::collections::BTreeMap;
 
 /// What an answer's place holds before a call.
@@ -58,6 +61,7 @@ struct Seen {
     searches: Tally,
     jobs: Tally,
     steps: Tally,
+    ranges: Tally,
 }
 
 /// Whether all answers were the same.
@@ -70,27 +74,40 @@ pub fn run(count: u64, seed: u64) -> bool {
             return false;
         }
     }
-    let longer = count.div_ceil(LONG);
-    println!("{count} reductions of seed {seed}, the lists of their offsets, and {longer} long pieces:");
-    println!("all answers are the same");
-    for (kind, count) in seen.kinds {
-        println!("{count:>9} {}", kind.text());
+    seen.print(count, seed);
+    match threads::ask() {
+        Ok(asked) => println!("{asked}: all answers are the same"),
+        Err(difference) => {
+            println!("the host with threads differs: {difference}");
+            return false;
+        }
     }
-    println!("their ordered products and their figures, and those of {count} calls that are drawn for them:");
-    println!("all answers are the same, and each NaN is the one NaN");
-    seen.numbers.print();
-    println!("their first bad rates, and those of {count} calls that are drawn for them: all answers are the same");
-    seen.searches.print();
-    println!("{count} jobs that are read, and {count} that are written, beside the oracle's own reader and writer:");
-    println!("all answers are the same");
-    seen.jobs.print();
-    println!("{count} steps of a few pieces from a bookmark, and callers' loops of such steps from the start of a range:");
-    println!("all answers are the same, and those of the loops are the unbroken reduction's");
-    seen.steps.print();
     true
 }
 
 impl Seen {
+    fn print(&self, count: u64, seed: u64) {
+        let longer = count.div_ceil(LONG);
+        println!("{count} reductions of seed {seed}, the lists of their offsets, and {longer} long pieces:");
+        println!("all answers are the same");
+        for (kind, count) in &self.kinds {
+            println!("{count:>9} {}", kind.text());
+        }
+        println!("their ordered products and their figures, and those of {count} calls that are drawn for them:");
+        println!("all answers are the same, and each NaN is the one NaN");
+        self.numbers.print();
+        println!("their first bad rates, and those of {count} calls that are drawn for them: all answers are the same");
+        self.searches.print();
+        println!("{count} jobs that are read, and {count} that are written, beside the oracle's own reader and writer:");
+        println!("all answers are the same");
+        self.jobs.print();
+        println!("{count} steps of a few pieces from a bookmark, and callers' loops of such steps from the start of a range:");
+        println!("all answers are the same, and those of the loops are the unbroken reduction's");
+        self.steps.print();
+        println!("{count} lists of ranges, the joins of what they give, and the finished numbers: all answers are the same");
+        self.ranges.print();
+    }
+
     /// A call of each kind, and a long piece if it is time for one. What differs is the error.
     fn ask(&mut self, dice: &mut Dice, long: bool) -> Result<(), String> {
         self.reduction(dice)?;
@@ -98,6 +115,7 @@ impl Seen {
         self.search_alone(dice)?;
         sent_answers::ask(&mut self.jobs, dice)?;
         step_answers::ask(&mut self.steps, dice)?;
+        range_answers::ask(&mut self.ranges, dice)?;
         if long {
             long_piece(dice)?;
         }

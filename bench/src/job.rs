@@ -6,7 +6,7 @@
 //! checks.
 
 use crate::erased::calls::{Acc, Answer, Plan};
-use crate::probe::{self, BadPlace, Bits, Numbered, Reduced, StepPlace};
+use crate::probe::{self, BadPlace, Bits, Numbered, Place, Places, Reduced, StepPlace};
 use crate::searches;
 use crate::rules;
 use std::hint::black_box;
@@ -109,6 +109,13 @@ impl Job {
         acc.expect("a timed call has a piece")
     }
 
+    /// A range of the layout, from the first base.
+    #[inline(never)]
+    pub fn rust_part(&self, start: u64, end: u64) -> Answer {
+        let base = black_box(self.bases[0]) as isize;
+        self.plan().product(base, black_box(start) as usize..black_box(end) as usize, black_box(&self.values))
+    }
+
     #[inline]
     fn range(&self, turn: usize) -> probe::Range<'_> {
         probe::Range {
@@ -152,6 +159,21 @@ impl Job {
     #[inline(never)]
     pub fn by_steps(&self, turn: usize, n: u64) -> Reduced {
         probe::by_steps(&self.range(turn), black_box(&self.values), black_box(n)).0
+    }
+
+    /// A range of the layout, from the first base.
+    #[inline(never)]
+    pub fn part(&self, start: u64, end: u64, place: &mut Place) -> u32 {
+        let range = probe::Range { start: black_box(start), end: black_box(end), ..self.range(0) };
+        probe::reduce_into(&range, black_box(&self.values), place)
+    }
+
+    /// A list of such ranges in one call.
+    #[inline(never)]
+    pub fn parts(&self, starts: &[u64], ends: &[u64], places: &mut Places) -> u32 {
+        let probe::Range { sizes, strides, base, .. } = self.range(0);
+        let ranges = probe::Ranges { sizes, strides, base, starts: black_box(starts), ends: black_box(ends) };
+        probe::ranges_into(&ranges, black_box(&self.values), places)
     }
 
     /// The first base at which the two answers differ, with them.

@@ -2,9 +2,10 @@
 //!
 //! `bench table` prints a row for each kind of call, `bench rare` a row for those seldom met, `bench figures` the calls
 //! that hand out a number, `bench search` the search for the first bad rate, `bench jobs` reading and writing jobs,
-//! `bench steps` the reduction a few pieces at a time, `bench growth` the time against the number of values, `bench check`
-//! the cases that take longer than the Rust, or than aimed at, `bench compare COUNT SEED` the answers to random calls, by
-//! kind. Each ends with 1 if two answers differ, and `bench check` if a case takes longer.
+//! `bench steps` the reduction a few pieces at a time, `bench ranges` a list of ranges in one call, `bench threads` a host
+//! with threads, `bench growth` the time against the number of values, `bench check` the cases that take longer than the
+//! Rust, or than aimed at, `bench compare COUNT SEED` the answers to random calls, by kind. Each ends with 1 if two answers
+//! differ, and `bench check` if a case takes longer.
 //!
 //! The Rust is the oracle's, included by its path, so that nothing is copied and both see the same source.
 
@@ -19,6 +20,7 @@ mod oracle {
     pub mod generate;
     pub mod inline;
     pub mod jobs;
+    pub mod ranges;
     pub mod rules;
     pub mod simd;
     pub mod steps;
@@ -34,6 +36,7 @@ mod long;
 mod numbers;
 mod plain;
 mod probe;
+mod range_answers;
 mod rare;
 mod rates;
 mod search;
@@ -44,15 +47,20 @@ mod step_answers;
 mod stepping;
 mod table;
 mod tally;
+mod threads;
 mod timing;
+mod workers;
 
 // The oracle's files name each other from the root of the crate.
 pub use oracle::complex::{Complex32, Complex64};
 pub use oracle::error::{Result, StridedError};
-use oracle::{erased, generate, inline, jobs, rules, simd, steps};
+use oracle::{erased, generate, inline, jobs, ranges, rules, simd, steps};
 
 fn usage() -> ! {
-    eprintln!("usage: bench table | rare | figures | search | jobs | steps | growth | check, or bench compare COUNT SEED");
+    eprintln!(
+        "usage: bench table | rare | figures | search | jobs | steps | ranges | threads | growth | check, \
+         or bench compare COUNT SEED"
+    );
     std::process::exit(2);
 }
 
@@ -66,6 +74,8 @@ fn main() {
         ["search"] => beside::print(&search::TABLES),
         ["jobs"] => sent::print(),
         ["steps"] => stepping::print(),
+        ["ranges"] => beside::print(&workers::TABLES),
+        ["threads"] => threads::print(),
         ["growth"] => growth::print(),
         ["check"] => check::print(),
         ["compare", count, seed] => match (count.parse(), seed.parse()) {

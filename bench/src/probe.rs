@@ -2,11 +2,12 @@
 //! A slice passes as a pointer and then a length, and a bool in memory is a byte.
 
 use crate::generate::reduce::Call;
+use crate::ranges;
 
 /// A job has at most so many axes.
 pub const PLACES: usize = 16;
 
-/// A C function over a layout and a range, as all but one begin, with its own words behind them.
+/// A C function over a layout and a range, as most begin, with its own words behind them.
 macro_rules! declared {
     ($name:ident($($word:ident: $type:ty),+)) => {
         extern "C" {
@@ -53,6 +54,40 @@ extern "C" {
         start: *mut u64,
         end: *mut u64,
     ) -> u32;
+
+    fn probe_ranges(
+        sizes: *const u64,
+        sizes_len: usize,
+        strides: *const i64,
+        strides_len: usize,
+        base: i64,
+        starts: *const u64,
+        starts_len: usize,
+        ends: *const u64,
+        ends_len: usize,
+        values: *const f64,
+        values_len: usize,
+        ms: *mut f64,
+        ms_len: usize,
+        es: *mut i64,
+        es_len: usize,
+        bads: *mut u8,
+        bads_len: usize,
+    ) -> u32;
+
+    fn probe_join(
+        left_m: f64,
+        left_e: i64,
+        left_bad: bool,
+        right_m: f64,
+        right_e: i64,
+        right_bad: bool,
+        m: *mut f64,
+        e: *mut i64,
+        bad: *mut u8,
+    ) -> u32;
+
+    fn probe_finish(m: f64, e: i64, bad: bool, number: *mut f64) -> u32;
 }
 
 /// An accumulator, or a place for one. The mark is read as the byte it is, which must be 0 or 1.
@@ -132,6 +167,35 @@ impl Range<'_> {
             start: call.range.start,
             end: call.range.end,
         }
+    }
+}
+
+/// A layout and a list of ranges of its elements: where each starts, and where each ends.
+pub struct Ranges<'a> {
+    pub sizes: &'a [u64],
+    pub strides: &'a [i64],
+    pub base: i64,
+    pub starts: &'a [u64],
+    pub ends: &'a [u64],
+}
+
+/// Places for the accumulators of a list of ranges: that of range i goes into place i of each. A mark that is written is
+/// read as the byte it is, which must be 0 or 1.
+pub struct Places<'a> {
+    pub ms: &'a mut [f64],
+    pub es: &'a mut [i64],
+    pub bads: &'a mut [u8],
+}
+
+impl<'a> Places<'a> {
+    pub fn of(buffers: &'a mut ranges::Buffers) -> Places<'a> {
+        Places { ms: &mut buffers.ms, es: &mut buffers.es, bads: &mut buffers.bads }
+    }
+
+    /// So many places at a time, in order. No two chunks share a place, so each may go to a thread of its own.
+    pub fn chunks(self, count: usize) -> impl Iterator<Item = Places<'a>> {
+        let chunks = self.ms.chunks_mut(count).zip(self.es.chunks_mut(count)).zip(self.bads.chunks_mut(count));
+        chunks.map(|((ms, es), bads)| Places { ms, es, bads })
     }
 }
 
@@ -274,5 +338,62 @@ pub fn write_into(job: &Range, out: &mut [u8], count: &mut usize) -> u32 {
     // SAFETY: each pointer goes with the length of its own slice, and only `out` and `count` are written.
     unsafe {
         over_range!(probe_write, job, out.as_mut_ptr(), out.len(), count)
+    }
+}
+
+/// 0, with the accumulator of range i in place i of each buffer, and the places past the ranges as they were; or the
+/// refusal 1 to 4, 16 or 5 to 7, with all places as they were.
+#[inline]
+pub fn ranges_into(ranges: &Ranges, values: &[f64], places: &mut Places) -> u32 {
+    // SAFETY: each pointer goes with the length of its own slice, and only the three buffers are written.
+    unsafe {
+        probe_ranges(
+            ranges.sizes.as_ptr(),
+            ranges.sizes.len(),
+            ranges.strides.as_ptr(),
+            ranges.strides.len(),
+            ranges.base,
+            ranges.starts.as_ptr(),
+            ranges.starts.len(),
+            ranges.ends.as_ptr(),
+            ranges.ends.len(),
+            values.as_ptr(),
+            values.len(),
+            places.ms.as_mut_ptr(),
+            places.ms.len(),
+            places.es.as_mut_ptr(),
+            places.es.len(),
+            places.bads.as_mut_ptr(),
+            places.bads.len(),
+        )
+    }
+}
+
+/// 0, with the two joined in `place`; or the refusal 9 or 10, with `place` as it was.
+pub fn join_into(left: Place, right: Place, place: &mut Place) -> u32 {
+    let Place { m, e, bad } = place;
+    // SAFETY: only the fields of `place` are written.
+    unsafe { probe_join(left.m, left.e, left.bad != 0, right.m, right.e, right.bad != 0, m, e, bad) }
+}
+
+pub fn join(left: Place, right: Place) -> Result<Place, u32> {
+    let mut place = left;
+    match join_into(left, right, &mut place) {
+        0 => Ok(place),
+        code => Err(code),
+    }
+}
+
+/// 0, with the finished number in `number`; or the refusal 9, with `number` as it was.
+pub fn finish_into(acc: Place, number: &mut f64) -> u32 {
+    // SAFETY: only `number` is written.
+    unsafe { probe_finish(acc.m, acc.e, acc.bad != 0, number) }
+}
+
+pub fn finish(acc: Place) -> Numbered {
+    let mut number = 0.0;
+    match finish_into(acc, &mut number) {
+        0 => Ok(number.to_bits()),
+        code => Err(code),
     }
 }

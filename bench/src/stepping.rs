@@ -56,18 +56,24 @@ fn difference<const N: u64>(job: &Job) -> Option<String> {
 }
 
 /// Rows of 64 with a gap behind each, so many values in all.
-fn rows_of(name: &str, rates: Rates, count: u64, stride: u64) -> Row {
+pub fn rows_of(name: &str, rates: Rates, count: u64, stride: u64) -> Row {
     let (rows, pitch) = (count / LENGTH, LENGTH * stride + GAP);
     let values = rates.draw((rows * pitch) as usize);
     row(name, rates, &[(rows, pitch as i64), (LENGTH, stride as i64)], &[0], values)
 }
 
-/// Rows of 64 over three axes, no two of which fuse: sides, levels and rows.
-fn house(rates: Rates) -> Row {
+/// The axes of so many sides, levels and rows of 64, no two of which fuse, and how many values they take.
+pub fn house([sides, levels, rows]: [u64; 3]) -> ([(u64, i64); 4], usize) {
     let pitch = LENGTH + GAP;
-    let (level, side) = (125 * pitch + GAP, 5 * (125 * pitch + GAP) + GAP);
-    let axes = [(25, side as i64), (5, level as i64), (125, pitch as i64), (LENGTH, 1)];
-    row("rows of 64 over three axes, 1e6", rates, &axes, &[0], rates.draw(25 * side as usize))
+    let level = rows * pitch + GAP;
+    let side = levels * level + GAP;
+    ([(sides, side as i64), (levels, level as i64), (rows, pitch as i64), (LENGTH, 1)], (sides * side) as usize)
+}
+
+/// Rows of 64 over three axes.
+pub fn rows_in_house(name: &str, rates: Rates, counts: [u64; 3]) -> Row {
+    let (axes, length) = house(counts);
+    row(name, rates, &axes, &[0], rates.draw(length))
 }
 
 fn rows() -> Vec<Row> {
@@ -77,7 +83,7 @@ fn rows() -> Vec<Row> {
         rows_of("rows of 64 with a gap, 1e6", keep, 1_000_000, 1),
         rows_of("rows of 64 with a gap, 1e6", spread, 1_000_000, 1),
         rows_of("rows of 64 at stride 2 with a gap, 1e6", keep, 1_000_000, 2),
-        house(keep),
+        rows_in_house("rows of 64 over three axes, 1e6", keep, [25, 5, 125]),
     ]
 }
 

@@ -99,6 +99,16 @@ pub fn two_by_turns<A, B>(
     best_of(turns, least, programs)
 }
 
+/// Nanoseconds a call of one program for each of the numbers that it is handed, out of at least `least` for each.
+pub fn by_numbers<T>(numbers: &[usize], least: Duration, mut call: impl FnMut(usize) -> T) -> Vec<f64> {
+    let mut run = |number, calls| batch(1, calls, &mut |_| call(number));
+    let mut best: Vec<Best> = numbers.iter().map(|&number| Best::new(1, &mut |calls| run(number, calls))).collect();
+    while best.iter().any(|one| one.spent < least) {
+        best.iter_mut().zip(numbers).for_each(|(one, &number)| one.again(&mut |calls| run(number, calls)));
+    }
+    best.iter().map(Best::nanoseconds).collect()
+}
+
 /// The reduction. At least `least` for each program.
 pub fn measure(job: &Job, least: Duration) -> Times {
     let plan = job.plan();
