@@ -14,8 +14,8 @@ from pathlib import Path
 ROOT = Path(__file__).resolve().parent.parent
 PAGE = ROOT / "docs" / "PROOFS.md"
 # A new rule raises it by the lines of its definitions, in the commit that adds them.
-MOST_LINES = 1214
-# The exported calls: a file of src and the functions in it (docs/RULES.md, C1 to C12).
+MOST_LINES = 1307
+# The exported calls: a file of src and the functions in it (docs/RULES.md, C1 to C13).
 EXPORTED = {
     "layout/src/traversal.rt": ["compile"],
     "offsets/src/list.rt": ["offset_list"],
@@ -26,12 +26,15 @@ EXPORTED = {
     "search/src/lib.rt": ["first_bad_rate"],
     "figures/src/lib.rt": ["figure"],
     "bookmarks/src/lib.rt": ["reduce_step"],
+    "ranges/src/lib.rt": ["reduce_ranges"],
     "jobs/src/reading.rt": ["read_job"],
     "jobs/src/writing.rt": ["write_job"],
     "probe/src/lib.rt": ["probe_reduce", "probe_list"],
     "figure_probe/src/lib.rt": ["probe_ordered", "probe_figure"],
     "search_probe/src/lib.rt": ["probe_first"],
     "step_probe/src/lib.rt": ["probe_step"],
+    "ranges_probe/src/lib.rt": ["probe_ranges"],
+    "join_probe/src/lib.rt": ["probe_join", "probe_finish"],
     "job_probe/src/lib.rt": ["probe_read", "probe_write"],
 }
 # Files whose every definition is a statement: theorems, and tables of cases that are proved.

@@ -245,6 +245,14 @@ readonly faulty=(
     "step 1 2 1 1 0 0 2 2 $m $m 0 $m 0 0" 'the line ends where the count of pieces should stand'
     "step 1 2 1 1 0 0 2 2 $m $m 0 $m 0 0 18446744073709551616" 'stands for the count of pieces: it does not lie in 0 to 18446744073709551615'
     "step 1 2 1 1 0 0 2 2 $m $m 0 $m 0 0 1 1" '1 word too many: the line should end before word 17, "1"'
+    'Ranges 1 2 1 1' 'write it in lower case'
+    'ranges 1 2 1 1 0 1 0' 'the line ends where the count of the ends should stand'
+    'ranges 1 2 1 1 0 1 -1' 'word 8, "-1", stands for start 1 of 1: it may not be below 0'
+    'ranges 1 2 1 1 0 4097' 'at most 4096 of them'
+    "ranges 1 2 1 1 0 1 0 1 2 2 $m $m 1 1.5" "stands for m place 1 of 1: a float is written by the 16 hex digits of its bits, here $m"
+    "ranges 1 2 1 1 0 1 0 1 2 2 $m $m 1 $m 1 0 1 256" 'stands for bad place 1 of 1: it does not lie in 0 to 255'
+    "ranges 1 2 1 1 0 1 0 1 2 2 $m $m 1 $m 1 0" 'the line ends where the count of the bad places should stand'
+    "ranges 1 2 1 1 0 1 0 1 2 2 $m $m 1 $m 1 0 1 0 1" '1 word too many: the line should end before word 20, "1"'
     "$(head -c 131073 /dev/zero | tr '\0' x)" 'the line has 131073 bytes'
 )
 
@@ -330,13 +338,29 @@ steps() {
     check 'an example of steps' 0 '    finished: 1.2578482756360152 × 2^-1382; pieces worked: 200' '' run_sh 'examples/step.cases'
 }
 
+# Each range with its accumulator, and nothing of the places past them; a refusal by its number.
+ranges() {
+    local two="1 2 1 1 0" held="3 $m $m $m 3 7 7 7 3 9 9 9" zero=0000000000000000
+    check_lines 'ranges' 0 \
+        "ranges $two 2 0 1 2 1 2 2 $m $zero $held" '    0 to 1: 1.5 × 2^0; 1 to 2: 1.0 × 2^-1023, bad' \
+        "ranges $two 2 0 0 2 2 2 2 $m $m $held" '    0 to 2: 1.125 × 2^1; 0 to 2: 1.125 × 2^1' \
+        "ranges $two 0 0 2 $m $m $held" '    accepted, with nothing to write' \
+        "ranges $two 2 0 1 2 3 1 2 $m $m $held" '    refused 6 (RANGE_PAST_END)' \
+        "ranges $two 2 0 1 1 1 2 $m $m $held" '    refused 16 (ANSWER_BUFFER_TOO_SHORT)' \
+        "ranges $two 0 0 1 $m $held" '    refused 7 (ELEMENT_OUTSIDE)'
+    has "$work/out" 'ranges 0 to 1, 1 to 2 (ends not included), 2 values 1.5 0.0, buffers of 3, 3, 3 for m, e, bad' ||
+        die 'ranges: the ranges that were asked are not shown'
+    has "$work/out" 'base 0, 2 starts and 1 ends, 2 values' || die 'ranges: lists of different lengths are not shown'
+    check 'an example of ranges' 0 '    1.5589143053837038 × 2^-1' '' run_sh 'examples/ranges.cases'
+}
+
 # Each refusal has a name and a condition, in the file that is their home.
 refusals() {
     local cases=() code said ones
-    for code in {1..15}; do cases+=("finish refused $code" "    refused $code ("); done
+    for code in {1..16}; do cases+=("finish refused $code" "    refused $code ("); done
     check_lines 'refusals' 0 "${cases[@]}"
     said=$(grep -cE '^    refused [0-9]+ \([A-Z_]+\): .*[^.]$' "$work/out")
-    [ "$said" -eq 15 ] || die "refusals: $said of 15 have a name and a condition"
+    [ "$said" -eq 16 ] || die "refusals: $said of 16 have a name and a condition"
     # The condition says the limit that the program has.
     ones=$(printf ' 1%.0s' {1..16})
     check_lines 'the limit of axes' 0 "compile 16$ones 16$ones" '    1 elements' \
@@ -372,7 +396,7 @@ EOF
 [ -x target/bin/replay ] || die 'target/bin/replay is not there; build it by ./run or rt check replay'
 [ -f crates/refusals/src/lib.rt ] || die 'crates/refusals/src/lib.rt is not there; it names the refusals'
 make_copy
-for group in calls inputs outputs tools_missing builds programs replay_itself faults numbers bad_rates jobs steps refusals stored; do
+for group in calls inputs outputs tools_missing builds programs replay_itself faults numbers bad_rates jobs steps ranges refusals stored; do
     "$group"
 done
 printf 'test_run: ok, %s checks\n' "$count"
