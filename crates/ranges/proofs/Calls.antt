@@ -1,7 +1,8 @@
 -- What a call tells: its code, and the three buffers after it. Assumes nothing.
-use Prim.Native.Nat.{ℕ, _<_}
+use Prim.Native.Nat.{ℕ, _^_, _≤_, _<_}
 use mathlib.Core.Path.{_≡_, refl, sym, _∙_, ap, subst}
-use mathlib.Core.List.{List, map}
+use mathlib.Core.Bool.{true}
+use mathlib.Core.List.{List, _∷_, map}
 use lib.ListN.{length, getD}
 use lib.IntN.{ℤ}
 use lib.Ieee.{Float}
@@ -10,12 +11,23 @@ use Rattle.refusals.proofs.Buffers.{buffer-kept}
 use Rattle.layout.specs.declared.traversal.FullTraversal.{FullTraversal}
 use Rattle.layout.specs.Axes.{PLACES}
 use Rattle.layout.specs.Compile.{compileOf}
+use Rattle.offsets.specs.Elements.{allInside}
+use Rattle.offsets.specs.InnerCursors.{Bounded, Traversal}
+use Rattle.offsets.specs.Pieces.{runOf, outerOf}
 use Rattle.offsets.proofs.Checked.{accepted-range}
 use Rattle.accumulator.specs.declared.StableProductFloatAcc.{StableProductFloatAcc}
 use Rattle.ranges.specs.Many.{rangesOf, manyCode, products, msAfter, esAfter, badsAfter}
-use Rattle.ranges.specs.InnerReady.{Ready, productsOver}
 use Rattle.ranges.proofs.Codes.{Accepted, range-accepted}
-use Rattle.ranges.proofs.Writing.{mOf, eOf, byteOf}
+use Rattle.ranges.proofs.Writing.{mOf, eOf, byteOf, productsOver}
+
+-- what the reduction of a range over a compiled layout asks
+pub record Ready (l : FullTraversal) (base : ℤ) (len start end : ℕ) : Type 0 where
+  pub traversal : Traversal l
+  pub bounded : Bounded (runOf l ∷ outerOf l) base
+  pub forward : start < end
+  pub inside : end ≤ l .total
+  pub few : l .total ≤ 2 ^ 40
+  pub within : allInside (runOf l ∷ outerOf l) (l .total) base len ≡ true
 
 module _ (ns : List ℕ) (ss : List ℤ) (base : ℤ) (starts ends : List ℕ) (values ms : List Float) (es : List ℤ) (bads : List ℕ) where
   abbrev code : ℕ

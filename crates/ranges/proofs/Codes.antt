@@ -18,6 +18,7 @@ use Rattle.offsets.proofs.Accepted.{refused-none}
 use Rattle.offsets.proofs.Ranges.{first-hides, first-none, Clear, clear, Within, within, range-places}
 use Rattle.kernels.proofs.Feeding.{neither}
 use Rattle.ranges.specs.Many.{rangesOf, eachRefusals, unfit, manyCode}
+use Rattle.ranges.specs.InnerCodes.{codeBy}
 use Rattle.ranges.proofs.Lists.{length-ranges, range-at}
 
 -- ---- 5 and 6 range by range
@@ -91,61 +92,70 @@ module _ (starts ends ms es bads : ℕ) where
         room-bad = ltb-false bads starts (a .1);
       }
 
--- ---- the whole code
-module _ (ns : List ℕ) (ss : List ℤ) (base : ℤ) (starts ends : List ℕ) (values ms : List Float) (es : List ℤ) (bads : List ℕ) where
+-- ---- the whole code, with what 16 asks known
+module _ (ns : List ℕ) (ss : List ℤ) (base : ℤ) (starts ends : List ℕ) (len : ℕ) (misfit : Bool) where
   abbrev code : ℕ
-  code = manyCode ns ss base starts ends values ms es bads
-
-  abbrev total : ℕ
-  total = (compileOf PLACES ns ss) .traversal .total
+  code = codeBy ns ss base starts ends len misfit
 
   abbrev each : List Refusal
-  each = eachRefusals total (rangesOf starts ends)
+  each = eachRefusals ((compileOf PLACES ns ss) .traversal .total) (rangesOf starts ends)
 
   abbrev places : List Refusal
-  places = placeRefusals ns ss base (length values)
+  places = placeRefusals ns ss base len
 
-  abbrev misfit : Bool
-  misfit = unfit (length starts) (length ends) (length ms) (length es) (length bads)
-
-  pub many-compile : ((compileOf PLACES ns ss) .code ≡ 0 → ⊥) → (compileOf PLACES ns ss) .code ≡ code
-  unfolding manyCode compileOf totalIn
-  many-compile n = sym (first-hides (compileRefusals PLACES ns ss) ((16, misfit) ∷ (each ++ places)) n)
+  pub code-compile : ((compileOf PLACES ns ss) .code ≡ 0 → ⊥) → (compileOf PLACES ns ss) .code ≡ code
+  unfolding compileOf totalIn
+  code-compile n = sym (first-hides (compileRefusals PLACES ns ss) ((16, misfit) ∷ (each ++ places)) n)
 
   module _ (c : Clear ns ss) where
     by-fit : (b : Bool) → misfit ≡ b → code ≡ firstOf ((16, b) ∷ (each ++ places))
-    unfolding manyCode totalIn
+    unfolding totalIn
     by-fit b e = c .after ((16, misfit) ∷ (each ++ places)) ∙ ap (λ (t : Bool). firstOf ((16, t) ∷ (each ++ places))) e
 
-    pub many-16 : misfit ≡ true → 16 ≡ code
+    pub code-16 : misfit ≡ true → 16 ≡ code
     unfolding firstOf
-    many-16 e = sym (by-fit true e)
+    code-16 e = sym (by-fit true e)
 
     module _ (f : misfit ≡ false) where
       past : code ≡ firstOf (each ++ places)
       unfolding firstOf
       past = by-fit false f
 
-      pub many-each : (firstOf each ≡ 0 → ⊥) → firstOf each ≡ code
-      many-each n = sym (past ∙ first-hides each places n)
+      pub code-each : (firstOf each ≡ 0 → ⊥) → firstOf each ≡ code
+      code-each n = sym (past ∙ first-hides each places n)
 
-      pub many-places : firstOf each ≡ 0 → firstOf places ≡ code
-      many-places e = sym (past ∙ each-after total (rangesOf starts ends) e places)
+      pub code-places : firstOf each ≡ 0 → firstOf places ≡ code
+      code-places e = sym (past ∙ each-after ((compileOf PLACES ns ss) .traversal .total) (rangesOf starts ends) e places)
+
+-- ---- the call's own
+module _ (ns : List ℕ) (ss : List ℤ) (base : ℤ) (starts ends : List ℕ) (values ms : List Float) (es : List ℤ) (bads : List ℕ) where
+  abbrev misfit-of : Bool
+  misfit-of = unfit (length starts) (length ends) (length ms) (length es) (length bads)
+
+  abbrev total : ℕ
+  total = (compileOf PLACES ns ss) .traversal .total
+
+  pub code-many : (b : Bool) → b ≡ misfit-of → codeBy ns ss base starts ends (length values) b ≡ manyCode ns ss base starts ends values ms es bads
+  unfolding manyCode
+  code-many b e = ap (codeBy ns ss base starts ends (length values)) e
 
   -- ---- an accepted call
   pub record Accepted : Type 0 where
     pub clears : Clear ns ss
     pub fits : Fit (length starts) (length ends) (length ms) (length es) (length bads)
-    pub each-good : firstOf each ≡ 0
-    pub places-good : firstOf places ≡ 0
+    pub each-good : firstOf (eachRefusals total (rangesOf starts ends)) ≡ 0
+    pub places-good : firstOf (placeRefusals ns ss base (length values)) ≡ 0
 
   compiled : firstOf (compileRefusals PLACES ns ss) ≡ 0 → (compileOf PLACES ns ss) .code ≡ 0
   unfolding compileOf
   compiled q = q
 
-  pub accepted : code ≡ 0 → Accepted
+  pub accepted : manyCode ns ss base starts ends values ms es bads ≡ 0 → Accepted
   unfolding manyCode totalIn
   accepted e =
+      let misfit = misfit-of in
+      let each = eachRefusals total (rangesOf starts ends) in
+      let places = placeRefusals ns ss base (length values) in
       let c = clear ns ss (compiled (first-none (compileRefusals PLACES ns ss) ((16, misfit) ∷ (each ++ places)) e)) in
       let u = refused-none 15 misfit (each ++ places) (sym (c .after ((16, misfit) ∷ (each ++ places))) ∙ e) in
       let g = first-none each places (u .1) in

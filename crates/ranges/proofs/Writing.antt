@@ -14,9 +14,17 @@ use Rattle.refusals.specs.Refusals.{bufferAfter}
 use Rattle.refusals.proofs.Buffers.{buffer-pasted}
 use Rattle.layout.specs.declared.traversal.FullTraversal.{FullTraversal}
 use Rattle.accumulator.specs.declared.StableProductFloatAcc.{StableProductFloatAcc}
+use Rattle.kernels.specs.Pieces.{joinedPieces}
+use Rattle.reduction.specs.Ranges.{piecesOf}
 use Rattle.ranges.specs.Many.{rangesOf, badByte}
-use Rattle.ranges.specs.InnerReady.{productOver, productsOver}
 use Rattle.ranges.proofs.Lists.{length-ranges, range-at}
+
+-- the product of one range over a compiled layout, and of each
+abbrev pub productOver : FullTraversal → ℤ → List Float → ℕ × ℕ → StableProductFloatAcc
+productOver l base values r = joinedPieces (piecesOf l base values (r .0) (r .1))
+
+abbrev pub productsOver : FullTraversal → ℤ → List Float → List (ℕ × ℕ) → List StableProductFloatAcc
+productsOver l base values rs = map (productOver l base values) rs
 
 -- what is written of a product
 abbrev pub mOf : StableProductFloatAcc → Float

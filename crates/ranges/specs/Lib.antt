@@ -1,5 +1,5 @@
 -- All workers' ranges in one call. Definitions only.
 pub mod Many
-pub mod InnerReady
+pub mod InnerCodes
 pub mod Theorems
 pub mod Cases

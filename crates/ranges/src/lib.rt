@@ -1,16 +1,13 @@
 // All workers' ranges in one call: every range is checked before anything is written, and the layout is compiled and tested once.
 ghost use mathlib.Core.Path.{_≡_};
-ghost use mathlib.Core.Bool.{not};
-ghost use mathlib.Core.List.{map};
-ghost use Prim.Native.Nat.{ℕ, _≤_, _<_};
-ghost use lib.ListN.{length, getD};
-ghost use Rattle.refusals.specs.Refusals.{firstOf, bufferAfter};
+ghost use mathlib.Core.Bool.{true, not};
+ghost use lib.ListN.{length};
+ghost use Rattle.refusals.specs.Refusals.{firstOf};
 ghost use Rattle.layout.specs.Axes.{PLACES};
 ghost use Rattle.layout.specs.Compile.{compileOf};
 ghost use Rattle.offsets.specs.Lists.{endRefusals, placeRefusals};
-ghost use Rattle.accumulator.specs.declared.StableProductFloatAcc.{StableProductFloatAcc};
 ghost use Rattle.ranges.specs.Many.{rangesOf, eachRefusals, unfit, badByte, manyCode, msAfter, esAfter, badsAfter};
-ghost use Rattle.ranges.specs.InnerReady.{Ready, productsOver};
+ghost use Rattle.ranges.specs.InnerCodes.{codeBy};
 use layout::traversal::FullTraversal;
 
 // Whether the two lists are of one length, and no buffer is shorter.
@@ -81,36 +78,34 @@ fn bad_byte(bad: bool) -> u8
     if bad { 1 } else { 0 }
 }
 
-// Each range's product in its place of the three buffers.
-fn write_products(
-    l: FullTraversal,
+// Refusals 1 to 4, 16, 5 and 6 of each range, and 7, in this order. Compiling the layout gave the total, and a refusal or 0. The layout itself is not handed
+// in and out, since that would copy its table.
+fn ranges_code(
+    refusal: u32,
+    total: u64,
+    sizes: &[u64],
+    strides: &[i64],
     base: i64,
     starts: &[u64],
     ends: &[u64],
-    values: &[f64],
-    ms: &mut [f64],
-    es: &mut [i64],
-    bads: &mut [u8],
-)
-    requires { ⌜ (length (now starts) ≡ length (now ends)) × (length (now starts) ≤ length (now ms)) × (length (now starts) ≤ length (now es))
-        × (length (now starts) ≤ length (now bads))
-        × ((i : ℕ) → i < length (now starts) → Ready l base (length (now values)) (getD (now starts) i 0) (getD (now ends) i 0)) ⌝ }
-    ensures { λ _. ⌜ now (ms .exit) ≡ bufferAfter 0 (map (λ (a : StableProductFloatAcc). a .m)
-        (productsOver l base (now (values .entry)) (rangesOf (now (starts .entry)) (now (ends .entry))))) (now (ms .entry)) ⌝ }
-    ensures { λ _. ⌜ now (es .exit) ≡ bufferAfter 0 (map (λ (a : StableProductFloatAcc). a .e)
-        (productsOver l base (now (values .entry)) (rangesOf (now (starts .entry)) (now (ends .entry))))) (now (es .entry)) ⌝ }
-    ensures { λ _. ⌜ now (bads .exit) ≡ bufferAfter 0 (map (λ (a : StableProductFloatAcc). badByte (a .bad))
-        (productsOver l base (now (values .entry)) (rangesOf (now (starts .entry)) (now (ends .entry))))) (now (bads .entry)) ⌝ }
+    len: u64,
+    fit: bool,
+) -> u32
+    requires { ⌜ (refusal ≡ (compileOf PLACES (now sizes) (now strides)) .code) × (total ≡ (compileOf PLACES (now sizes) (now strides)) .traversal .total)
+        × (fit ≡ true → length (now starts) ≡ length (now ends)) ⌝ }
+    ensures { λ r. ⌜ r ≡ codeBy (now (sizes .entry)) (now (strides .entry)) base (now (starts .entry)) (now (ends .entry)) len (not fit) ⌝ }
 {
-    let mut i: usize = 0;
-    while i < ends.len() {
-        let acc = reduction::full::reduce_full_range(l, base, starts[i], ends[i], values);
-        let e = acc.e;
-        ms[i] = acc.m;
-        es[i] = e;
-        bads[i] = bad_byte(acc.bad);
-        i += 1;
+    if refusal != 0 {
+        return refusal;
     }
+    if !fit {
+        return refusals::ANSWER_BUFFER_TOO_SHORT;
+    }
+    let fault = each_code(total, starts, ends);
+    if fault != 0 {
+        return fault;
+    }
+    place_code(total, sizes, strides, base, len)
 }
 
 // The product of each range start to end - 1 of a layout over the lent values, in list order in the first places of three buffers; or one of refusals
@@ -136,30 +131,35 @@ pub fn reduce_ranges(
         (now (values .entry)) (now (ms .entry)) (now (es .entry)) (now (bads .entry)) ⌝ }
 {
     let compiled = FullTraversal::compile(sizes, strides);
-    if compiled.code != 0 {
-        return compiled.code;
-    }
-    if !lists_fit(starts.len(), ends.len(), ms.len(), es.len(), bads.len()) {
-        return refusals::ANSWER_BUFFER_TOO_SHORT;
-    }
-    let total = compiled.traversal.total;
-    let fault = each_code(total, starts, ends);
-    if fault != 0 {
-        return fault;
-    }
-    let outside = place_code(total, sizes, strides, base, values.len() as u64);
-    if outside != 0 {
-        return outside;
-    }
-    write_products(
-        compiled.traversal,
+    let fit = lists_fit(starts.len(), ends.len(), ms.len(), es.len(), bads.len());
+    let code = ranges_code(
+        compiled.code,
+        compiled.traversal.total,
+        sizes,
+        strides,
         base,
         starts,
         ends,
-        values,
-        &mut *ms,
-        &mut *es,
-        &mut *bads,
+        values.len() as u64,
+        fit,
     );
+    if code != 0 {
+        return code;
+    }
+    let mut i: usize = 0;
+    while i < ends.len() {
+        let acc = reduction::full::reduce_full_range(
+            compiled.traversal,
+            base,
+            starts[i],
+            ends[i],
+            values,
+        );
+        let e = acc.e;
+        ms[i] = acc.m;
+        es[i] = e;
+        bads[i] = bad_byte(acc.bad);
+        i += 1;
+    }
     0
 }
