@@ -1,6 +1,5 @@
 -- Rule C6 in cases: what a host is handed of an accumulator, of a number, and of a refusal, which leaves its places as they were. Each row is an equation that
 -- holds by computing.
-use Prim.Native.Nat.{ℕ}
 use mathlib.Core.Path.{_≡_}
 use mathlib.Core.Bool.{true, false}
 use lib.IntN.{pos, negsuc}

@@ -19,7 +19,7 @@ use Rattle.offsets.proofs.Ranges.{Clear, first-none, within, range-places}
 use Rattle.offsets.proofs.Writing.{offsets-append}
 use Rattle.floats.specs.Splitting.{isBad}
 use Rattle.accumulator.specs.declared.StableProductFloatAcc.{StableProductFloatAcc}
-use Rattle.accumulator.specs.Joining.{Answer, accumulator}
+use Rattle.accumulator.specs.Joining.{accumulator}
 use Rattle.laws.specs.Lists.{Each}
 use Rattle.kernels.specs.Lanes.{some}
 use Rattle.kernels.proofs.Feeding.{some-append}

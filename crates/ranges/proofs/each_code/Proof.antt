@@ -1,12 +1,11 @@
 -- `ranges::each_code` meets its contract. The loop's invariant: the code is that of the ranges from number i on. Assumes nothing.
-use Prim.Native.Nat.{ℕ, suc, _+_, _-_, _≤_, _<_}
+use Prim.Native.Nat.{ℕ, suc, _-_, _≤_, _<_}
 use mathlib.Core.Path.{_≡_, refl, sym, _∙_, ap}
-use mathlib.Core.List.{List, [], _∷_}
+use mathlib.Core.List.{List, _∷_}
 use native.Mathlib.Omega.{arith}
 use native.Mathlib.Numerals.{add-one}
 use lib.ListN.{length, getD, drop, drop-of-length-le}
 use Rattle.refusals.specs.Refusals.{firstOf}
-use Rattle.offsets.specs.Lists.{endRefusals}
 use Rattle.ranges.specs.Many.{rangesOf, eachRefusals}
 use Rattle.ranges.proofs.Lists.{ranges-from}
 use Rattle.ranges.proofs.Codes.{each-fault, each-next}

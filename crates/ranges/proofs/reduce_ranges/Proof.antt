@@ -1,6 +1,6 @@
 -- `ranges::reduce_ranges` meets its contract: a refusal with every buffer kept, or the products. The loop's invariant: each buffer holds what is written of the
 -- first i of them. Assumes nothing.
-use Prim.Native.Nat.{ℕ, _+_, _-_, _*_, _^_, _≤_, _<_}
+use Prim.Native.Nat.{_+_, _-_, _*_, _^_, _≤_, _<_}
 use mathlib.Core.Path.{_≡_, refl, sym, _∙_, ap}
 use mathlib.Core.Bool.{not}
 use native.Mathlib.Omega.{arith}
