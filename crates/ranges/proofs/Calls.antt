@@ -18,7 +18,7 @@ use Rattle.offsets.proofs.Checked.{accepted-range}
 use Rattle.accumulator.specs.declared.StableProductFloatAcc.{StableProductFloatAcc}
 use Rattle.ranges.specs.Many.{rangesOf, manyCode, products, msAfter, esAfter, badsAfter}
 use Rattle.ranges.proofs.Codes.{Accepted, range-accepted}
-use Rattle.ranges.proofs.Writing.{mOf, eOf, byteOf, productsOver}
+use Rattle.ranges.proofs.Writing.{acc-m, acc-e, acc-byte, productsOver}
 
 -- what the reduction of a range over a compiled layout asks
 pub record Ready (l : FullTraversal) (base : ℤ) (len start end : ℕ) : Type 0 where
@@ -47,7 +47,7 @@ module _ (ns : List ℕ) (ss : List ℤ) (base : ℤ) (starts ends : List ℕ) (
   unfolding msAfter esAfter badsAfter
   told-refused r e n =
       let k : code ≡ 0 → ⊥ = λ z. n (e ∙ z) in
-      (e, (buffer-kept code (map mOf all) ms k, (buffer-kept code (map eOf all) es k, buffer-kept code (map byteOf all) bads k)))
+      (e, (buffer-kept code (map acc-m all) ms k, (buffer-kept code (map acc-e all) es k, buffer-kept code (map acc-byte all) bads k)))
 
   -- over any layout that is the compiled one
   module _ (l : FullTraversal) (is : l ≡ (compileOf PLACES ns ss) .traversal) where
@@ -58,13 +58,13 @@ module _ (ns : List ℕ) (ss : List ℤ) (base : ℤ) (starts ends : List ℕ) (
         ∙ ap (λ (n : ℕ). bufferAfter n (map f all) out) e
 
     pub told-accepted : 0 ≡ code → (m : List Float) (e : List ℤ) (b : List ℕ)
-        → m ≡ bufferAfter 0 (map mOf (productsOver l base values (rangesOf starts ends))) ms
-        → e ≡ bufferAfter 0 (map eOf (productsOver l base values (rangesOf starts ends))) es
-        → b ≡ bufferAfter 0 (map byteOf (productsOver l base values (rangesOf starts ends))) bads
+        → m ≡ bufferAfter 0 (map acc-m (productsOver l base values (rangesOf starts ends))) ms
+        → e ≡ bufferAfter 0 (map acc-e (productsOver l base values (rangesOf starts ends))) es
+        → b ≡ bufferAfter 0 (map acc-byte (productsOver l base values (rangesOf starts ends))) bads
         → Told 0 m e b
     unfolding msAfter esAfter badsAfter
     told-accepted z m e b p q r =
-        (z, (p ∙ over mOf ms z, (q ∙ over eOf es z, r ∙ over byteOf bads z)))
+        (z, (p ∙ over acc-m ms z, (q ∙ over acc-e es z, r ∙ over acc-byte bads z)))
 
     -- each range of an accepted call can be reduced
     pub ready : Accepted ns ss base starts ends values ms es bads → (i : ℕ) → i < length starts → Ready l base (length values) (getD starts i 0) (getD ends i 0)

@@ -22,9 +22,9 @@ use Rattle.kernels.specs.Blocks as blocks
 use Rattle.kernels.specs.Pieces.{joinedPieces}
 use Rattle.reduction.specs.Ranges.{piecesFrom, reduceOf}
 use Rattle.ranges.specs.Many.{rangesOf, eachRefusals, manyCode, msAfter, esAfter, badsAfter}
-use Rattle.ranges.specs.Cases.{WrittenTable, RankTable, JoiningTable}
+use Rattle.ranges.specs.Cases.{WrittenTable, RefusedTable, JoiningTable}
 
-pub many-tables : WrittenTable × RankTable × JoiningTable
+pub many-tables : WrittenTable × RefusedTable × JoiningTable
 unfolding fitsI64 eqZ span axisOf resetFits placesOf keptAxes rank precedes insertAxis orderFrom axesOf resetsFit reach joinOf fuseFrom fuse totalFrom
     totalOf fusedOf layoutOf emptyLayout traversalAt traversalOf firstOf overflows aboveMost compileRefusals layoutBeside compileOf digits shift
     offset insideValues everyBelow allInside totalIn rangeRefusals rangeCode offsetsFrom runOf outerOf piecesFrom reduceOf joinedPieces

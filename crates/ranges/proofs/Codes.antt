@@ -34,24 +34,30 @@ module _ (total : ℕ) where
   unfolding eachRefusals
   each-next r rs e = within total (r .0) (r .1) e .after (eachRefusals total rs)
 
-  -- none is faulty: what comes behind them decides, and each lies within the layout
+  -- none is faulty: neither the first nor those behind it
+  module _ (r : ℕ × ℕ) (rs : List (ℕ × ℕ)) (e : firstOf (eachRefusals total (r ∷ rs)) ≡ 0) where
+    pub each-head : Within total (r .0) (r .1)
+    unfolding eachRefusals
+    each-head = within total (r .0) (r .1) (first-none (endRefusals total (r .0) (r .1)) (eachRefusals total rs) e)
+
+    pub each-tail : firstOf (eachRefusals total rs) ≡ 0
+    unfolding eachRefusals
+    each-tail = sym (each-head .after (eachRefusals total rs)) ∙ e
+
+  -- so what comes behind them all decides, and each lies within the layout
   pub each-after : (rs : List (ℕ × ℕ)) → firstOf (eachRefusals total rs) ≡ 0 → (qs : List Refusal) → firstOf (eachRefusals total rs ++ qs) ≡ firstOf qs
   unfolding eachRefusals
   each-after [] e qs = refl
   each-after (r ∷ rs) e qs =
-      let w = within total (r .0) (r .1) (first-none (endRefusals total (r .0) (r .1)) (eachRefusals total rs) e) in
       ap firstOf (append-assoc (endRefusals total (r .0) (r .1)) (eachRefusals total rs) qs)
-      ∙ w .after (eachRefusals total rs ++ qs)
-      ∙ each-after rs (sym (w .after (eachRefusals total rs)) ∙ e) qs
+      ∙ each-head r rs e .after (eachRefusals total rs ++ qs)
+      ∙ each-after rs (each-tail r rs e) qs
 
   pub each-within : (rs : List (ℕ × ℕ)) → firstOf (eachRefusals total rs) ≡ 0 → (i : ℕ) → i < length rs → (d : ℕ × ℕ)
       → Within total (getD rs i d .0) (getD rs i d .1)
-  unfolding eachRefusals
   each-within [] e i h d = absurd (omega arith)
-  each-within (r ∷ rs) e zero h d = within total (r .0) (r .1) (first-none (endRefusals total (r .0) (r .1)) (eachRefusals total rs) e)
-  each-within (r ∷ rs) e (suc i) h d =
-      let w = within total (r .0) (r .1) (first-none (endRefusals total (r .0) (r .1)) (eachRefusals total rs) e) in
-      each-within rs (sym (w .after (eachRefusals total rs)) ∙ e) i (omega arith) d
+  each-within (r ∷ rs) e zero h d = each-head r rs e
+  each-within (r ∷ rs) e (suc i) h d = each-within rs (each-tail r rs e) i (omega arith) d
 
 -- ---- the lengths
 module _ (starts ends ms es bads : ℕ) where

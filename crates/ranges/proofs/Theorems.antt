@@ -4,18 +4,19 @@ use mathlib.Core.Path.{_≡_, refl, sym, _∙_, ap}
 use mathlib.Core.Bool.{Bool, true, false, _||_}
 use mathlib.Core.List.{List, [], _∷_, _++_, map, map-append}
 use native.Mathlib.Omega.{arith}
-use lib.ListN.{length, getD, take, length-map, List·getD-map}
+use lib.ListN.{length, getD, take}
 use lib.Dec.{T, eqb}
 use lib.IntN.{ℤ, pos}
 use lib.Ieee.{Float, nan, binary64, fits}
 use Rattle.refusals.specs.Refusals.{firstOf}
 use Rattle.refusals.proofs.Buffers.{buffer-first, buffer-at}
+use Rattle.layout.specs.declared.traversal.FullTraversal.{FullTraversal}
 use Rattle.layout.specs.Axes.{PLACES}
 use Rattle.layout.specs.Order.{axesOf}
 use Rattle.layout.specs.Compile.{compileOf}
-use Rattle.offsets.specs.Lists.{totalIn, endRefusals, placeRefusals, rangeCode, offsetsFrom}
+use Rattle.offsets.specs.Lists.{totalIn, placeRefusals, rangeCode, offsetsFrom}
 use Rattle.offsets.specs.Values.{valueAt}
-use Rattle.offsets.proofs.Ranges.{Clear, first-none, within, range-places}
+use Rattle.offsets.proofs.Ranges.{Clear, range-places}
 use Rattle.offsets.proofs.Writing.{offsets-append}
 use Rattle.floats.specs.Splitting.{isBad}
 use Rattle.accumulator.specs.declared.StableProductFloatAcc.{StableProductFloatAcc}
@@ -28,9 +29,8 @@ use Rattle.reduction.proofs.Calls.{reduce-accepted}
 use Rattle.reduction.proofs.Whole.{rule-D3}
 use Rattle.ranges.specs.Many.{rangesOf, eachRefusals, badByte, manyCode, products, msAfter, esAfter, badsAfter}
 use Rattle.ranges.specs.Theorems.{RuleM1, RuleM1Law, Consecutive, none, more, offsetsOver, RuleM2, RuleM2Law}
-use Rattle.ranges.proofs.Lists.{at-any, length-ranges, range-at}
-use Rattle.ranges.proofs.Writing.{mOf, eOf, byteOf}
-use Rattle.ranges.proofs.Codes.{Accepted, accepted, range-accepted}
+use Rattle.ranges.proofs.Writing.{acc-m, acc-e, acc-byte, length-all, product-at}
+use Rattle.ranges.proofs.Codes.{each-head, each-tail, Accepted, accepted, range-accepted}
 
 -- ---- the byte of a mark
 byte-one : (b : Bool) → eqb (badByte b) 1 ≡ b
@@ -54,38 +54,30 @@ module _ (ns : List ℕ) (ss : List ℤ) (base : ℤ) (starts ends : List ℕ) (
   abbrev all : List StableProductFloatAcc
   all = products ns ss base starts ends values ms es bads
 
-  abbrev product : ℕ × ℕ → StableProductFloatAcc
-  product r = rangeProduct ns ss base (r .0) (r .1) values
+  abbrev layout : FullTraversal
+  layout = (compileOf PLACES ns ss) .traversal
 
   allowed : Accepted ns ss base starts ends values ms es bads
   allowed = accepted ns ss base starts ends values ms es bads z
 
-  length-all : {X : Type 0} (f : StableProductFloatAcc → X) → length (map f all) ≡ length starts
-  length-all f = length-map all f ∙ length-map (rangesOf starts ends) product ∙ length-ranges starts ends (allowed .fits .same)
-
-  -- the i-th of what is told of the products
-  told-at : {X : Type 0} (f : StableProductFloatAcc → X) (i : ℕ) → i < length starts → (d : X)
-      → getD (map f all) i d ≡ f (product (getD starts i 0, getD ends i 0))
-  told-at f i h d =
-      at-any (map f all) i (rw (length-all f) h) d (f (product (0, 0)))
-      ∙ List·getD-map f all i (product (0, 0))
-      ∙ ap f (List·getD-map product (rangesOf starts ends) i (0, 0) ∙ ap product (range-at starts ends (allowed .fits .same) i h (0, 0)))
+  abbrev same : length starts ≡ length ends
+  same = allowed .fits .same
 
   module _ (i : ℕ) (h : i < length starts) where
     abbrev own : StableProductFloatAcc
-    own = product (getD starts i 0, getD ends i 0)
+    own = rangeProduct ns ss base (getD starts i 0) (getD ends i 0) values
 
     m-at : getD (msAfter ns ss base starts ends values ms es bads) i nan ≡ own .m
     unfolding msAfter
-    m-at = buffer-at code (map mOf all) ms z i (rw (length-all mOf) h) nan ∙ told-at mOf i h nan
+    m-at = buffer-at code (map acc-m all) ms z i (rw (length-all layout base values starts ends acc-m same) h) nan ∙ product-at layout base values starts ends acc-m same i h nan
 
     e-at : getD (esAfter ns ss base starts ends values ms es bads) i (pos 0) ≡ own .e
     unfolding esAfter
-    e-at = buffer-at code (map eOf all) es z i (rw (length-all eOf) h) (pos 0) ∙ told-at eOf i h (pos 0)
+    e-at = buffer-at code (map acc-e all) es z i (rw (length-all layout base values starts ends acc-e same) h) (pos 0) ∙ product-at layout base values starts ends acc-e same i h (pos 0)
 
     bad-at : getD (badsAfter ns ss base starts ends values ms es bads) i 0 ≡ badByte (own .bad)
     unfolding badsAfter
-    bad-at = buffer-at code (map byteOf all) bads z i (rw (length-all byteOf) h) 0 ∙ told-at byteOf i h 0
+    bad-at = buffer-at code (map acc-byte all) bads z i (rw (length-all layout base values starts ends acc-byte same) h) 0 ∙ product-at layout base values starts ends acc-byte same i h 0
 
     place-rule : RuleM1 ns ss base (getD starts i 0) (getD ends i 0) values (getD (msAfter ns ss base starts ends values ms es bads) i nan)
         (getD (esAfter ns ss base starts ends values ms es bads) i (pos 0)) (getD (badsAfter ns ss base starts ends values ms es bads) i 0)
@@ -115,13 +107,13 @@ module _ (ns : List ℕ) (ss : List ℤ) (base : ℤ) (values : List Float) (v :
   -- ranges that follow one another list what one range over them lists
   chain : {rs : List (ℕ × ℕ)} {from to : ℕ} → Consecutive from to rs → firstOf (eachRefusals total rs) ≡ 0
       → (from ≤ to) × (offsetsOver ns ss base rs ≡ offsetsFrom (axesOf ns ss) base from (to - from))
-  unfolding offsetsOver offsetsFrom eachRefusals
+  unfolding offsetsOver offsetsFrom
   chain (none {k = from}) e =
       let z : 0 ≡ from - from = omega arith in
       (omega arith, ap (offsetsFrom (axesOf ns ss) base from) z)
   chain (more {from = from} {via = via} {to = to} {rs = rs} q) e =
-      let w = within total from via (first-none (endRefusals total from via) (eachRefusals total rs) e) in
-      let r = chain q (sym (w .after (eachRefusals total rs)) ∙ e) in
+      let w = each-head total (from, via) rs e in
+      let r = chain q (each-tail total (from, via) rs e) in
       let k : from + (via - from) ≡ via = omega (arith, w .forward) in
       let n : via - from + (to - via) ≡ to - from = omega (arith, w .forward, r .0) in (
         omega (arith, w .forward, r .0),
@@ -136,18 +128,18 @@ module _ (ns : List ℕ) (ss : List ℤ) (base : ℤ) (values : List Float) (v :
 
   -- some byte is 1 exactly if some visited rate is bad
   marks : (rs : List (ℕ × ℕ)) → firstOf (eachRefusals total rs) ≡ 0
-      → some (eqb 1) (map byteOf (map product-of rs))
+      → some (eqb 1) (map acc-byte (map product-of rs))
       ≡ some isBad (map (valueAt values) (offsetsOver ns ss base rs))
-  unfolding some offsetsOver eachRefusals
+  unfolding some offsetsOver
   marks [] e = refl
   marks (r ∷ rs) e =
-      let w = within total (r .0) (r .1) (first-none (endRefusals total (r .0) (r .1)) (eachRefusals total rs) e) in
+      let w = each-head total r rs e in
       let a = rangeProduct ns ss base (r .0) (r .1) values in
       let d = rule-D3 ns ss base (r .0) (r .1) values v (range-code (r .0) (r .1) (w .forward) (w .inside)) in
       let here = offsetsFrom (axesOf ns ss) base (r .0) (r .1 - r .0) in
       let rest = offsetsOver ns ss base rs in
-      ap (λ (b : Bool). b || some (eqb 1) (map byteOf (map product-of rs))) (one-byte (a .bad) ∙ d .mark)
-      ∙ ap (λ (b : Bool). some isBad (map (valueAt values) here) || b) (marks rs (sym (w .after (eachRefusals total rs)) ∙ e))
+      ap (λ (b : Bool). b || some (eqb 1) (map acc-byte (map product-of rs))) (one-byte (a .bad) ∙ d .mark)
+      ∙ ap (λ (b : Bool). some isBad (map (valueAt values) here) || b) (marks rs (each-tail total r rs e))
       ∙ sym (ap (some isBad) (map-append (valueAt values) here rest) ∙ some-append isBad (map (valueAt values) here) (map (valueAt values) rest))
 
   module _ (h : 0 < total) (rs : List (ℕ × ℕ)) (e : firstOf (eachRefusals total rs) ≡ 0) (q : Consecutive 0 total rs) where
@@ -155,7 +147,7 @@ module _ (ns : List ℕ) (ss : List ℤ) (base : ℤ) (values : List Float) (v :
     all-offsets = let n : total - 0 ≡ total = omega arith in chain q e .1 ∙ ap (offsetsFrom (axesOf ns ss) base 0) n
 
     whole-rule : (bads : List ℕ)
-        → bads ≡ map byteOf (map product-of rs)
+        → bads ≡ map acc-byte (map product-of rs)
         → RuleM2 ns ss base rs values bads (rangeProduct ns ss base 0 (totalIn ns ss) values)
     unfolding totalIn
     whole-rule bads b =
@@ -170,11 +162,11 @@ module _ (ns : List ℕ) (ss : List ℤ) (base : ℤ) (starts ends : List ℕ) (
     (v : Each (λ (x : Float). T (fits binary64 x)) values) (z : manyCode ns ss base starts ends values ms es bads ≡ 0) where
   -- the bytes that were written
   bytes : take (length starts) (badsAfter ns ss base starts ends values ms es bads)
-      ≡ map byteOf (products ns ss base starts ends values ms es bads)
+      ≡ map acc-byte (products ns ss base starts ends values ms es bads)
   unfolding badsAfter
   bytes =
-      ap (λ (n : ℕ). take n (badsAfter ns ss base starts ends values ms es bads)) (sym (length-all ns ss base starts ends values ms es bads z byteOf))
-      ∙ buffer-first (manyCode ns ss base starts ends values ms es bads) (map byteOf (products ns ss base starts ends values ms es bads)) bads z
+      ap (λ (n : ℕ). take n (badsAfter ns ss base starts ends values ms es bads)) (sym (length-all ((compileOf PLACES ns ss) .traversal) base values starts ends acc-byte (allowed ns ss base starts ends values ms es bads z .fits .same)))
+      ∙ buffer-first (manyCode ns ss base starts ends values ms es bads) (map acc-byte (products ns ss base starts ends values ms es bads)) bads z
 
   consecutive-rule : 0 < totalIn ns ss → Consecutive 0 (totalIn ns ss) (rangesOf starts ends)
       → RuleM2 ns ss base (rangesOf starts ends) values (take (length starts) (badsAfter ns ss base starts ends values ms es bads))

@@ -7,7 +7,7 @@ use native.Mathlib.Omega.{arith}
 use native.Mathlib.Numerals.{add-one}
 use native.Mathlib.Nat.{zero-add}
 use lib.ListN.{length, getD, set, length-map, List·getD-map}
-use lib.Seq.{paste, paste-zero, paste-suc, length-paste}
+use lib.Seq.{paste, paste-suc, length-paste}
 use lib.IntN.{ℤ}
 use lib.Ieee.{Float}
 use Rattle.refusals.specs.Refusals.{bufferAfter}
@@ -17,7 +17,7 @@ use Rattle.accumulator.specs.declared.StableProductFloatAcc.{StableProductFloat
 use Rattle.kernels.specs.Pieces.{joinedPieces}
 use Rattle.reduction.specs.Ranges.{piecesOf}
 use Rattle.ranges.specs.Many.{rangesOf, badByte}
-use Rattle.ranges.proofs.Lists.{length-ranges, range-at}
+use Rattle.ranges.proofs.Lists.{at-any, length-ranges, range-at}
 
 -- the product of one range over a compiled layout, and of each
 abbrev pub productOver : FullTraversal → ℤ → List Float → ℕ × ℕ → StableProductFloatAcc
@@ -27,52 +27,50 @@ abbrev pub productsOver : FullTraversal → ℤ → List Float → List (ℕ × 
 productsOver l base values rs = map (productOver l base values) rs
 
 -- what is written of a product
-abbrev pub mOf : StableProductFloatAcc → Float
-mOf a = a .m
+abbrev pub acc-m : StableProductFloatAcc → Float
+acc-m a = a .m
 
-abbrev pub eOf : StableProductFloatAcc → ℤ
-eOf a = a .e
+abbrev pub acc-e : StableProductFloatAcc → ℤ
+acc-e a = a .e
 
-abbrev pub byteOf : StableProductFloatAcc → ℕ
-byteOf a = badByte (a .bad)
+abbrev pub acc-byte : StableProductFloatAcc → ℕ
+acc-byte a = badByte (a .bad)
 
 -- what is written of them all, by one of these
-module _ (l : FullTraversal) (base : ℤ) (values : List Float) (starts ends : List ℕ) {X : Type 0} (f : StableProductFloatAcc → X) (out : List X) where
+module _ (l : FullTraversal) (base : ℤ) (values : List Float) (starts ends : List ℕ) {X : Type 0} (f : StableProductFloatAcc → X) where
   abbrev all : List X
   all = map f (productsOver l base values (rangesOf starts ends))
 
-  -- the buffer with i of them written
-  abbrev pub wrote : ℕ → List X
-  wrote i = paste out 0 all i
-
-  pub wrote-none : out ≡ wrote 0
-  wrote-none = paste-zero out 0 all
-
-  module _ (same : length starts ≡ length ends) (room : length starts ≤ length out) where
-    length-all : length all ≡ length starts
+  module _ (same : length starts ≡ length ends) where
+    pub length-all : length all ≡ length starts
     length-all =
         length-map (productsOver l base values (rangesOf starts ends)) f
         ∙ length-map (rangesOf starts ends) (productOver l base values)
         ∙ length-ranges starts ends same
 
-    product-at : (i : ℕ) → i < length starts
-        → getD all i (f (productOver l base values (0, 0))) ≡ f (productOver l base values (getD starts i 0, getD ends i 0))
-    product-at i h =
-        List·getD-map f (productsOver l base values (rangesOf starts ends)) i (productOver l base values (0, 0))
+    pub product-at : (i : ℕ) → i < length starts → (d : X) → getD all i d ≡ f (productOver l base values (getD starts i 0, getD ends i 0))
+    product-at i h d =
+        at-any all i (rw length-all h) d (f (productOver l base values (0, 0)))
+        ∙ List·getD-map f (productsOver l base values (rangesOf starts ends)) i (productOver l base values (0, 0))
         ∙ ap f (List·getD-map (productOver l base values) (rangesOf starts ends) i (0, 0) ∙ ap (productOver l base values) (range-at starts ends same i h (0, 0)))
 
-    pub wrote-more : (i : ℕ) → i < length starts → (r : List X) → r ≡ wrote i → (x : X)
-        → x ≡ f (productOver l base values (getD starts i 0, getD ends i 0)) → set r i x ≡ wrote (i + 1)
-    wrote-more i h r e x q =
-        let z = f (productOver l base values (0, 0)) in
-        ap (λ (o : List X). set o i x) e
-        ∙ ap (set (wrote i) i) (q ∙ sym (product-at i h))
-        ∙ ap (λ (n : ℕ). set (wrote i) n (getD all i z)) (sym (zero-add i))
-        ∙ paste-suc out 0 all i z (rw (zero-add i) (omega arith)) (rw length-all h)
-        ∙ ap wrote (sym (add-one i))
+  module _ (out : List X) where
+    -- the buffer with i of them written
+    abbrev pub wrote : ℕ → List X
+    wrote i = paste out 0 all i
 
-    pub length-wrote : (i : ℕ) → i ≤ length starts → (r : List X) → r ≡ wrote i → length r ≡ length out
-    length-wrote i h r e = ap length e ∙ length-paste out 0 all i (rw (zero-add i) (omega arith)) (rw length-all h)
+    module _ (same : length starts ≡ length ends) (room : length starts ≤ length out) where
+      pub wrote-more : (i : ℕ) → i < length starts → (r : List X) → r ≡ wrote i → (x : X)
+          → x ≡ f (productOver l base values (getD starts i 0, getD ends i 0)) → set r i x ≡ wrote (i + 1)
+      wrote-more i h r e x q =
+          ap (λ (o : List X). set o i x) e
+          ∙ ap (set (wrote i) i) (q ∙ sym (product-at same i h x))
+          ∙ ap (λ (n : ℕ). set (wrote i) n (getD all i x)) (sym (zero-add i))
+          ∙ paste-suc out 0 all i x (rw (zero-add i) (omega arith)) (rw (length-all same) h)
+          ∙ ap wrote (sym (add-one i))
 
-    pub wrote-all : (i : ℕ) → i ≡ length starts → (r : List X) → r ≡ wrote i → r ≡ bufferAfter 0 all out
-    wrote-all i h r e = e ∙ ap wrote (h ∙ sym length-all) ∙ buffer-pasted 0 all out refl
+      pub length-wrote : (i : ℕ) → i ≤ length starts → (r : List X) → r ≡ wrote i → length r ≡ length out
+      length-wrote i h r e = ap length e ∙ length-paste out 0 all i (rw (zero-add i) (omega arith)) (rw (length-all same) h)
+
+      pub wrote-all : (i : ℕ) → i ≡ length starts → (r : List X) → r ≡ wrote i → r ≡ bufferAfter 0 all out
+      wrote-all i h r e = e ∙ ap wrote (h ∙ sym (length-all same)) ∙ buffer-pasted 0 all out refl

@@ -33,8 +33,9 @@ Gives n base starts ends code ms es bads =
     × (esAfter (n ∷ []) (pos 1 ∷ []) base starts ends four heldM heldE heldBad ≡ es)
     × (badsAfter (n ∷ []) (pos 1 ∷ []) base starts ends four heldM heldE heldBad ≡ bads)
 
-abbrev pub Refused : ℕ → ℤ → List ℕ → List ℕ → ℕ → Type 0
-Refused n base starts ends code = Gives n base starts ends code heldM heldE heldBad
+-- a refused call keeps all three
+abbrev pub Kept : ℕ → ℤ → List ℕ → List ℕ → ℕ → Type 0
+Kept n base starts ends code = Gives n base starts ends code heldM heldE heldBad
 
 -- M1: two ranges and a place that stays; overlapping ones, the last bad; the same one three times; none, also over a layout without elements
 abbrev pub WrittenTable : Type 0
@@ -47,11 +48,11 @@ WrittenTable =
 
 -- R0: 16 by the lists and by the buffers, before 5; 6 of the first range before 5 of the second, 5 before 6; both before 7, which an empty list gets too, and
 -- which a layout without elements never gives
-abbrev pub RankTable : Type 0
-RankTable =
-    Refused 4 (pos 1) (2 ∷ 0 ∷ []) (2 ∷ []) 16 × Refused 4 (pos 1) (2 ∷ 0 ∷ 0 ∷ 0 ∷ []) (2 ∷ 5 ∷ 4 ∷ 4 ∷ []) 16
-    × Refused 4 (pos 1) (0 ∷ 2 ∷ []) (5 ∷ 2 ∷ []) 6 × Refused 4 (pos 1) (2 ∷ 0 ∷ []) (2 ∷ 5 ∷ []) 5 × Refused 4 (pos 1) (6 ∷ []) (5 ∷ []) 5
-    × Refused 4 (pos 1) (0 ∷ []) (4 ∷ []) 7 × Refused 4 (pos 1) [] [] 7 × Refused 0 (pos 9) (0 ∷ []) (1 ∷ []) 6 × Gives 0 (pos 9) [] [] 0 heldM heldE heldBad
+abbrev pub RefusedTable : Type 0
+RefusedTable =
+    Kept 4 (pos 1) (2 ∷ 0 ∷ []) (2 ∷ []) 16 × Kept 4 (pos 1) (2 ∷ 0 ∷ 0 ∷ 0 ∷ []) (2 ∷ 5 ∷ 4 ∷ 4 ∷ []) 16
+    × Kept 4 (pos 1) (0 ∷ 2 ∷ []) (5 ∷ 2 ∷ []) 6 × Kept 4 (pos 1) (2 ∷ 0 ∷ []) (2 ∷ 5 ∷ []) 5 × Kept 4 (pos 1) (6 ∷ []) (5 ∷ []) 5
+    × Kept 4 (pos 1) (0 ∷ []) (4 ∷ []) 7 × Kept 4 (pos 1) [] [] 7 × Kept 0 (pos 9) (0 ∷ []) (1 ∷ []) 6 × Gives 0 (pos 9) [] [] 0 heldM heldE heldBad
 
 -- Three rates, unbroken, and the first of them joined with the product of the other two: the last bits differ.
 abbrev pub three : List Float

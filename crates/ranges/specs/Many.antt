@@ -13,7 +13,7 @@ use Rattle.offsets.specs.Lists.{totalIn, endRefusals, placeRefusals}
 use Rattle.accumulator.specs.declared.StableProductFloatAcc.{StableProductFloatAcc}
 use Rattle.reduction.specs.Ranges.{rangeProduct}
 
--- the ranges of two lists, in list order: each start with its end
+-- rule C13, the ranges of two lists, in list order: each start with its end
 unfoldable pub rangesOf : List ℕ → List ℕ → List (ℕ × ℕ)
 rangesOf [] ends = []
 rangesOf (start ∷ starts) [] = []
@@ -28,7 +28,7 @@ eachRefusals total (r ∷ rs) = endRefusals total (r .0) (r .1) ++ eachRefusals 
 abbrev pub unfit : ℕ → ℕ → ℕ → ℕ → ℕ → Bool
 unfit starts ends ms es bads = not (eqb starts ends) || ltb ms starts || ltb es starts || ltb bads starts
 
--- the byte of a mark
+-- rule M1, the byte of a mark
 abbrev pub badByte : Bool → ℕ
 badByte bad = cond bad 1 0
 

@@ -14,7 +14,7 @@ use Rattle.layout.specs.Compile.{compileOf}
 use Rattle.ranges.specs.Many.{manyCode}
 use Rattle.ranges.proofs.Codes.{fit, code-many, Accepted, accepted}
 use Rattle.ranges.proofs.Calls.{Ready, told-refused, told-accepted, ready}
-use Rattle.ranges.proofs.Writing.{mOf, eOf, byteOf, wrote, wrote-more, length-wrote, wrote-all}
+use Rattle.ranges.proofs.Writing.{acc-m, acc-e, acc-byte, wrote, wrote-more, length-wrote, wrote-all}
 use borrow.Author.Needs.{needs}
 use Rattle.ranges.proofs.reduce_ranges.Statement.{statement}
 use Rattle.ranges.proofs.reduce_ranges.Tie as tie
@@ -22,9 +22,9 @@ use Rattle.ranges.proofs.reduce_ranges.Tie as tie
 abbrev Inv-loop : tie.InvT-loop
 Inv-loop sizes strides base starts ends values ms₀ es₀ bads₀ compiled fit code i₀ ms es bads i =
     (i ≤ length starts)
-    × (ms ≡ wrote (compiled .traversal) (toZ w64 base) values starts ends mOf ms₀ i)
-    × (es ≡ wrote (compiled .traversal) (toZ w64 base) values starts ends eOf es₀ i)
-    × (bads ≡ wrote (compiled .traversal) (toZ w64 base) values starts ends byteOf bads₀ i)
+    × (ms ≡ wrote (compiled .traversal) (toZ w64 base) values starts ends acc-m ms₀ i)
+    × (es ≡ wrote (compiled .traversal) (toZ w64 base) values starts ends acc-e es₀ i)
+    × (bads ≡ wrote (compiled .traversal) (toZ w64 base) values starts ends acc-byte bads₀ i)
 
 abbrev μ-loop : tie.MeasureT-loop
 μ-loop sizes strides base starts ends values ms₀ es₀ bads₀ compiled fit code i₀ ms es bads i = length starts - i
@@ -134,17 +134,17 @@ module _ (k : tie.At-loop Inv-loop μ-loop) where
   long-m : length (k .loop .ms) ≡ length (s .args .ms .now)
   long-m =
       let f = allowed (k .before) .fits in
-      length-wrote _ _ _ _ _ mOf (s .args .ms .now) (f .same) (f .room-m) (k .loop .i) (k .loop .inv .0) _ (k .loop .inv .1)
+      length-wrote _ _ _ _ _ acc-m (s .args .ms .now) (f .same) (f .room-m) (k .loop .i) (k .loop .inv .0) _ (k .loop .inv .1)
 
   long-e : length (k .loop .es) ≡ length (s .args .es .now)
   long-e =
       let f = allowed (k .before) .fits in
-      length-wrote _ _ _ _ _ eOf (s .args .es .now) (f .same) (f .room-e) (k .loop .i) (k .loop .inv .0) _ (k .loop .inv .2)
+      length-wrote _ _ _ _ _ acc-e (s .args .es .now) (f .same) (f .room-e) (k .loop .i) (k .loop .inv .0) _ (k .loop .inv .2)
 
   long-bad : length (k .loop .bads) ≡ length (s .args .bads .now)
   long-bad =
       let f = allowed (k .before) .fits in
-      length-wrote _ _ _ _ _ byteOf (s .args .bads .now) (f .same) (f .room-bad) (k .loop .i) (k .loop .inv .0) _ (k .loop .inv .3)
+      length-wrote _ _ _ _ _ acc-byte (s .args .bads .now) (f .same) (f .room-bad) (k .loop .i) (k .loop .inv .0) _ (k .loop .inv .3)
 
 abbrev from-told : tie.After-struct-told Inv-loop μ-loop → tie.In-loop Inv-loop μ-loop
 from-told c = c .before .before .before .before
@@ -183,10 +183,10 @@ loop-again c =
     let p = t .before .reduce-full-range .ensures in
     let fits : SFits w64 (t .before .reduce-full-range .result .e) = record { sfits = t .struct-told .given .1 .0 .1 } in (
       omega (arith, below i),
-      wrote-more _ _ _ _ _ mOf (s .args .ms .now) (f .same) (f .room-m) (k .loop .i) (below i) _ (k .loop .inv .1) _ (ap mOf p),
-      wrote-more _ _ _ _ _ eOf (s .args .es .now) (f .same) (f .room-e) (k .loop .i) (below i) _ (k .loop .inv .2) _ (toZ-ofZ fits ∙ ap eOf p),
-      wrote-more _ _ _ _ _ byteOf (s .args .bads .now) (f .same) (f .room-bad) (k .loop .i) (below i) _ (k .loop .inv .3) _
-          (c .bad-byte .ensures ∙ ap byteOf p),
+      wrote-more _ _ _ _ _ acc-m (s .args .ms .now) (f .same) (f .room-m) (k .loop .i) (below i) _ (k .loop .inv .1) _ (ap acc-m p),
+      wrote-more _ _ _ _ _ acc-e (s .args .es .now) (f .same) (f .room-e) (k .loop .i) (below i) _ (k .loop .inv .2) _ (toZ-ofZ fits ∙ ap acc-e p),
+      wrote-more _ _ _ _ _ acc-byte (s .args .bads .now) (f .same) (f .room-bad) (k .loop .i) (below i) _ (k .loop .inv .3) _
+          (c .bad-byte .ensures ∙ ap acc-byte p),
     )
 
 same-length : tie.Need-same-length Inv-loop μ-loop
@@ -204,9 +204,9 @@ returns-2 c =
     let s = from-loop k in
     let f = allowed (k .before) .fits in
     let all : k .loop .i ≡ length (s .args .starts .now) = omega (arith, f .same, k .loop .inv .0, c .loop-test .left) in
-    let m = wrote-all _ _ _ _ _ mOf (s .args .ms .now) (f .same) (f .room-m) (k .loop .i) all _ (k .loop .inv .1) in
-    let e = wrote-all _ _ _ _ _ eOf (s .args .es .now) (f .same) (f .room-e) (k .loop .i) all _ (k .loop .inv .2) in
-    let b = wrote-all _ _ _ _ _ byteOf (s .args .bads .now) (f .same) (f .room-bad) (k .loop .i) all _ (k .loop .inv .3) in
+    let m = wrote-all _ _ _ _ _ acc-m (s .args .ms .now) (f .same) (f .room-m) (k .loop .i) all _ (k .loop .inv .1) in
+    let e = wrote-all _ _ _ _ _ acc-e (s .args .es .now) (f .same) (f .room-e) (k .loop .i) all _ (k .loop .inv .2) in
+    let b = wrote-all _ _ _ _ _ acc-byte (s .args .bads .now) (f .same) (f .room-bad) (k .loop .i) all _ (k .loop .inv .3) in
     told-accepted (s .args .sizes .now) (s .args .strides .now) (s .args .base) (s .args .starts .now) (s .args .ends .now) (s .args .values .now)
     (s .args .ms .now) (s .args .es .now) (s .args .bads .now) _
     (layout-is (k .before)) (sym (k .before .if1 .left) ∙ code-is (k .before .before)) _ _ _ (simp (toZ-ofZ (s .fits .base)) at m)
