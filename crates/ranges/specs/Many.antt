@@ -32,14 +32,17 @@ unfit starts ends ms es bads = not (eqb starts ends) || ltb ms starts || ltb es 
 abbrev pub badByte : Bool → ℕ
 badByte bad = cond bad 1 0
 
+-- rule C13, the code, with what R16 asks known: 1 to 4, 16, then 5 and 6 of each range, then 7 over so many values, which is asked once; or 0
+abbrev pub codeBy : List ℕ → List ℤ → ℤ → List ℕ → List ℕ → ℕ → Bool → ℕ
+codeBy sizes strides base starts ends length misfit =
+    firstOf (compileRefusals PLACES sizes strides
+    ++ ((ANSWER_BUFFER_TOO_SHORT, misfit) ∷ (eachRefusals (totalIn sizes strides) (rangesOf starts ends) ++ placeRefusals sizes strides base length)))
+
 -- what a call is given: a layout, two lists, the values and three buffers
 module _ (sizes : List ℕ) (strides : List ℤ) (base : ℤ) (starts ends : List ℕ) (values ms : List Float) (es : List ℤ) (bads : List ℕ) where
-  -- rule C13, the code: 1 to 4, 16, then 5 and 6 of each range, then 7, which is asked once; or 0
+  -- rules C13 and R16, the code of the call
   unfoldable pub manyCode : ℕ
-  manyCode =
-      firstOf (compileRefusals PLACES sizes strides
-      ++ ((ANSWER_BUFFER_TOO_SHORT, unfit (length starts) (length ends) (length ms) (length es) (length bads))
-      ∷ (eachRefusals (totalIn sizes strides) (rangesOf starts ends) ++ placeRefusals sizes strides base (length values))))
+  manyCode = codeBy sizes strides base starts ends (length values) (unfit (length starts) (length ends) (length ms) (length es) (length bads))
 
   -- rule M1: each range's own product, in list order
   abbrev pub products : List StableProductFloatAcc

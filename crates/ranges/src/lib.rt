@@ -6,8 +6,7 @@ ghost use Rattle.refusals.specs.Refusals.{firstOf};
 ghost use Rattle.layout.specs.Axes.{PLACES};
 ghost use Rattle.layout.specs.Compile.{compileOf};
 ghost use Rattle.offsets.specs.Lists.{endRefusals, placeRefusals};
-ghost use Rattle.ranges.specs.Many.{rangesOf, eachRefusals, unfit, badByte, manyCode, msAfter, esAfter, badsAfter};
-ghost use Rattle.ranges.specs.InnerCodes.{codeBy};
+ghost use Rattle.ranges.specs.Many.{rangesOf, eachRefusals, unfit, badByte, codeBy, manyCode, msAfter, esAfter, badsAfter};
 use layout::traversal::FullTraversal;
 
 // Whether the two lists are of one length, and no buffer is shorter.
