@@ -18,10 +18,11 @@ use Rattle.layout.specs.declared.traversal.FullTraversal.{FullTraversal}
 use Rattle.layout.specs.declared.order.Counted.{Counted}
 use Rattle.layout.specs.Axes.{PLACES}
 use Rattle.layout.specs.InnerTables.{held, heldIf}
-use Rattle.layout.specs.Order.{keptAxes, orderFrom, axesOf, resetsFit}
+use Rattle.layout.specs.Order.{keptAxes, axesOf, resetsFit}
 use Rattle.layout.specs.InnerAnswers.{checkedOr}
 use Rattle.layout.specs.Fuse.{fuse}
-use Rattle.layout.proofs.Ordering.{axes-resets, length-order, length-kept}
+use Rattle.layout.proofs.AnyOrder.{same-number, same-resets}
+use Rattle.layout.proofs.Ordering.{length-kept}
 use Rattle.layout.proofs.Fusing.{fuse-resets, length-fuse, none-some}
 use Rattle.refusals.specs.Refusals.{firstOf}
 use Rattle.layout.specs.Compile.{totalFrom, totalOf, layoutOf, emptyLayout, fusedOf, traversalAt, traversalOf, compileRefusals, layoutBeside, compileOf}
@@ -42,12 +43,11 @@ total-all ns t i h = rw (drop-of-length-le ns h)
 
 -- ---- rules L2 to L4: the fused axes are no more than those of the input
 pub length-fused : (ns : List ℕ) (ss : List ℤ) (xs : List ReduceOuterAxis) → fusedOf ns ss ≡ some xs → length xs ≤ length ns
-unfolding fusedOf axesOf
+unfolding fusedOf
 length-fused ns ss xs e = go (resetsFit (keptAxes ns ss)) e
   where
-    go : (b : Bool) → cond b (fuse (orderFrom [] (keptAxes ns ss))) none ≡ some xs → length xs ≤ length ns
-    go true f =
-        let a = length-fuse (orderFrom [] (keptAxes ns ss)) xs f in let b = length-order [] (keptAxes ns ss) in let d = length-kept ns ss in omega arith
+    go : (b : Bool) → cond b (fuse (axesOf ns ss)) none ≡ some xs → length xs ≤ length ns
+    go true f = let a = length-fuse (axesOf ns ss) xs f in let b = same-number ns ss in let d = length-kept ns ss in omega arith
     go false f = absurd (none-some f)
 
 -- ---- rule L5: the layout
@@ -115,7 +115,7 @@ module _ (ns : List ℕ) (ss : List ℤ) where
           pub fused-fit : resetsFit (held (f .count) es' ts') ≡ true
           unfolding heldIf
           fused-fit =
-              fuse-resets (held (o .count) es ts) (held (f .count) es' ts') (ap resetsFit w ∙ axes-resets ns ss (sym q ∙ k))
+              fuse-resets (held (o .count) es ts) (held (f .count) es' ts') (ap resetsFit w ∙ same-resets ns ss ∙ sym q ∙ k)
               (p ∙ ap (λ (b : Bool). heldIf b (f .count) es' ts') z)
 
 -- ---- the ranks

@@ -1,9 +1,12 @@
 pub mod Tables
 pub mod Resets
 pub mod Ordering
+pub mod AnyOrder
+pub mod Keys
 pub mod Sorting
 pub mod Fusing
 pub mod Outer
+pub mod Totals
 pub mod Compiling
 pub mod Line
 pub mod Places

@@ -8,11 +8,12 @@ use Rattle.layout.specs.Fuse.{reach, joinOf, fuseFrom, fuse}
 use Rattle.layout.specs.Compile.{totalFrom, totalOf, fusedOf, layoutOf, traversalAt, traversalOf, overflows}
 use Rattle.layout.specs.Compile.{aboveMost, compileRefusals, layoutBeside, compileOf}
 use Rattle.layout.specs.Theorems.{SortedAxes, WholeRecord, EightAsBefore}
-use Rattle.layout.proofs.Sorting.{permutation, sorted, stable}
+use Rattle.layout.proofs.AnyOrder.{same-count}
+use Rattle.layout.proofs.Sorting.{sorted, stable}
 use Rattle.layout.proofs.Places.{more-places}
 
 pub sorted-axes : SortedAxes
-sorted-axes ns ss = (λ p. permutation p ns ss, sorted ns ss, λ r. stable r ns ss)
+sorted-axes ns ss = (λ p. same-count ns ss p, sorted ns ss, λ r. stable r ns ss)
 
 pub whole-record : WholeRecord
 unfolding firstOf fitsI64 eqZ span axisOf resetFits placesOf keptAxes rank precedes insertAxis orderFrom axesOf resetsFit reach joinOf fuseFrom fuse

@@ -1,5 +1,5 @@
 -- Inner: the axes of a layout while it is compiled, their sizes in one table and their strides in another.
-use Prim.Native.Nat.{ℕ, suc, _+_}
+use Prim.Native.Nat.{ℕ, suc, _+_, _*_}
 use mathlib.Core.Path.{_≡_}
 use mathlib.Core.Bool.{Bool, true, false, cond}
 use mathlib.Core.List.{List, [], _∷_, _++_}
@@ -19,6 +19,11 @@ unfoldable pub axesIn : List ℕ → List ℤ → List ReduceOuterAxis
 axesIn [] ss = []
 axesIn (n ∷ ns) [] = []
 axesIn (n ∷ ns) (s ∷ ss) = axisOf n s ∷ axesIn ns ss
+
+-- how many elements the axes have
+unfoldable pub elements : List ReduceOuterAxis → ℕ
+elements [] = 1
+elements (a ∷ xs) = a .extent * elements xs
 
 -- the axes in the first k places
 unfoldable pub held : ℕ → List ℕ → List ℤ → List ReduceOuterAxis

@@ -1,12 +1,12 @@
 -- What compiling gives is a traversal, and has the elements of the given axes, in their order. Assumes nothing.
-use Prim.Native.Nat.{ℕ, zero, suc, _-_, _*_, _^_, _≤_, _<_}
+use Prim.Native.Nat.{ℕ, suc, _-_, _*_, _≤_, _<_}
 use mathlib.Core.Path.{_≡_, refl, sym, _∙_, ap, subst}
 use mathlib.Core.Bool.{Bool, true, false, cond}
 use mathlib.Core.List.{List, [], _∷_}
 use mathlib.Core.Option.{Option, none, some}
 use native.Mathlib.Omega.{arith}
-use native.Mathlib.Nat.{mul-assoc, mod-one, mul-zero, zero-mul}
-use lib.Dec.{T, eqb, ltb}
+use native.Mathlib.Nat.{mod-one}
+use lib.Dec.{T, eqb}
 use lib.ListN.{length, take, replicate}
 use lib.IntN.{ℤ, pos, _+ℤ_}
 use Rattle.laws.proofs.Tests.{and-both}
@@ -14,29 +14,26 @@ use Rattle.integers.specs.Integers.{fitsI64}
 use Rattle.integers.proofs.Difference.{ints, atoms}
 use Rattle.layout.specs.declared.axis.ReduceOuterAxis.{ReduceOuterAxis}
 use Rattle.layout.specs.Axes.{PLACES, noAxis, placesOf, span, resetFits, axisOf}
-use borrow.Author.Tests.{eqb-true, ne-eqb}
+use borrow.Author.Tests.{ne-eqb}
 use Rattle.layout.specs.Order.{keptAxes, precedes, insertAxis, orderFrom, axesOf, resetsFit}
 use native.Mathlib.Decide.{decLt}
 use lib.Seq.{take-append-seam}
 use Rattle.layout.specs.declared.traversal.FullTraversal.{FullTraversal}
 use Rattle.refusals.specs.Refusals.{Refusal, firstOf}
-use Rattle.layout.specs.Compile.{totalFrom, totalOf, fusedOf, layoutOf, emptyLayout, traversalAt, traversalOf, overflows}
+use Rattle.layout.specs.Compile.{totalOf, fusedOf, layoutOf, emptyLayout, traversalAt, traversalOf, overflows}
 use Rattle.layout.proofs.Tables.{length-placesOf}
+use Rattle.layout.proofs.Totals.{pos-of-mul-right, pos-of-mul-left, sizes-product, total-product, axes-elements}
 use Rattle.layout.proofs.Compiling.{length-fused, layout-total}
 use Rattle.offsets.specs.Pieces.{runOf, outerOf}
 use Rattle.offsets.specs.InnerCursors.{Traversal, Axis, Axes}
 use Rattle.layout.specs.Fuse.{fuse}
 use Rattle.layout.proofs.Fusing.{some-inj, none-some}
 use Rattle.offsets.specs.Elements.{digits, shift, offset}
-use Rattle.offsets.specs.InnerCursors.{elements}
+use Rattle.layout.specs.InnerTables.{elements}
 use Rattle.offsets.proofs.Fused.{SameElements, same-trans, fuse-same}
 use Rattle.offsets.proofs.Stepping.{axes-at}
 
 -- ---- small steps
-one-element : elements [] ≡ 1
-unfolding elements
-one-element = refl
-
 no-axes : Axes []
 unfolding Axes
 no-axes = tt
@@ -45,50 +42,11 @@ one-more : (n : ℕ) (s : ℤ) (l : List ReduceOuterAxis) → 1 ≤ n → resetF
 unfolding Axes axisOf
 one-more n s l h f w = ((refl, h, f), w)
 
-axis-elements : (n : ℕ) (s : ℤ) (l : List ReduceOuterAxis) → elements (axisOf n s ∷ l) ≡ n * elements l
-unfolding elements axisOf
-axis-elements n s l = refl
-
 first-fit : (n : ℕ) (s : ℤ) (l : List ReduceOuterAxis) → resetsFit (axisOf n s ∷ l) ≡ true → (resetFits n s ≡ true) × (resetsFit l ≡ true)
 unfolding resetsFit axisOf
 first-fit n s l e = and-both (resetFits n s) (resetsFit l) e
 
-pos-of-mul-right : (x y : ℕ) → 0 < x * y → 0 < y
-pos-of-mul-right x zero h = let e = mul-zero x in omega arith
-pos-of-mul-right x (suc y) h = omega arith
-
-pos-of-mul-left : (x y : ℕ) → 0 < x * y → 1 ≤ x
-pos-of-mul-left zero y h = let e = zero-mul y in omega arith
-pos-of-mul-left (suc x) y h = omega arith
-
--- ---- rule L2 keeps the axes and their number of elements
-pub sizes-product : List ℕ → ℕ
-sizes-product [] = 1
-sizes-product (n ∷ ns) = n * sizes-product ns
-
-total-product : (u : ℕ) (ns : List ℕ) (t : ℕ) → totalFrom u ns ≡ some t → t ≡ u * sizes-product ns
-unfolding totalFrom sizes-product
-total-product u [] t e = let q : u ≡ t = some-inj e in omega arith
-total-product u (n ∷ ns) t e = go (ltb (u * n) (2 ^ 64)) refl (total-product (u * n) ns t)
-  where
-    go : (b : Bool) → ltb (u * n) (2 ^ 64) ≡ b → (totalFrom (u * n) ns ≡ some t → t ≡ u * n * sizes-product ns) → t ≡ u * (n * sizes-product ns)
-    go true q f = f (sym (ap (λ (b : Bool). cond b (totalFrom (u * n) ns) none) q) ∙ e) ∙ mul-assoc u n (sizes-product ns)
-    go false q f = absurd (none-some (sym (ap (λ (b : Bool). cond b (totalFrom (u * n) ns) none) q) ∙ e))
-
-kept-elements : (ns : List ℕ) (ss : List ℤ) → length ns ≡ length ss → elements (keptAxes ns ss) ≡ sizes-product ns
-unfolding keptAxes sizes-product
-kept-elements [] ss e = one-element
-kept-elements (n ∷ ns) [] e = absurd (no e)
-  where
-    no : suc (length ns) ≡ 0 → ⊥
-    no h = omega arith
-kept-elements (n ∷ ns) (s ∷ ss) e = go (eqb n 1) refl (kept-elements ns ss (omega arith))
-  where
-    go : (b : Bool) → eqb n 1 ≡ b → elements (keptAxes ns ss) ≡ sizes-product ns
-        → elements (cond (eqb n 1) (keptAxes ns ss) (axisOf n s ∷ keptAxes ns ss)) ≡ n * sizes-product ns
-    go true q i = let o : n ≡ 1 = eqb-true n 1 q in rw q (i ∙ (let m = ap (λ (x : ℕ). x * sizes-product ns) o in omega arith))
-    go false q i = rw q (axis-elements n s (keptAxes ns ss) ∙ ap (λ (x : ℕ). n * x) i)
-
+-- ---- rule L2 keeps the axes
 kept-axes : (ns : List ℕ) (ss : List ℤ) → 0 < sizes-product ns → resetsFit (keptAxes ns ss) ≡ true → Axes (keptAxes ns ss)
 unfolding keptAxes sizes-product
 kept-axes [] ss h f = no-axes
@@ -111,32 +69,23 @@ kept-axes (n ∷ ns) (s ∷ ss) h f =
         let r = first-fit n s (keptAxes ns ss) g in
         rw q (one-more n s (keptAxes ns ss) (some-n h) (r .0) (i (r .1)))
 
-insert-same : (a : ReduceOuterAxis) (xs : List ReduceOuterAxis) → Axis a → Axes xs
-    → Axes (insertAxis a xs) × (elements (insertAxis a xs) ≡ a .extent * elements xs)
-unfolding insertAxis Axes elements
-insert-same a [] w v = ((w, v), refl)
-insert-same a (b ∷ bs) w v = go (precedes (a .«source_step») (b .«source_step»)) (insert-same a bs w (v .1))
+insert-keeps : (a : ReduceOuterAxis) (xs : List ReduceOuterAxis) → Axis a → Axes xs → Axes (insertAxis a xs)
+unfolding insertAxis Axes
+insert-keeps a [] w v = (w, v)
+insert-keeps a (b ∷ bs) w v = go (precedes (a .«source_step») (b .«source_step»)) (insert-keeps a bs w (v .1))
   where
-    Goal : Bool → Type 0
-    Goal t = Axes (cond t (a ∷ b ∷ bs) (b ∷ insertAxis a bs)) × (elements (cond t (a ∷ b ∷ bs) (b ∷ insertAxis a bs)) ≡ a .extent * (b .extent * elements bs))
+    go : (t : Bool) → Axes (insertAxis a bs) → Axes (cond t (a ∷ b ∷ bs) (b ∷ insertAxis a bs))
+    go true i = (w, v)
+    go false i = (v .0, i)
 
-    swap : (x y z : ℕ) → y * (x * z) ≡ x * (y * z)
-    swap x y z = omega arith
+order-keeps : (done xs : List ReduceOuterAxis) → Axes done → Axes xs → Axes (orderFrom done xs)
+unfolding orderFrom Axes
+order-keeps done [] w v = w
+order-keeps done (a ∷ xs) w v = order-keeps (insertAxis a done) xs (insert-keeps a done (v .0) w) (v .1)
 
-    go : (t : Bool) → Axes (insertAxis a bs) × (elements (insertAxis a bs) ≡ a .extent * elements bs) → Goal t
-    go true i = ((w, v), refl)
-    go false i = ((v .0, i .0), ap (λ (n : ℕ). b .extent * n) (i .1) ∙ swap (a .extent) (b .extent) (elements bs))
-
-order-same : (done xs : List ReduceOuterAxis) → Axes done → Axes xs → Axes (orderFrom done xs) × (elements (orderFrom done xs) ≡ elements done * elements xs)
-unfolding orderFrom Axes elements
-order-same done [] w v = (w, (let m : elements done * 1 ≡ elements done = omega arith in sym m))
-order-same done (a ∷ xs) w v =
-    let i = insert-same a done (v .0) w in
-    let r = order-same (insertAxis a done) xs (i .0) (v .1) in
-    (r .0, r .1 ∙ ap (λ (n : ℕ). n * elements xs) (i .1) ∙ swap (a .extent) (elements done) (elements xs))
-  where
-    swap : (x y z : ℕ) → x * y * z ≡ y * (x * z)
-    swap x y z = omega arith
+axes-kept : (ns : List ℕ) (ss : List ℤ) → Axes (keptAxes ns ss) → Axes (axesOf ns ss)
+unfolding axesOf
+axes-kept ns ss w = order-keeps [] (keptAxes ns ss) no-axes w
 
 placed : (xs : List ReduceOuterAxis) → take (length xs) (placesOf PLACES xs) ≡ xs
 unfolding placesOf
@@ -207,27 +156,24 @@ pub record AcceptedLayout (ns : List ℕ) (ss : List ℤ) (l : FullTraversal) : 
 
 module _ (ns : List ℕ) (ss : List ℤ) (eq : length ns ≡ length ss) (small : length ns ≤ PLACES) where
   with-fused : (t : ℕ) → totalOf ns ≡ some t → (t ≡ 0 → ⊥) → (xs : List ReduceOuterAxis) → fusedOf ns ss ≡ some xs → AcceptedLayout ns ss (layoutOf PLACES t xs)
-  unfolding fusedOf axesOf totalOf
+  unfolding fusedOf totalOf
   with-fused t e n xs f = go (resetsFit (keptAxes ns ss)) refl
     where
       go : (b : Bool) → resetsFit (keptAxes ns ss) ≡ b → AcceptedLayout ns ss (layoutOf PLACES t xs)
-      go false q = absurd (none-some (ap (λ (b : Bool). cond b (fuse (orderFrom [] (keptAxes ns ss))) none) (sym q) ∙ f))
+      go false q = absurd (none-some (ap (λ (b : Bool). cond b (fuse (axesOf ns ss)) none) (sym q) ∙ f))
       go true q =
           let p : t ≡ 1 * sizes-product ns = total-product 1 ns t e in
-          let k = kept-axes ns ss (omega arith) q in
-          let o = order-same [] (keptAxes ns ss) no-axes k in
-          let z : fuse (orderFrom [] (keptAxes ns ss)) ≡ some xs = ap (λ (b : Bool). cond b (fuse (orderFrom [] (keptAxes ns ss))) none) (sym q) ∙ f in
-          let s = fuse-all (orderFrom [] (keptAxes ns ss)) xs (o .0) z in
-          let c : elements (orderFrom [] (keptAxes ns ss)) ≡ t = o .1
-          ∙ ap (λ (m : ℕ). elements [] * m) (kept-elements ns ss eq)
-          ∙ ap (λ (m : ℕ). m * sizes-product ns) one-element
-          ∙ sym p in
+          let k = axes-kept ns ss (kept-axes ns ss (omega arith) q) in
+          let z : fuse (axesOf ns ss) ≡ some xs = ap (λ (b : Bool). cond b (fuse (axesOf ns ss)) none) (sym q) ∙ f in
+          let s = fuse-all (axesOf ns ss) xs k z in
+          let m = axes-elements ns ss eq in
+          let c : elements (axesOf ns ss) ≡ t = omega arith in
           let few = length-fused ns ss xs f in
           let r = layout-traversal t xs (s .axes) (omega arith) (s .elements ∙ c) in
           record {
             traversal = r .0;
-            same = same-trans (orderFrom [] (keptAxes ns ss)) xs _ s (r .1);
-            axes = o .0;
+            same = same-trans (axesOf ns ss) xs _ s (r .1);
+            axes = k;
             total = c ∙ sym (layout-total t xs);
             product = e ∙ ap some (sym (layout-total t xs));
           }

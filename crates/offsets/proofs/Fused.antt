@@ -19,7 +19,7 @@ use Rattle.offsets.specs.InnerCursors.{Axes}
 use Rattle.layout.specs.Fuse.{reach, joinOf, fuseFrom}
 use Rattle.layout.proofs.Fusing.{join-over, join-two, join-no-reset, join-one, fused-one, fused-two, fused-over, some-inj, none-some}
 use Rattle.offsets.specs.Elements.{offset}
-use Rattle.offsets.specs.InnerCursors.{elements}
+use Rattle.layout.specs.InnerTables.{elements}
 use Rattle.offsets.proofs.Stepping.{offset-cons}
 
 -- the same elements at the same offsets

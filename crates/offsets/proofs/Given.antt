@@ -13,9 +13,10 @@ use Rattle.integers.proofs.Difference.{ints, atoms}
 use Rattle.layout.specs.declared.axis.ReduceOuterAxis.{ReduceOuterAxis}
 use Rattle.layout.specs.Axes.{span, resetFits, axisOf}
 use Rattle.layout.specs.Order.{keptAxes, precedes, insertAxis, orderFrom, axesOf}
-use Rattle.layout.specs.InnerTables.{axesIn}
+use Rattle.layout.specs.InnerTables.{axesIn, elements}
+use Rattle.layout.proofs.AnyOrder.{gathers}
 use Rattle.offsets.specs.Elements.{allInside}
-use Rattle.offsets.specs.InnerCursors.{Axis, Axes, elements}
+use Rattle.offsets.specs.InnerCursors.{Axis, Axes}
 use Rattle.offsets.specs.InnerBounds.{negativePart, positivePart, lowSum, highSum, lowestOffset, highestOffset}
 use Rattle.offsets.proofs.Ends.{endsInside, ends-exact}
 
@@ -66,29 +67,12 @@ sumBy f [] = pos 0
 sumBy f (a ∷ xs) = f a +ℤ sumBy f xs
 
 module _ (f : ReduceOuterAxis → ℤ) where
-  swap : (x y z : ℤ) → y +ℤ (x +ℤ z) ≡ x +ℤ (y +ℤ z)
-  swap x y z = simp ints (simp atoms (omega arith))
-
-  insert-sum : (a : ReduceOuterAxis) (xs : List ReduceOuterAxis) → sumBy f (insertAxis a xs) ≡ f a +ℤ sumBy f xs
-  unfolding insertAxis sumBy
-  insert-sum a [] = refl
-  insert-sum a (b ∷ bs) = go (precedes (a .«source_step») (b .«source_step»)) (insert-sum a bs)
+  order-sum : (ns : List ℕ) (ss : List ℤ) → sumBy f (axesOf ns ss) ≡ sumBy f (keptAxes ns ss)
+  unfolding sumBy
+  order-sum = gathers (λ a z. f a +ℤ z) (λ a b z. swap (f a) (f b) z) (pos 0) (sumBy f) refl (λ a xs. refl)
     where
-      go : (t : Bool) → sumBy f (insertAxis a bs) ≡ f a +ℤ sumBy f bs → sumBy f (cond t (a ∷ b ∷ bs) (b ∷ insertAxis a bs)) ≡ f a +ℤ (f b +ℤ sumBy f bs)
-      go true i = refl
-      go false i = ap (λ (z : ℤ). f b +ℤ z) i ∙ swap (f a) (f b) (sumBy f bs)
-
-  order-sum : (done xs : List ReduceOuterAxis) → sumBy f (orderFrom done xs) ≡ sumBy f xs +ℤ sumBy f done
-  unfolding orderFrom sumBy
-  order-sum done [] = none (sumBy f done)
-    where
-      none : (x : ℤ) → x ≡ pos 0 +ℤ x
-      none x = simp ints (simp atoms (omega arith))
-  order-sum done (a ∷ xs) =
-      order-sum (insertAxis a done) xs ∙ ap (λ (z : ℤ). sumBy f xs +ℤ z) (insert-sum a done) ∙ move (f a) (sumBy f xs) (sumBy f done)
-    where
-      move : (x y z : ℤ) → y +ℤ (x +ℤ z) ≡ x +ℤ y +ℤ z
-      move x y z = simp ints (simp atoms (omega arith))
+      swap : (x y z : ℤ) → x +ℤ (y +ℤ z) ≡ y +ℤ (x +ℤ z)
+      swap x y z = simp ints (simp atoms (omega arith))
 
   module _ (none : (s : ℤ) → f (axisOf 1 s) ≡ pos 0) where
     kept-sum : (ns : List ℕ) (ss : List ℤ) → sumBy f (keptAxes ns ss) ≡ sumBy f (axesIn ns ss)
@@ -106,11 +90,7 @@ module _ (f : ReduceOuterAxis → ℤ) where
         go false q i = ap (λ (z : ℤ). f (axisOf n s) +ℤ z) i
 
     given-sum : (ns : List ℕ) (ss : List ℤ) → sumBy f (axesIn ns ss) ≡ sumBy f (axesOf ns ss)
-    unfolding axesOf sumBy
-    given-sum ns ss = sym (order-sum [] (keptAxes ns ss) ∙ last (sumBy f (keptAxes ns ss)) ∙ kept-sum ns ss)
-      where
-        last : (x : ℤ) → x +ℤ pos 0 ≡ x
-        last x = simp ints (simp atoms (omega arith))
+    given-sum ns ss = sym (order-sum ns ss ∙ kept-sum ns ss)
 
 -- ---- both ends are such sums
 lowShare : ReduceOuterAxis → ℤ

@@ -15,10 +15,9 @@ use borrow.Author.Tests.{lt-ltb, le-ltb}
 use Rattle.integers.proofs.Difference.{ints, atoms}
 use Rattle.layout.specs.declared.axis.ReduceOuterAxis.{ReduceOuterAxis}
 use Rattle.layout.specs.Axes.{span, axisOf}
-use Rattle.layout.specs.InnerTables.{axesIn}
+use Rattle.layout.specs.InnerTables.{axesIn, elements}
 use Rattle.offsets.specs.declared.bounds.Span.{Span}
 use Rattle.offsets.specs.Elements.{allInside}
-use Rattle.offsets.specs.InnerCursors.{elements}
 use Rattle.offsets.specs.InnerBounds.{negativePart, positivePart, lowSum, highSum, lowestOffset, highestOffset, nowhere, widened, stayInside}
 use Rattle.offsets.specs.InnerCursors.{Axes}
 use Rattle.offsets.proofs.Ends.{low-zero, zero-high, endsInside, ends-exact}

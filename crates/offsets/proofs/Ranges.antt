@@ -19,9 +19,9 @@ use Rattle.refusals.proofs.Buffers.{buffer-kept, buffer-filled}
 use Rattle.layout.specs.Compile.{compileRefusals, compileOf, layoutBeside, totalOf, traversalOf, overflows, aboveMost}
 use Rattle.offsets.specs.Elements.{offset, insideValues, everyBelow, allInside}
 use Rattle.offsets.specs.Pieces.{runOf, outerOf}
-use Rattle.offsets.specs.InnerCursors.{Axes, elements, Bounded}
+use Rattle.offsets.specs.InnerCursors.{Axes, Bounded}
 use Rattle.offsets.specs.Lists.{totalIn, endRefusals, placeRefusals, rangeRefusals, rangeCode, listCode, offsetsFrom, listBuffer}
-use Rattle.layout.specs.InnerTables.{axesIn}
+use Rattle.layout.specs.InnerTables.{axesIn, elements}
 use Rattle.offsets.proofs.Ends.{ends-exact, ends-bounded}
 use Rattle.offsets.proofs.Fused.{SameElements}
 use Rattle.offsets.proofs.Given.{given-axes, given-inside}

@@ -14,7 +14,8 @@ use Rattle.layout.specs.Axes.{PLACES, noAxis, axisOf}
 use Rattle.layout.proofs.Tables.{take-from}
 use Rattle.offsets.specs.declared.pieces.RangeCursor.{RangeCursor}
 use Rattle.offsets.specs.Elements.{digits, offset}
-use Rattle.offsets.specs.InnerCursors.{Axis, Axes, Bounded, cursorAt, elements, Traversal}
+use Rattle.layout.specs.InnerTables.{elements}
+use Rattle.offsets.specs.InnerCursors.{Axis, Axes, Bounded, cursorAt, Traversal}
 use Rattle.offsets.specs.Pieces.{runOf, outerOf}
 use Rattle.offsets.specs.InnerPieces.{rangeAt, skipped}
 use Rattle.offsets.proofs.Stepping.{axes-at, Small}

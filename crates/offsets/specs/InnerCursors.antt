@@ -1,5 +1,5 @@
 -- Inner: the cursor over the runs (rule L7), and what the code knows of a compiled layout.
-use Prim.Native.Nat.{ℕ, _+_, _-_, _*_, _≤_, _^_}
+use Prim.Native.Nat.{ℕ, _+_, _-_, _≤_, _^_}
 use mathlib.Core.Path.{_≡_}
 use mathlib.Core.Bool.{true, cond}
 use mathlib.Core.List.{List, [], _∷_, _++_}
@@ -9,16 +9,12 @@ use lib.IntN.{ℤ, pos, _+ℤ_}
 use lib.Signed.{_≤ℤ_, _<ℤ_}
 use Rattle.layout.specs.declared.axis.ReduceOuterAxis.{ReduceOuterAxis}
 use Rattle.layout.specs.Axes.{PLACES, axisOf, resetFits}
+use Rattle.layout.specs.InnerTables.{elements}
 use Rattle.offsets.specs.declared.cursor.ReduceOuterCursor.{ReduceOuterCursor}
 use Rattle.offsets.specs.Elements.{digits, offset}
 use Rattle.offsets.specs.InnerBounds.{lowestOffset, highestOffset}
 use Rattle.layout.specs.declared.traversal.FullTraversal.{FullTraversal}
 use Rattle.offsets.specs.Pieces.{runOf, outerOf}
-
--- how many elements the axes have
-unfoldable pub elements : List ReduceOuterAxis → ℕ
-elements [] = 1
-elements (a ∷ xs) = a .extent * elements xs
 
 -- the cursor at element k: its offset, its digits, and zeros past the axes
 unfoldable pub cursorAt : List ReduceOuterAxis → ℤ → ℕ → ReduceOuterCursor

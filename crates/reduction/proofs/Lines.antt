@@ -21,7 +21,8 @@ use Rattle.layout.specs.declared.axis.ReduceOuterAxis.{ReduceOuterAxis}
 use Rattle.layout.specs.declared.traversal.FullTraversal.{FullTraversal}
 use Rattle.offsets.specs.declared.pieces.RangePiece.{RangePiece}
 use Rattle.offsets.specs.Elements.{digits, shift, offset, allInside}
-use Rattle.offsets.specs.InnerCursors.{elements, Bounded, Traversal}
+use Rattle.layout.specs.InnerTables.{elements}
+use Rattle.offsets.specs.InnerCursors.{Bounded, Traversal}
 use Rattle.offsets.specs.Pieces.{runOf, outerOf, pieceLength}
 use Rattle.offsets.specs.InnerPieces.{rangeAt, pieceOf}
 use Rattle.offsets.proofs.Stepping.{Small, small-fits, share-fits}

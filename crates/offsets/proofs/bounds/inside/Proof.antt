@@ -10,9 +10,8 @@ use mir.Val.{toZ, ofZ, SFits}
 use mir.Facts.{toZ-ofZ}
 use mir.Syntax.{w64}
 use Rattle.integers.proofs.Machine.{nonneg-pos, natAbs-fits}
-use Rattle.layout.specs.InnerTables.{axesIn}
+use Rattle.layout.specs.InnerTables.{axesIn, elements}
 use Rattle.offsets.specs.Elements.{allInside}
-use Rattle.offsets.specs.InnerCursors.{elements}
 use Rattle.offsets.proofs.Inside.{base-below, base-past, last-short, last-long}
 use borrow.Author.Needs.{needs}
 use Rattle.offsets.proofs.bounds.inside.Statement.{statement}

@@ -8,9 +8,8 @@ use mir.Facts.{toZ-ofZ}
 use Rattle.refusals.specs.Refusals.{firstOf}
 use Rattle.layout.specs.Axes.{PLACES}
 use Rattle.layout.specs.Compile.{compileOf}
-use Rattle.layout.specs.InnerTables.{axesIn}
+use Rattle.layout.specs.InnerTables.{axesIn, elements}
 use Rattle.offsets.specs.Elements.{allInside}
-use Rattle.offsets.specs.InnerCursors.{elements}
 use Rattle.offsets.specs.Lists.{placeRefusals, rangeCode}
 use Rattle.offsets.proofs.Ranges.{Clear, clear, clear-axes, tested, place-7, place-0, range-compile, range-5, range-6, range-places}
 use Rattle.offsets.proofs.list.range_code.Statement.{statement}
