@@ -50,7 +50,7 @@ def worked(values, stride):
 def axes_of(sizes, strides):
     """Rule L2, with an axis of one element where there is none."""
     kept = [axis for axis in zip(sizes, strides) if axis[0] != 1]
-    return sorted(kept, key=lambda axis: (axis[1] == 0, abs(axis[1]))) or [(1, 1)]
+    return sorted(kept, key=lambda axis: (axis[1] == 0, abs(axis[1]), axis[1] < 0)) or [(1, 1)]
 
 
 def run_of(axes):

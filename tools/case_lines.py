@@ -38,9 +38,19 @@ def floats(values):
     return " ".join([str(len(values)), *(f"{value:016x}" for value in values)])
 
 
+def apart(pairs):
+    """The first ones of all pairs, and the second ones."""
+    return [first for first, _ in pairs], [second for _, second in pairs]
+
+
 def needed(sizes, strides, base):
     """How many values a layout needs whose elements all lie at 0 or above."""
     return base + 1 + sum((size - 1) * max(stride, 0) for size, stride in zip(sizes, strides))
+
+
+def marks(count):
+    """Contents of a buffer that no offset equals."""
+    return [-1 - i for i in range(count)]
 
 
 def compile_(sizes, strides):

@@ -4,7 +4,7 @@
 The format has no comments, so this file says what each group is for: here layouts, joins and malformed lines,
 in stored_products.py reductions, products and finishes, in stored_figures.py ordered products and figures,
 in stored_search.py first bad rates, in stored_jobs.py layouts sent as words, in stored_steps.py reductions in steps,
-in stored_ranges.py several ranges in one call.
+in stored_ranges.py several ranges in one call, in stored_order.py axes of one |stride|, forwards and backwards.
 The answers are the oracle's: crates/replay/stdout.
 """
 
@@ -13,23 +13,19 @@ import sys
 
 import stored_figures
 import stored_jobs
+import stored_order
 import stored_products
 import stored_ranges
 import stored_search
 import stored_steps
 from case_lines import BAD, GAPS, INFINITE, LEAST, LIMIT, MANY, MOST, ONE, OUT, PLAN, SIGN, THREE_HALVES, TWO
 from case_lines import WRONG_FLOATS, WRONG_MARKS, WRONG_SIGNED
-from case_lines import between_good_lines, compile_, join, list_, needed, patterns_of_m, spoiled, unit
+from case_lines import between_good_lines, compile_, join, list_, marks, needed, patterns_of_m, spoiled, unit
 
 
 def times(s, t, e=0, f=0, bad=(0, 0)):
     """Joins two accumulators that are given by their |m| × 2^52, the sign with it."""
     join((unit(s), e, bad[0]), (unit(t), f, bad[1]))
-
-
-def marks(count):
-    """Contents of a buffer that no offset equals."""
-    return [-1 - i for i in range(count)]
 
 
 def both(sizes, strides, base, start, end, length, places):
@@ -291,7 +287,7 @@ def refusal_8():
 
 
 def order_of_axes():
-    """Equal strides in both orders, zero strides last, negative ones by their size."""
+    """Equal strides in both orders, zero strides last, negative ones by their size, behind forward ones of that size."""
     both([2, 3], [1, 1], 0, 0, 6, 4, 6)
     both([3, 2], [1, 1], 0, 0, 6, 4, 6)
     both([2, 3], [1, -1], 2, 0, 6, 4, 6)
@@ -585,6 +581,7 @@ def main():
         *stored_jobs.GROUPS,
         *stored_steps.GROUPS,
         *stored_ranges.GROUPS,
+        *stored_order.GROUPS,
     ]:
         group()
     # The last line has no newline, and counts all the same.

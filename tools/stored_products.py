@@ -176,7 +176,7 @@ def ranges_inside_runs():
 
 
 def equal_strides(words=("reduce",)):
-    """Axes of one |stride| in both orders, which give other pieces, and stride 0 after all others."""
+    """Axes of one |stride| in both orders, which give other pieces if they go one way; stride 0 after all others."""
     table = rates(44, 120)
     for sizes, strides in [
         ([9, 11], [1, 1]),

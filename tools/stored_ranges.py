@@ -5,7 +5,7 @@ A layout is a tuple of sizes, strides, base and table here, a list of ranges one
 
 from case_lines import GAPS, LEAST, MANY, MOST, ONE, PLAN, SIGN
 from case_lines import WRONG_BYTES
-from case_lines import between_good_lines, floats, items, needed, patterns_of_m, rate, reduce, say, spoiled
+from case_lines import apart, between_good_lines, floats, items, needed, patterns_of_m, rate, reduce, say, spoiled
 from stored_products import BAD_RATES, NAN, STRIDES, laid, rates, with_rate
 from stored_search import with_bad
 from stored_steps import ALL, rows, wrong
@@ -27,11 +27,6 @@ def call(layout, starts, ends, buffers):
     ms, es, bads = buffers
     head = f"ranges {items(sizes)} {items(strides)} {base} {items(starts)} {items(ends)}"
     say(f"{head} {floats(table)} {floats(ms)} {items(es)} {items(bads)}")
-
-
-def apart(pairs):
-    """The starts and the ends of ranges."""
-    return [start for start, _ in pairs], [end for _, end in pairs]
 
 
 def ranges(layout, pairs, more=0):

@@ -354,6 +354,13 @@ ranges() {
     check 'an example of ranges' 0 '    1.5589143053837038 × 2^-1' '' run_sh 'examples/ranges.cases'
 }
 
+# Windows of three seats, listed both ways: one answer if they go back; one for each order if all strides are the same.
+axes_listed() {
+    check 'an example of axes in any order' 0 '    1.6500184234554203 × 2^-1' '' run_sh 'examples/order.cases'
+    [ "$(grep -cxF '    1.65001842345542 × 2^-1' "$work/out")" -eq 3 ] || die 'the order in which axes are listed counts'
+    [ "$(grep -cxF '    offsets 3 4 5 2 3 4 1 2 3 0 1 2' "$work/out")" -eq 2 ] || die 'the order in which axes are listed counts'
+}
+
 # Each refusal has a name and a condition, in the file that is their home.
 refusals() {
     local cases=() code said ones
@@ -375,28 +382,14 @@ refusals() {
 
 # What is said of a line and what the program answers to it agree on every stored case.
 stored() {
-    python3 -B - <<'EOF' || die 'what show.py says of the stored cases is not what the program answers'
-import sys
-
-sys.path.insert(0, "tools")
-import show
-
-wrong = [
-    (number, show.shown_line(case), show.fault_of(case))
-    for number, (case, answer) in enumerate(zip(show.lines("crates/replay/stdin"), show.lines("crates/replay/stdout")), 1)
-    if (show.fault_of(case) is not None) != (answer == b"malformed")
-]
-for number, case, fault in wrong[:5]:
-    print(f"line {number}: {case}: {fault}", file=sys.stderr)
-sys.exit(1 if wrong else 0)
-EOF
+    python3 -B tools/stored_shown.py || die 'what show.py says of the stored cases is not what the program answers'
     count=$((count + 1))
 }
 
 [ -x target/bin/replay ] || die 'target/bin/replay is not there; build it by ./run or rt check replay'
 [ -f crates/refusals/src/lib.rt ] || die 'crates/refusals/src/lib.rt is not there; it names the refusals'
 make_copy
-for group in calls inputs outputs tools_missing builds programs replay_itself faults numbers bad_rates jobs steps ranges refusals stored; do
+for group in calls inputs outputs tools_missing builds programs replay_itself faults numbers bad_rates jobs steps ranges axes_listed refusals stored; do
     "$group"
 done
 printf 'test_run: ok, %s checks\n' "$count"

@@ -2,8 +2,8 @@
 //!
 //! Timed of the Rust: the source's own `FullTraversal::compile` and `reduce_full_range` with
 //! `StableProductKernel` or `OrderedProductKernel` on f64, and nothing else. The refusals that the engine adds are no
-//! part of the source: `Job::new` asks them once, before the timing. Timed of the engine: the whole call, with all its
-//! checks.
+//! part of the source: `Job::new` asks them once, before the timing, and there puts the axes into the form in which the
+//! source takes them in the engine's order. Timed of the engine: the whole call, with all its checks.
 
 use crate::erased::calls::{Acc, Answer, Plan};
 use crate::probe::{self, BadPlace, Bits, Numbered, Place, Places, Reduced, StepPlace};
@@ -14,6 +14,7 @@ use std::hint::black_box;
 pub struct Job {
     sizes: Vec<u64>,
     strides: Vec<i64>,
+    /// The sizes and the strides for the Rust.
     dims: Vec<usize>,
     steps: Vec<isize>,
     count: u64,
@@ -38,8 +39,9 @@ impl Job {
             let range = rules::Range { base, start: 0, end: count, length: values.len() as u64 };
             run_len = rules::range(&sizes, &strides, &range).expect("a timed call is accepted").run_len;
         }
-        let dims = sizes.iter().map(|&size| size as usize).collect();
-        let steps = strides.iter().map(|&stride| stride as isize).collect();
+        let (dims, steps) = rules::forward_first(&sizes, &strides);
+        let dims = dims.into_iter().map(|size| size as usize).collect();
+        let steps = steps.into_iter().map(|stride| stride as isize).collect();
         Job { sizes, strides, dims, steps, count, run_len, bases, values }
     }
 

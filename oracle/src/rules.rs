@@ -1,6 +1,6 @@
 //! Ours: what the product engine adds to the source, stated from its rules: refusals 2 and 4 to 10, the order in
-//! which they are asked, the offset of an element, the first bad rate, and the one NaN. All sums here are made in 128
-//! bits.
+//! which they are asked, forward axes before backward ones of one |stride|, layouts with a size of 0, the offset of an
+//! element, the first bad rate, and the one NaN. All sums and products of sizes here are made in 128 bits.
 
 use crate::erased::calls::{self, Acc, Layout};
 use crate::StridedError;
@@ -19,7 +19,8 @@ pub struct Range {
     pub length: u64,
 }
 
-/// Refusals 1 to 4.
+/// Refusals 1 to 4. The source is asked with its axes forward first, and about no layout with a size of 0: in another
+/// order such a size would hide another overflow.
 pub fn compile(sizes: &[u64], strides: &[i64]) -> Result<Layout, u32> {
     if sizes.len() != strides.len() {
         return Err(1);
@@ -27,7 +28,11 @@ pub fn compile(sizes: &[u64], strides: &[i64]) -> Result<Layout, u32> {
     if sizes.len() > MOST_AXES {
         return Err(2);
     }
-    let layout = calls::compile(sizes, strides).map_err(|error| match error {
+    if sizes.contains(&0) {
+        return without_elements(sizes);
+    }
+    let (sizes, strides) = forward_first(sizes, strides);
+    let layout = calls::compile(&sizes, &strides).map_err(|error| match error {
         StridedError::StrideLengthMismatch => 1u32,
         StridedError::OffsetOverflow => 3,
     })?;
@@ -35,6 +40,34 @@ pub fn compile(sizes: &[u64], strides: &[i64]) -> Result<Layout, u32> {
         return Err(4);
     }
     Ok(layout)
+}
+
+/// Rule L1 where a size is 0: what overflows before it is refused by 3, what comes after it is hidden.
+fn without_elements(sizes: &[u64]) -> Result<Layout, u32> {
+    let mut product = 1u128;
+    for &size in sizes {
+        product *= u128::from(size);
+        if product > u128::from(u64::MAX) {
+            return Err(3);
+        }
+    }
+    Ok(Layout::without_elements())
+}
+
+/// The axes as the source gets them. Its stable sort asks |stride| alone, so of the places in the list that axes of one
+/// |stride| have, the forward ones get the first and the backward ones the rest, each in input order. No axis gets the
+/// place of another |stride|: the sorting is left to the source, so that it is still compared.
+pub fn forward_first(sizes: &[u64], strides: &[i64]) -> (Vec<u64>, Vec<i64>) {
+    let mut places: Vec<usize> = (0..strides.len()).collect();
+    let mut given = places.clone();
+    places.sort_unstable_by_key(|&place| (strides[place].unsigned_abs(), place));
+    given.sort_unstable_by_key(|&place| (strides[place].unsigned_abs(), strides[place] < 0, place));
+    let (mut new_sizes, mut new_strides) = (sizes.to_vec(), strides.to_vec());
+    for (to, from) in places.into_iter().zip(given) {
+        new_sizes[to] = sizes[from];
+        new_strides[to] = strides[from];
+    }
+    (new_sizes, new_strides)
 }
 
 /// The least and the greatest offset of a layout that has an element: base plus the sum of (size - 1) × stride
@@ -81,13 +114,14 @@ pub fn range(sizes: &[u64], strides: &[i64], r: &Range) -> Result<Layout, u32> {
     Ok(layout)
 }
 
-/// The axes of rule L2: those of size 1 dropped, the rest by |stride|, equal ones in input order, stride 0 last.
+/// The axes of rule L2: those of size 1 dropped, the rest by |stride|, stride 0 last; of one |stride| the forward ones
+/// before the backward ones, and else in input order.
 pub fn axes(sizes: &[u64], strides: &[i64]) -> Vec<(u64, i64)> {
     let mut kept: Vec<(usize, u64, i64)> = (0..sizes.len())
         .filter(|&place| sizes[place] != 1)
         .map(|place| (place, sizes[place], strides[place]))
         .collect();
-    kept.sort_unstable_by_key(|&(place, _, stride)| (stride == 0, stride.unsigned_abs(), place));
+    kept.sort_unstable_by_key(|&(place, _, stride)| (stride == 0, stride.unsigned_abs(), stride < 0, place));
     kept.into_iter().map(|(_, size, stride)| (size, stride)).collect()
 }
 

@@ -1,4 +1,5 @@
 -- Laws of figures.
 pub mod Calls
 pub mod Theorems
+pub mod Reordered
 pub mod Cases

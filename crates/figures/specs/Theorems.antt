@@ -1,4 +1,4 @@
--- What is proved about figures, as a type that a proof inhabits (proofs/Theorems).
+-- What is proved about figures, each statement as a type that a proof inhabits (proofs/Theorems, proofs/Reordered).
 use Prim.Native.Nat.{ℕ}
 use mathlib.Core.Path.{_≡_}
 use mathlib.Core.Bool.{true, false}
@@ -9,6 +9,7 @@ use lib.IntN.{ℤ}
 use lib.Ieee.{Float, binary64, fits}
 use Rattle.layout.specs.Axes.{PLACES}
 use Rattle.layout.specs.Compile.{compileOf}
+use Rattle.layout.specs.Reordered.{SameAxes}
 use Rattle.offsets.specs.Lists.{rangeCode}
 use Rattle.offsets.specs.Values.{visitedRates}
 use Rattle.floats.specs.Splitting.{isBad}
@@ -41,3 +42,9 @@ RuleO4Law =
     (ns : List ℕ) (ss : List ℤ) (base : ℤ) (start end : ℕ) (values : List Float)
     → Each (λ (x : Float). T (fits binary64 x)) values → rangeCode ns ss base start end (length values) ≡ 0
     → RuleO4 ns ss base start end values
+
+-- Rules L2 and C8: inputs that have the same axes in another order, those of one stride in one order among themselves, have one figure, or one refusal.
+abbrev pub OneFigure : Type 0
+OneFigure =
+    (ns ns' : List ℕ) (ss ss' : List ℤ) → SameAxes ns ss ns' ss' → (base : ℤ) (start end : ℕ) (values : List Float)
+    → figureOf ns ss base start end values ≡ figureOf ns' ss' base start end values

@@ -16,8 +16,8 @@ use Rattle.layout.specs.declared.axis.ReduceOuterAxis.{ReduceOuterAxis}
 use Rattle.layout.specs.declared.fuse.Joined.{Joined}
 use Rattle.layout.specs.declared.fuse.Joined.the-variants.{One, Two, Overflow}
 use Rattle.layout.specs.declared.fuse.Fusing.{Fusing}
-use Rattle.layout.specs.Axes.{resetFits, axisOf}
-use Rattle.layout.specs.InnerTables.{axesIn, held, bareAxis}
+use Rattle.layout.specs.Axes.{resetFits, axisOf, axesIn}
+use Rattle.layout.specs.InnerTables.{held, bareAxis}
 use Rattle.layout.specs.Order.{resetsFit}
 use Rattle.layout.specs.Fuse.{reach, joinOf, fuseFrom, fuse}
 use Rattle.layout.specs.InnerAnswers.{nextFrom, nextOf}

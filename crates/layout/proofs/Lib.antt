@@ -7,6 +7,8 @@ pub mod Sorting
 pub mod Fusing
 pub mod Outer
 pub mod Totals
+pub mod OneOrder
+pub mod Reordering
 pub mod Compiling
 pub mod Line
 pub mod Places

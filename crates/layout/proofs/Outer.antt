@@ -10,8 +10,8 @@ use lib.Seq.{getD-take, length-take-le, drop-append-le}
 use lib.IntN.{ℤ, pos}
 use Rattle.layout.specs.declared.axis.ReduceOuterAxis.{ReduceOuterAxis}
 use Rattle.layout.specs.declared.traversal.FullTraversal.{FullTraversal}
-use Rattle.layout.specs.Axes.{PLACES, noAxis, axisOf, placesOf, resetFits}
-use Rattle.layout.specs.InnerTables.{Whole, axesIn, held}
+use Rattle.layout.specs.Axes.{PLACES, noAxis, axisOf, placesOf, resetFits, axesIn}
+use Rattle.layout.specs.InnerTables.{Whole, held}
 use Rattle.layout.specs.Order.{resetsFit}
 use Rattle.layout.specs.Compile.{layoutOf}
 use Rattle.layout.proofs.Tables.{length-held, held-more, held-from, pushed}

@@ -10,8 +10,8 @@ use lib.ListN.{List·getD-append}
 use lib.Seq.{take-suc, length-take-le, set-at, drop-cons, getD-take, take-take, take-at}
 use lib.IntN.{ℤ, pos}
 use Rattle.layout.specs.declared.axis.ReduceOuterAxis.{ReduceOuterAxis}
-use Rattle.layout.specs.Axes.{PLACES, noAxis, padded, placesOf, axisOf}
-use Rattle.layout.specs.InnerTables.{axesIn, held, opened}
+use Rattle.layout.specs.Axes.{PLACES, noAxis, padded, placesOf, axisOf, axesIn}
+use Rattle.layout.specs.InnerTables.{held, opened}
 
 -- ---- a table with some of its places taken
 module _ {A : Type 0} (places : ℕ) (z : A) (xs : List A) where

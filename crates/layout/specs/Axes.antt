@@ -1,7 +1,7 @@
 -- Rules L3 and L5: an axis with its reset, and the table places that hold axes.
 use Prim.Native.Nat.{ℕ, _-_}
 use mathlib.Core.Bool.{Bool, _&&_}
-use mathlib.Core.List.{List, _++_}
+use mathlib.Core.List.{List, [], _∷_, _++_}
 use lib.ListN.{length, replicate}
 use lib.IntN.{ℤ, pos, negℤ, _*ℤ_}
 use Rattle.integers.specs.Integers.{fitsI64}
@@ -18,6 +18,12 @@ span n s = s *ℤ pos (n - 1)
 -- an axis of this size and stride, with its reset: -(size - 1) × stride
 unfoldable pub axisOf : ℕ → ℤ → ReduceOuterAxis
 axisOf n s = record { extent = n; «source_step» = s; «source_reset» = negℤ (span n s) }
+
+-- the axes of these sizes and strides, as they are given
+unfoldable pub axesIn : List ℕ → List ℤ → List ReduceOuterAxis
+axesIn [] ss = []
+axesIn (n ∷ ns) [] = []
+axesIn (n ∷ ns) (s ∷ ss) = axisOf n s ∷ axesIn ns ss
 
 -- rule L3: size - 1, the product and the product with its sign turned must fit i64
 unfoldable pub resetFits : ℕ → ℤ → Bool

@@ -1,24 +1,18 @@
 -- Inner: the axes of a layout while it is compiled, their sizes in one table and their strides in another.
-use Prim.Native.Nat.{ℕ, suc, _+_, _*_}
+use Prim.Native.Nat.{ℕ, zero, suc, _+_, _-_, _*_, _^_}
 use mathlib.Core.Path.{_≡_}
 use mathlib.Core.Bool.{Bool, true, false, cond}
 use mathlib.Core.List.{List, [], _∷_, _++_}
 use mathlib.Core.Option.{Option, none, some}
 use lib.ListN.{length, take, drop}
-use lib.IntN.{ℤ, pos}
+use lib.IntN.{ℤ, pos, negsuc}
 use Rattle.layout.specs.declared.axis.ReduceOuterAxis.{ReduceOuterAxis}
-use Rattle.layout.specs.Axes.{PLACES, axisOf}
+use Rattle.layout.specs.Axes.{PLACES, axesIn}
 use Rattle.layout.specs.Order.{precedes}
 
 -- both tables have all their places
 abbrev pub Whole : List ℕ → List ℤ → Type 0
 Whole ns ss = (length ns ≡ PLACES) × (length ss ≡ PLACES)
-
--- the axes of these sizes and strides
-unfoldable pub axesIn : List ℕ → List ℤ → List ReduceOuterAxis
-axesIn [] ss = []
-axesIn (n ∷ ns) [] = []
-axesIn (n ∷ ns) (s ∷ ss) = axisOf n s ∷ axesIn ns ss
 
 -- how many elements the axes have
 unfoldable pub elements : List ReduceOuterAxis → ℕ
@@ -36,6 +30,12 @@ heldIf false k ns ss = none
 -- an axis whose reset is not asked for
 abbrev pub bareAxis : ℕ → ℤ → ReduceOuterAxis
 bareAxis n s = record { extent = n; «source_step» = s; «source_reset» = pos 0 }
+
+-- what the code compares of two strides before their signs: |stride|, and for 0 more than any
+unfoldable pub distanceOf : ℤ → ℕ
+distanceOf (pos zero) = 2 ^ 64 - 1
+distanceOf (pos (suc n)) = suc n
+distanceOf (negsuc n) = suc n
 
 -- how many strides stand before the place of one more
 unfoldable pub placeFor : ℤ → List ℤ → ℕ

@@ -3,6 +3,7 @@ pub mod Fuse
 pub mod Order
 pub mod Compile
 pub mod Sorting
+pub mod Reordered
 pub mod InnerTables
 pub mod InnerAnswers
 pub mod Theorems

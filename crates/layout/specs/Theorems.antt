@@ -9,14 +9,31 @@ use Rattle.layout.specs.declared.axis.ReduceOuterAxis.{ReduceOuterAxis}
 use Rattle.layout.specs.declared.traversal.FullTraversal.{FullTraversal}
 use Rattle.layout.specs.Axes.{PLACES, axisOf, noAxis}
 use Rattle.layout.specs.Order.{keptAxes, axesOf}
-use Rattle.layout.specs.Sorting.{Sorted, count, keyed}
+use Rattle.layout.specs.Sorting.{Sorted, count, ofStride}
+use Rattle.layout.specs.Reordered.{NoZeroSize, Reordered, SameAxes}
 use Rattle.layout.specs.Compile.{compileOf}
 
--- Rule L2: the axes are those that were kept, sorted, and those of one key stand in input order.
+-- Rule L2: the axes are those that were kept, sorted, and those of one stride stand in input order.
 abbrev pub SortedAxes : Type 0
 SortedAxes =
     (ns : List ℕ) (ss : List ℤ) → ((p : ReduceOuterAxis → Bool) → count p (axesOf ns ss) ≡ count p (keptAxes ns ss)) × Sorted (axesOf ns ss)
-    × ((r : ℕ) → keyed r (axesOf ns ss) ≡ keyed r (keptAxes ns ss))
+    × ((s : ℤ) → ofStride s (axesOf ns ss) ≡ ofStride s (keptAxes ns ss))
+
+-- Rules L1 to L5: inputs that have the same axes in another order, those of one stride in one order among themselves, compile to one record, refused or not.
+abbrev pub OneRecord : Type 0
+OneRecord = (ns ns' : List ℕ) (ss ss' : List ℤ) → SameAxes ns ss ns' ss' → compileOf PLACES ns ss ≡ compileOf PLACES ns' ss'
+
+-- Where no two axes longer than 1 have one stride, any order of the same axes is such a one.
+abbrev pub StridesApart : Type 0
+StridesApart =
+    (ns ns' : List ℕ) (ss ss' : List ℤ) → Reordered ns ss ns' ss' → ((s : ℤ) → length (ofStride s (keptAxes ns ss)) ≤ 1) → SameAxes ns ss ns' ss'
+
+-- And wherever two neighbours of different strides change places, as a forward and a backward one of equal |stride|.
+abbrev pub NeighboursSwapped : Type 0
+NeighboursSwapped =
+    (ms : List ℕ) (ts : List ℤ) (m n : ℕ) (s t : ℤ) (ns : List ℕ) (ss : List ℤ) → length ms ≡ length ts → length ns ≡ length ss
+    → (s ≡ t → ⊥) → NoZeroSize (ms ++ m ∷ n ∷ ns) (ts ++ s ∷ t ∷ ss)
+    → SameAxes (ms ++ m ∷ n ∷ ns) (ts ++ s ∷ t ∷ ss) (ms ++ n ∷ m ∷ ns) (ts ++ t ∷ s ∷ ss)
 
 -- Rule L5, a record whole: a run of 2 by 1, one outer axis, and zeros in the fifteen places that are left.
 abbrev pub outerBy3 : FullTraversal
@@ -43,8 +60,8 @@ MorePlaces =
     (p n : ℕ) (ns : List ℕ) (ss : List ℤ) → length ns ≤ p
     → compileOf (p + n) ns ss ≡ record { code = (compileOf p ns ss) .code; traversal = withPlaces n ((compileOf p ns ss) .traversal) }
 
--- The engine had eight places before: a layout of at most eight axes compiles as it did then.
-abbrev pub EightAsBefore : Type 0
-EightAsBefore =
+-- The engine had eight places once: a layout of at most eight axes compiles as it does with eight.
+abbrev pub EightPlaces : Type 0
+EightPlaces =
     (ns : List ℕ) (ss : List ℤ) → length ns ≤ 8
     → compileOf PLACES ns ss ≡ record { code = (compileOf 8 ns ss) .code; traversal = withPlaces 8 ((compileOf 8 ns ss) .traversal) }

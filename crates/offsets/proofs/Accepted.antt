@@ -69,23 +69,23 @@ kept-axes (n ∷ ns) (s ∷ ss) h f =
         let r = first-fit n s (keptAxes ns ss) g in
         rw q (one-more n s (keptAxes ns ss) (some-n h) (r .0) (i (r .1)))
 
-insert-keeps : (a : ReduceOuterAxis) (xs : List ReduceOuterAxis) → Axis a → Axes xs → Axes (insertAxis a xs)
+axes-inserted : (a : ReduceOuterAxis) (xs : List ReduceOuterAxis) → Axis a → Axes xs → Axes (insertAxis a xs)
 unfolding insertAxis Axes
-insert-keeps a [] w v = (w, v)
-insert-keeps a (b ∷ bs) w v = go (precedes (a .«source_step») (b .«source_step»)) (insert-keeps a bs w (v .1))
+axes-inserted a [] w v = (w, v)
+axes-inserted a (b ∷ bs) w v = go (precedes (a .«source_step») (b .«source_step»)) (axes-inserted a bs w (v .1))
   where
     go : (t : Bool) → Axes (insertAxis a bs) → Axes (cond t (a ∷ b ∷ bs) (b ∷ insertAxis a bs))
     go true i = (w, v)
     go false i = (v .0, i)
 
-order-keeps : (done xs : List ReduceOuterAxis) → Axes done → Axes xs → Axes (orderFrom done xs)
+axes-ordered : (done xs : List ReduceOuterAxis) → Axes done → Axes xs → Axes (orderFrom done xs)
 unfolding orderFrom Axes
-order-keeps done [] w v = w
-order-keeps done (a ∷ xs) w v = order-keeps (insertAxis a done) xs (insert-keeps a done (v .0) w) (v .1)
+axes-ordered done [] w v = w
+axes-ordered done (a ∷ xs) w v = axes-ordered (insertAxis a done) xs (axes-inserted a done (v .0) w) (v .1)
 
 axes-kept : (ns : List ℕ) (ss : List ℤ) → Axes (keptAxes ns ss) → Axes (axesOf ns ss)
 unfolding axesOf
-axes-kept ns ss w = order-keeps [] (keptAxes ns ss) no-axes w
+axes-kept ns ss w = axes-ordered [] (keptAxes ns ss) no-axes w
 
 placed : (xs : List ReduceOuterAxis) → take (length xs) (placesOf PLACES xs) ≡ xs
 unfolding placesOf

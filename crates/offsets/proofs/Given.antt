@@ -11,9 +11,9 @@ use borrow.Author.Tests.{eqb-true}
 use Rattle.integers.specs.Integers.{fitsI64}
 use Rattle.integers.proofs.Difference.{ints, atoms}
 use Rattle.layout.specs.declared.axis.ReduceOuterAxis.{ReduceOuterAxis}
-use Rattle.layout.specs.Axes.{span, resetFits, axisOf}
+use Rattle.layout.specs.Axes.{span, resetFits, axisOf, axesIn}
 use Rattle.layout.specs.Order.{keptAxes, precedes, insertAxis, orderFrom, axesOf}
-use Rattle.layout.specs.InnerTables.{axesIn, elements}
+use Rattle.layout.specs.InnerTables.{elements}
 use Rattle.layout.proofs.AnyOrder.{gathers}
 use Rattle.offsets.specs.Elements.{allInside}
 use Rattle.offsets.specs.InnerCursors.{Axis, Axes}

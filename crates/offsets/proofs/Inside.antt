@@ -14,8 +14,8 @@ use lib.Signed.{leZ, ltZ, _≤ℤ_}
 use borrow.Author.Tests.{lt-ltb, le-ltb}
 use Rattle.integers.proofs.Difference.{ints, atoms}
 use Rattle.layout.specs.declared.axis.ReduceOuterAxis.{ReduceOuterAxis}
-use Rattle.layout.specs.Axes.{span, axisOf}
-use Rattle.layout.specs.InnerTables.{axesIn, elements}
+use Rattle.layout.specs.Axes.{span, axisOf, axesIn}
+use Rattle.layout.specs.InnerTables.{elements}
 use Rattle.offsets.specs.declared.bounds.Span.{Span}
 use Rattle.offsets.specs.Elements.{allInside}
 use Rattle.offsets.specs.InnerBounds.{negativePart, positivePart, lowSum, highSum, lowestOffset, highestOffset, nowhere, widened, stayInside}

@@ -7,6 +7,7 @@ pub mod Fused
 pub mod Accepted
 pub mod Ranges
 pub mod Checked
+pub mod Reordered
 pub mod Walking
 pub mod Skipping
 pub mod Writing

@@ -12,7 +12,7 @@ use lib.IntN.{ℤ}
 use borrow.Author.Tests.{lt-ltb, le-ltb, le-leb, lt-leb, eqb-true, ltb-false, leb-false, not-false}
 use Rattle.layout.specs.declared.axis.ReduceOuterAxis.{ReduceOuterAxis}
 use Rattle.layout.specs.declared.traversal.FullTraversal.{FullTraversal}
-use Rattle.layout.specs.Axes.{PLACES}
+use Rattle.layout.specs.Axes.{PLACES, axesIn}
 use Rattle.layout.specs.Order.{axesOf}
 use Rattle.refusals.specs.Refusals.{Refusal, firstOf}
 use Rattle.refusals.proofs.Buffers.{buffer-kept, buffer-filled}
@@ -21,7 +21,7 @@ use Rattle.offsets.specs.Elements.{offset, insideValues, everyBelow, all
 use Rattle.offsets.specs.Pieces.{runOf, outerOf}
 use Rattle.offsets.specs.InnerCursors.{Axes, Bounded}
 use Rattle.offsets.specs.Lists.{totalIn, endRefusals, placeRefusals, rangeRefusals, rangeCode, listCode, offsetsFrom, listBuffer}
-use Rattle.layout.specs.InnerTables.{axesIn, elements}
+use Rattle.layout.specs.InnerTables.{elements}
 use Rattle.offsets.proofs.Ends.{ends-exact, ends-bounded}
 use Rattle.offsets.proofs.Fused.{SameElements}
 use Rattle.offsets.proofs.Given.{given-axes, given-inside}

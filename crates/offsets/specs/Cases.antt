@@ -30,6 +30,7 @@ LayoutTable =
     × Lists (2 ∷ 3 ∷ []) (pos 1 ∷ negsuc 1 ∷ []) (pos 4) 6 6 0 (pos 4 ∷ pos 5 ∷ pos 2 ∷ pos 3 ∷ pos 0 ∷ pos 1 ∷ pos 7 ∷ [])
     × Lists (2 ∷ 3 ∷ []) (pos 1 ∷ negsuc 1 ∷ []) (pos 3) 6 6 7 (replicate 7 (pos 7))
     × Lists (2 ∷ 2 ∷ []) (pos 2 ∷ negsuc 1 ∷ []) (pos 2) 4 5 0 (pos 2 ∷ pos 4 ∷ pos 0 ∷ pos 2 ∷ replicate 3 (pos 7))
+    × Lists (2 ∷ 2 ∷ []) (negsuc 1 ∷ pos 2 ∷ []) (pos 2) 4 5 0 (pos 2 ∷ pos 4 ∷ pos 0 ∷ pos 2 ∷ replicate 3 (pos 7))
     × Lists (3 ∷ 2 ∷ []) (pos 0 ∷ pos 1 ∷ []) (pos 0) 6 2 0 (pos 0 ∷ pos 1 ∷ pos 0 ∷ pos 1 ∷ pos 0 ∷ pos 1 ∷ pos 7 ∷ [])
     × Refuses ((2 ^ 63) ∷ 2 ∷ 0 ∷ []) (replicate 3 (pos 1)) 3 × Compiles (0 ∷ (2 ^ 63) ∷ 2 ∷ []) (replicate 3 (pos 1)) 0 0 (pos 1) 0
     × Refuses (2 ∷ []) (negsuc 9223372036854775807 ∷ []) 3 × Compiles (1 ∷ []) (negsuc 9223372036854775807 ∷ []) 1 1 (pos 1) 0
@@ -41,7 +42,7 @@ abbrev pub Codes : ℕ → ℕ → ℕ → ℕ → ℕ → Type 0
 Codes start end len room code = listCode (3 ∷ []) (pos 1 ∷ []) (pos 0) start end len room ≡ code
 
 -- What no theorem decides: L4's second check of L3; seventeen axes, seventeen of which one is longer than 1, sixteen, and nine that do not fuse (R2); the
--- order by |stride| itself (L2); R5, R6 and R8, and their rank.
+-- order by |stride| itself, whatever the signs (L2); that L4 checks in that order; R5, R6 and R8, and their rank.
 abbrev pub LayoutDeciding : Type 0
 LayoutDeciding =
     Refuses (3 ∷ 2 ∷ []) (pos (2 ^ 61) ∷ pos (3 * 2 ^ 61) ∷ []) 3 × Refuses (replicate 17 1) (replicate 17 (pos 1)) 2
@@ -49,4 +50,5 @@ LayoutDeciding =
     × Compiles (replicate 9 2) (map pos (3 ∷ 4 ∷ 5 ∷ 6 ∷ 7 ∷ 8 ∷ 9 ∷ 10 ∷ 11 ∷ [])) 512 2 (pos 3) 8
     × Compiles (2 ∷ 2 ∷ []) (pos 3 ∷ negsuc 1 ∷ []) 4 2 (negsuc 1) 1
     × Lists (2 ∷ 2 ∷ []) (pos 3 ∷ pos 2 ∷ []) (pos 0) 4 6 0 (pos 0 ∷ pos 2 ∷ pos 3 ∷ pos 5 ∷ replicate 3 (pos 7))
+    × Refuses (2 ∷ 2 ∷ []) (negsuc 4611686018427387903 ∷ pos (2 ^ 62) ∷ []) 3
     × Codes 2 2 3 7 5 × Codes 3 2 3 7 5 × Codes 0 4 3 7 6 × Codes 0 3 3 2 8 × Codes 0 3 3 3 0 × Codes 5 5 0 0 5 × Codes 0 4 0 0 6 × Codes 0 3 2 2 7

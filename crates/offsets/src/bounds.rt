@@ -2,7 +2,8 @@
 ghost use mathlib.Core.Path.{_≡_};
 ghost use Prim.Native.Nat.{_≤_, _<_, _^_};
 ghost use lib.ListN.{length};
-ghost use Rattle.layout.specs.InnerTables.{axesIn, elements};
+ghost use Rattle.layout.specs.Axes.{axesIn};
+ghost use Rattle.layout.specs.InnerTables.{elements};
 ghost use Rattle.offsets.specs.Elements.{allInside};
 ghost use Rattle.offsets.specs.InnerBounds.{nowhere, widened, stayInside};
 ghost use Rattle.offsets.specs.InnerCursors.{Axes};

@@ -6,4 +6,5 @@ pub mod Strips
 pub mod Calls
 pub mod Demand
 pub mod Whole
+pub mod Reordered
 pub mod Cases

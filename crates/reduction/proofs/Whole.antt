@@ -47,9 +47,15 @@ abbrev pub is-accumulator : Answer → Bool
 is-accumulator (accumulator m e bad) = true
 is-accumulator (refusal n) = false
 
-answer-acc : (r : Reduced) (a : StableProductFloatAcc) → answerOf r ≡ answerOf (Acc a) → r ≡ Acc a
-answer-acc (Refused n) a e = absurd (subst T (sym (ap is-accumulator e)) tt)
-answer-acc (Acc b) a e = ap Acc (same (ap answer-m e) (ap (answer-e (a .e)) e) (ap answer-bad e))
+abbrev answer-code : Answer → ℕ
+answer-code (accumulator m e bad) = 0
+answer-code (refusal n) = n
+
+pub answer-one : (r r' : Reduced) → answerOf r ≡ answerOf r' → r ≡ r'
+answer-one (Refused n) (Refused k) e = ap Refused (ap answer-code e)
+answer-one (Refused n) (Acc a) e = absurd (subst T (sym (ap is-accumulator e)) tt)
+answer-one (Acc b) (Refused k) e = absurd (subst T (ap is-accumulator e) tt)
+answer-one (Acc b) (Acc a) e = ap Acc (same (ap answer-m e) (ap (answer-e (a .e)) e) (ap answer-bad e))
   where
     same : b .m ≡ a .m → b .e ≡ a .e → b .bad ≡ a .bad → b ≡ a
     same p q r = rw (p, q, r) refl
@@ -75,8 +81,8 @@ module _ (ns : List ℕ) (ss : List ℤ) (base : ℤ) (start end : ℕ) (values 
         mark = mark;
         plain = λ k. range-agrees l (a .traversal) base b values v end start (g .forward) few (ap (some isBad) same ∙ sym mark ∙ k);
         unit = in-limits-unit r up;
-        once = λ q t k. ap finishedOf (answer-acc q r (t ∙ answer)) ∙ finished-once r up k;
-        marked = λ q t k. ap finishedOf (answer-acc q r (t ∙ answer)) ∙ finished-bad r up k;
+        once = λ q t k. ap finishedOf (answer-one q (Acc r) (t ∙ answer)) ∙ finished-once r up k;
+        marked = λ q t k. ap finishedOf (answer-one q (Acc r) (t ∙ answer)) ∙ finished-bad r up k;
       }
 
 pub rule-D3 : RuleD3Law

@@ -1,4 +1,5 @@
--- Rule D3 of every accepted range of every layout, as a type that a proof inhabits (proofs/Whole).
+-- What is proved about reducing, each statement as a type that a proof inhabits (proofs/Whole, proofs/Reordered): rule D3 of every
+-- accepted range of every layout, and what the order of the input's axes is to the answer.
 use Prim.Native.Nat.{ℕ}
 use mathlib.Core.Path.{_≡_}
 use mathlib.Core.Bool.{Bool, true, false}
@@ -9,6 +10,7 @@ use lib.IntN.{ℤ}
 use lib.Ieee.{Float, nan, binary64, fits}
 use Rattle.layout.specs.Axes.{PLACES}
 use Rattle.layout.specs.Compile.{compileOf}
+use Rattle.layout.specs.Reordered.{SameAxes}
 use Rattle.offsets.specs.Lists.{rangeCode}
 use Rattle.floats.specs.Magnitude.{inUnit}
 use Rattle.floats.specs.Splitting.{isBad}
@@ -47,3 +49,11 @@ RuleD3Law =
     (ns : List ℕ) (ss : List ℤ) (base : ℤ) (start end : ℕ) (values : List Float)
     → Each (λ (x : Float). T (fits binary64 x)) values → rangeCode ns ss base start end (length values) ≡ 0
     → RuleD3 ns ss base start end values (rangeProduct ns ss base start end values)
+
+-- Rules L2, C3 and C5: inputs that have the same axes in another order, those of one stride in one order among themselves, have one product, or one refusal,
+-- and one finished number.
+abbrev pub OneProduct : Type 0
+OneProduct =
+    (ns ns' : List ℕ) (ss ss' : List ℤ) → SameAxes ns ss ns' ss' → (base : ℤ) (start end : ℕ) (values : List Float)
+    → (reduceOf ns ss base start end values ≡ reduceOf ns' ss' base start end values)
+    × ((r r' : Reduced) → answerOf r ≡ reduceOf ns ss base start end values → answerOf r' ≡ reduceOf ns' ss' base start end values → finishedOf r ≡ finishedOf r')

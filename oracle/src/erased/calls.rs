@@ -37,6 +37,14 @@ pub struct Acc {
     pub bad: bool,
 }
 
+impl Layout {
+    /// The layout of total 0, as the rule has it. No range of it is accepted, so its plan is never walked.
+    pub fn without_elements() -> Layout {
+        let plan = Plan::compile(&[0], &[1]).expect("one axis of size 0 overflows nothing");
+        Layout { total: 0, run_len: 0, run_stride: 1, axes: Vec::new(), plan }
+    }
+}
+
 type SourceAcc = <f64 as StableProductScalar>::StableProductAcc;
 
 /// What stands after each `name: ` in a debug print, up to the next separator.

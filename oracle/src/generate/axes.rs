@@ -9,6 +9,13 @@ pub struct Axes {
 }
 
 impl Axes {
+    /// Pairs of a size and a stride, in any order.
+    pub fn shuffled(dice: &mut Dice, mut axes: Vec<(u64, i64)>) -> Axes {
+        dice.shuffle(&mut axes);
+        let (sizes, strides) = axes.into_iter().unzip();
+        Axes { sizes, strides }
+    }
+
     /// The number of elements, or a small number for a layout that is refused.
     pub fn total(&self, dice: &mut Dice) -> u64 {
         rules::compile(&self.sizes, &self.strides).map_or(dice.below(9), |layout| layout.total)
@@ -83,8 +90,46 @@ pub fn small(dice: &mut Dice) -> Axes {
     Axes { sizes, strides }
 }
 
-/// As many axes as there are places, or nearly so, most of them of size 2, a few steps apart: few of them fuse, and the digits carry
-/// from place to place.
+/// The stride or its opposite.
+fn either_way(dice: &mut Dice, stride: i64) -> i64 {
+    if dice.once_in(2) {
+        stride.wrapping_neg()
+    } else {
+        stride
+    }
+}
+
+/// Axes of one |stride|, forwards and backwards, in any order: which comes first decides what the run is, what fuses,
+/// and where each element lies. Now and then a run that one of them meets lies before them, and axes of size 1, of
+/// stride 0 and of another |stride| stand among them.
+pub fn tied(dice: &mut Dice) -> Axes {
+    let mut axes = Vec::new();
+    let mut step = dice.of(&[1, 1, 1, 2, 3]);
+    if dice.once_in(3) {
+        let length = 2 + dice.below(4);
+        axes.push((length, either_way(dice, step)));
+        step = step * length as i64 + dice.of(&[0, 0, 1]);
+    }
+    let strides = [step, step, step, -step, -step, -step, 0, 2 * step];
+    axes.push((tied_size(dice, step), step));
+    axes.push((tied_size(dice, step), -step));
+    for _ in 0..dice.of(&[0, 0, 0, 1, 1, 1, 2, 2, 4, 9]) {
+        axes.push((tied_size(dice, step), dice.of(&strides)));
+    }
+    for _ in 0..dice.of(&[0, 0, 1, 2]) {
+        axes.push((1, dice.of(&[step, -step, 0, i64::MIN])));
+    }
+    Axes::shuffled(dice, axes)
+}
+
+/// Mostly a few. Where there is room, now and then enough for a block of 64 and a tail.
+fn tied_size(dice: &mut Dice, step: i64) -> u64 {
+    let size = if dice.once_in(8) { 60 + dice.below(80) } else { dice.of(&[2, 2, 2, 3, 3, 4, 5]) };
+    size.min(150 / step as u64)
+}
+
+/// As many axes as there are places, or nearly so, most of them of size 2, a few steps apart: few of them fuse, and the
+/// digits carry from place to place.
 pub fn crowded(dice: &mut Dice) -> Axes {
     let count = rules::MOST_AXES - dice.of(&[0, 0, 0, 1, 2, 4, 7]);
     let sizes = (0..count).map(|_| dice.of(&[1, 2, 2, 2, 2, 2, 2, 3])).collect();
@@ -120,11 +165,17 @@ fn wild_stride(dice: &mut Dice) -> i64 {
 pub fn wild(dice: &mut Dice) -> Axes {
     let count = axis_count(dice);
     let sizes: Vec<u64> = (0..count).map(|_| wild_size(dice)).collect();
-    let strides = if dice.once_in(3) {
-        let first = dice.of(&[1, -1, 3, 1 << 30, 3 << 60]);
-        contiguous(dice, &sizes, first)
-    } else {
-        (0..count).map(|_| wild_stride(dice)).collect()
+    let strides = match dice.below(6) {
+        0 | 1 => {
+            let first = dice.of(&[1, -1, 3, 1 << 30, 3 << 60]);
+            contiguous(dice, &sizes, first)
+        }
+        // All of one |stride|: a size of 0 hides what is given behind it, not what comes behind it in order.
+        2 => {
+            let stride = wild_stride(dice);
+            (0..count).map(|_| either_way(dice, stride)).collect()
+        }
+        _ => (0..count).map(|_| wild_stride(dice)).collect(),
     };
     Axes { sizes, strides }
 }
@@ -150,7 +201,24 @@ fn edge_axis(dice: &mut Dice) -> (u64, i64) {
     let bits = dice.below(62);
     let size = (1 << bits) + dice.of(&[0, 1, 1, 2]);
     let stride = (1i64 << (62 - bits)).wrapping_mul(dice.of(&[1, 2, 2])).wrapping_sub(dice.of(&[0, 0, 1]));
-    (size, if dice.once_in(2) { stride.wrapping_neg() } else { stride })
+    (size, either_way(dice, stride))
+}
+
+/// Two axes of one |stride| that go opposite ways, or three, some of which reach to 2^63: forwards this fits only if
+/// nothing follows, backwards always. A run may lie before them, and one that meets it may then reach too far.
+fn edge_tied(dice: &mut Dice) -> Axes {
+    let unit = 1i64 << (60 - dice.below(14));
+    let length = dice.of(&[1, 2, 3, 4]);
+    let stride = unit * length as i64;
+    let full = (1 << 63) / stride as u64;
+    let mut axes = Vec::new();
+    if dice.once_in(2) {
+        axes.push((length, either_way(dice, unit)));
+    }
+    for stride in [stride, -stride, either_way(dice, stride)].into_iter().take(dice.of(&[2, 2, 2, 3])) {
+        axes.push((dice.of(&[full, full, full + 1, full - 1, 2, 2]), stride));
+    }
+    Axes::shuffled(dice, axes)
 }
 
 /// Two axes with 2^40 elements together, or a few more or less.
@@ -161,11 +229,12 @@ fn edge_total(dice: &mut Dice) -> Axes {
     Axes { sizes, strides }
 }
 
-/// Layouts at a limit: of the total, of a size, or of an axis, with another axis behind it or none.
+/// Layouts at a limit: of the total, of a size, of an axis or of several, with another axis behind it or none.
 pub fn edge(dice: &mut Dice) -> Axes {
-    let mut axes = match dice.below(4) {
+    let mut axes = match dice.below(5) {
         0 => edge_total(dice),
         1 => Axes { sizes: vec![(1 << 63) - 1 + dice.below(3)], strides: vec![0] },
+        2 => edge_tied(dice),
         _ => {
             let (size, stride) = edge_axis(dice);
             Axes { sizes: vec![size], strides: vec![stride] }

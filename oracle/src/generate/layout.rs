@@ -13,9 +13,10 @@ pub fn line(dice: &mut Dice) -> String {
 }
 
 fn compile_line(dice: &mut Dice) -> String {
-    let mut axes = match dice.below(8) {
+    let mut axes = match dice.below(10) {
         0 | 1 => axes::small(dice),
         7 => axes::crowded(dice),
+        8 | 9 => axes::tied(dice),
         2 => axes::mixed(dice),
         3 | 4 => axes::edge(dice),
         _ => axes::wild(dice),
@@ -27,11 +28,12 @@ fn compile_line(dice: &mut Dice) -> String {
 }
 
 fn list_line(dice: &mut Dice) -> String {
-    let mut axes = match dice.below(16) {
+    let mut axes = match dice.below(19) {
         0 => axes::wild(dice),
         1 => axes::edge(dice),
         2 | 3 => axes::mixed(dice),
         4 => axes::crowded(dice),
+        5..=7 => axes::tied(dice),
         _ => axes::small(dice),
     };
     if dice.once_in(60) {

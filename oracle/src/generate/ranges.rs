@@ -6,7 +6,7 @@
 use super::accumulator::{outside, wild};
 use super::reduce::{self, Call, MOST_VALUES, MOST_VISITED};
 use super::step::{no_elements, short_runs};
-use super::{floats_text, items_text, ordered, rates, Dice};
+use super::{axes, floats_text, items_text, ordered, rates, Dice};
 use crate::ranges::{Buffers, Ranges};
 use crate::rules;
 
@@ -47,10 +47,11 @@ pub fn text(call: &Call, ranges: &Ranges, buffers: &Buffers) -> String {
 }
 
 fn drawn_call(dice: &mut Dice) -> Call {
-    let axes = match dice.below(24) {
+    let axes = match dice.below(26) {
         0 => no_elements(dice),
         1..=3 => ordered::few(dice),
         4..=9 => short_runs(dice),
+        10 | 11 => axes::tied(dice),
         _ => reduce::drawn_axes(dice),
     };
     Call::over(dice, axes, &["ranges"], MOST_VALUES)

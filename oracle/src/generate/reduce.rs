@@ -24,11 +24,12 @@ pub fn line(dice: &mut Dice) -> String {
 
 pub fn drawn_axes(dice: &mut Dice) -> Axes {
     let room = if dice.once_in(40) { 1000 } else { dice.of(&[30, 80, 140, 200, 300, 300, 300, 300]) };
-    let mut axes = match dice.below(24) {
+    let mut axes = match dice.below(29) {
         0 => dice.of(&[axes::wild, axes::edge, axes::mixed])(dice),
         1..=8 => one_run(dice, room),
         9..=16 => rows(dice, room),
         17 => axes::crowded(dice),
+        18..=22 => axes::tied(dice),
         _ => compact(dice, room),
     };
     if dice.once_in(4) {

@@ -5,7 +5,7 @@
 //! chosen by the pieces behind it, so that after one of them it lies at 2^52 or just past it.
 
 use super::accumulator::{at_limit, inside, near_an_end, outside, plain, short, small, unit, wild, LIMIT};
-use super::axes::Axes;
+use super::axes::{self, Axes};
 use super::rates::{self, between};
 use super::reduce::{self, Call, MOST_VALUES};
 use super::{ordered, Dice};
@@ -71,11 +71,12 @@ pub fn text(call: &Call, from: &Bookmark, count: u64) -> String {
 // ---- layouts, ranges and values
 
 fn drawn_call(dice: &mut Dice) -> Call {
-    let axes = match dice.below(32) {
+    let axes = match dice.below(36) {
         0 => no_elements(dice),
         1 | 2 => ordered::few(dice),
         3 => many_runs(dice),
         4..=17 => reduce::drawn_axes(dice),
+        18..=21 => axes::tied(dice),
         _ => short_runs(dice),
     };
     let mut call = Call::over(dice, axes, &["step"], MOST_VALUES);
@@ -107,8 +108,7 @@ pub fn short_runs(dice: &mut Dice) -> Axes {
         axes.push((size, pitch as i64 * dice.of(&[1, 1, 1, -1])));
         reach = pitch * size;
     }
-    dice.shuffle(&mut axes);
-    Axes { sizes: axes.iter().map(|axis| axis.0).collect(), strides: axes.iter().map(|axis| axis.1).collect() }
+    Axes::shuffled(dice, axes)
 }
 
 /// A run that is visited up to 2^38 times.

@@ -13,9 +13,9 @@ use mir.Val.{SFits}
 use mir.Syntax.{w64}
 use borrow.Author.Needs.{needs}
 use borrow.Author.Tests.{not-true, not-false}
-use Rattle.layout.specs.Axes.{PLACES}
+use Rattle.layout.specs.Axes.{PLACES, axesIn}
 use Rattle.layout.specs.Fuse.{fuse}
-use Rattle.layout.specs.InnerTables.{Whole, held, heldIf, axesIn}
+use Rattle.layout.specs.InnerTables.{Whole, held, heldIf}
 use Rattle.layout.proofs.Fusing.{Fused, fused-first, fused-more, fused-stop, fused-all}
 use Rattle.layout.proofs.fuse.compress_reduce_outer_axes.Statement.{statement}
 use Rattle.layout.proofs.fuse.compress_reduce_outer_axes.Tie as tie

@@ -10,7 +10,8 @@ use mir.Val.{toZ, ofZ, SFits}
 use mir.Facts.{toZ-ofZ}
 use mir.Syntax.{w64}
 use Rattle.integers.proofs.Machine.{nonneg-pos, natAbs-fits}
-use Rattle.layout.specs.InnerTables.{axesIn, elements}
+use Rattle.layout.specs.Axes.{axesIn}
+use Rattle.layout.specs.InnerTables.{elements}
 use Rattle.offsets.specs.Elements.{allInside}
 use Rattle.offsets.proofs.Inside.{base-below, base-past, last-short, last-long}
 use borrow.Author.Needs.{needs}

@@ -14,8 +14,7 @@ use borrow.Author.Needs.{needs}
 use borrow.Author.Tests.{not-true, not-false}
 use Rattle.integers.specs.InnerChecked.{keepI}
 use Rattle.integers.specs.declared.CheckedI64.{CheckedI64}
-use Rattle.layout.specs.Axes.{span, axisOf}
-use Rattle.layout.specs.InnerTables.{axesIn}
+use Rattle.layout.specs.Axes.{span, axisOf, axesIn}
 use Rattle.layout.proofs.Tables.{length-axesIn}
 use Rattle.offsets.specs.InnerBounds.{widened}
 use Rattle.offsets.proofs.Stepping.{axes-at, axes-drop}

@@ -6,9 +6,9 @@ use mathlib.Core.List.{[]}
 use native.Mathlib.Omega.{arith}
 use mir.Facts.{toZ-ofZ}
 use Rattle.refusals.specs.Refusals.{firstOf}
-use Rattle.layout.specs.Axes.{PLACES}
+use Rattle.layout.specs.Axes.{PLACES, axesIn}
 use Rattle.layout.specs.Compile.{compileOf}
-use Rattle.layout.specs.InnerTables.{axesIn, elements}
+use Rattle.layout.specs.InnerTables.{elements}
 use Rattle.offsets.specs.Elements.{allInside}
 use Rattle.offsets.specs.Lists.{placeRefusals, rangeCode}
 use Rattle.offsets.proofs.Ranges.{Clear, clear, clear-axes, tested, place-7, place-0, range-compile, range-5, range-6, range-places}
