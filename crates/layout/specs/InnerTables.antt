@@ -1,11 +1,11 @@
 -- Inner: the axes of a layout while it is compiled, their sizes in one table and their strides in another.
-use Prim.Native.Nat.{ℕ, zero, suc, _+_, _-_, _*_, _^_}
+use Prim.Native.Nat.{ℕ, suc, _+_, _*_}
 use mathlib.Core.Path.{_≡_}
 use mathlib.Core.Bool.{Bool, true, false, cond}
 use mathlib.Core.List.{List, [], _∷_, _++_}
 use mathlib.Core.Option.{Option, none, some}
 use lib.ListN.{length, take, drop}
-use lib.IntN.{ℤ, pos, negsuc}
+use lib.IntN.{ℤ, pos}
 use Rattle.layout.specs.declared.axis.ReduceOuterAxis.{ReduceOuterAxis}
 use Rattle.layout.specs.Axes.{PLACES, axesIn}
 use Rattle.layout.specs.Order.{precedes}
@@ -30,12 +30,6 @@ heldIf false k ns ss = none
 -- an axis whose reset is not asked for
 abbrev pub bareAxis : ℕ → ℤ → ReduceOuterAxis
 bareAxis n s = record { extent = n; «source_step» = s; «source_reset» = pos 0 }
-
--- what the code compares of two strides before their signs: |stride|, and for 0 more than any
-unfoldable pub distanceOf : ℤ → ℕ
-distanceOf (pos zero) = 2 ^ 64 - 1
-distanceOf (pos (suc n)) = suc n
-distanceOf (negsuc n) = suc n
 
 -- how many strides stand before the place of one more
 unfoldable pub placeFor : ℤ → List ℤ → ℕ
