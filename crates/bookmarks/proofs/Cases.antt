@@ -13,9 +13,9 @@ use Rattle.offsets.specs.Pieces.{runOf, outerOf}
 use Rattle.offsets.specs.Lists.{totalIn, rangeRefusals, rangeCode, offsetsFrom}
 use Rattle.floats.specs.Rounding.{delivered, rounded}
 use Rattle.floats.specs.Product.{product}
-use Rattle.floats.specs.Fields.{ofParts, valueOf, badBits}
+use Rattle.floats.specs.Fields.{ofParts, valueOf, badBits, factorOf}
 use Rattle.floats.specs.Magnitude.{inUnit, twoOrMore}
-use Rattle.floats.specs.Splitting.{isBad, split}
+use Rattle.floats.specs.Splitting.{isBad, rateFactor, split}
 use Rattle.accumulator.specs.Joining.{multiplied, combined, inLimits, answered}
 use Rattle.kernels.specs.Lanes as lanes
 use Rattle.kernels.specs.Blocks as blocks
@@ -29,7 +29,7 @@ unfolding fitsI64 eqZ span axisOf resetFits placesOf keptAxes rank precedes inse
     totalOf fusedOf layoutOf emptyLayout traversalAt traversalOf firstOf overflows aboveMost compileRefusals layoutBeside compileOf digits shift
     offset insideValues everyBelow allInside totalIn rangeRefusals rangeCode offsetsFrom runOf outerOf piecesFrom joinedPieces ratesOf
     blocks.contiguous blocks.blocks blocks.block blocks.unsplit blocks.renorm blocks.renormLane lanes.inOrder lanes.feed blocks.splitStep
-    blocks.unsplitStep blocks.inRange lanes.every lanes.some blocks.laneIn blocks.lanesIn split toBits valueOf ofParts delivered isBad badBits product
+    blocks.unsplitStep blocks.inRange lanes.every lanes.some blocks.laneIn blocks.lanesIn split rateFactor factorOf toBits valueOf ofParts delivered isBad badBits product
     rounded size odd isNan combined multiplied twoOrMore inUnit inLimits answered stepRefusals stepCode joinedWithin stepOf
 step-tables =
     ((refl, refl, refl, refl, refl, refl, refl), (refl, refl, refl, refl, refl, refl), (refl, refl, refl, refl, refl), (refl, refl, refl, refl, refl))

@@ -18,6 +18,7 @@ use mir.Val.{SFits, toZ, ofZ}
 use mir.ValLaws.{toZ-pos, toZ-ofZ}
 use borrow.Author.Tests.{eq-eqb, ne-eqb}
 use Rattle.floats.specs.declared.Split.{Split}
+use Rattle.floats.specs.Rounding.{delivered}
 use Rattle.floats.specs.Factor.{Factor, Normalised, NormalExponent, floatOf}
 use Rattle.floats.specs.Fields.{signField, expField, fraction, pattern, valueOf, factorOf}
 use Rattle.floats.specs.Magnitude.{inUnit, factorAt, withExponent}
@@ -56,11 +57,13 @@ float-good f N R = float-not-bad binary64 11 52 refl refl (lit< tt) f N R
 
 -- m is the float of the rate's sign and significand, at the exponent 0
 pub split-m : (x : Float) → split x .m ≡ floatOf 11 52 (withExponent (rateFactor x) (pos 0))
-unfolding split rateFactor factorOf
+unfolding split
 split-m x =
-    let b = bitsOf x in
-    pattern-value 11 52 (signField 11 52 b) 1022 (fraction 52 b) (lit< tt) (fraction-lt 52 b)
-    ∙ sym (floatOf-is 11 52 (withExponent (rateFactor x) (pos 0)) 1022 (moved-normal 52 (rateFactor x) (pos 0) (rate-normal x)) refl)
+    let f = rateFactor x in
+    let N = rate-normal x in
+    pattern-value 11 52 (f .sign) 1022 (f .sig - 2 ^ 52) (lit< tt) (let l = N .least in let h = N .most in omega arith)
+    ∙ ap (λ (q : ℕ). delivered 53 1023 (f .sign) q 1022) (let l = N .least in let e : 2 ^ 52 + (f .sig - 2 ^ 52) ≡ f .sig = omega arith in e)
+    ∙ sym (floatOf-is 11 52 (withExponent f (pos 0)) 1022 (moved-normal 52 f (pos 0) N) refl)
 
 -- |m| is in [1, 2), whatever the rate
 pub split-unit : (x : Float) → inUnit (split x .m) ≡ true
@@ -68,7 +71,7 @@ split-unit x = ap inUnit (split-m x) ∙ unit-float binary64 11 52 refl refl (li
 
 -- m and e are the rate's factor
 pub split-factor : (x : Float) → factorAt 52 (split x .m) (split x .e) ≡ rateFactor x
-unfolding split rateFactor factorOf
+unfolding split
 split-factor x =
     let e = split x .e in
     ap (λ (m : Float). factorAt 52 m e) (split-m x) ∙ factor-at-float binary64 11 52 refl refl (lit< tt) (rateFactor x) e (rate-normal x)
@@ -140,12 +143,16 @@ split-same m m' e e' q q' a b c = cc
 pub split-is : (x : Float) (f : T (fits binary64 x)) (q : Bool) → q ≡ isBad x
     → _≡_ {A = Split} (record { m = ofBits binary64 (set (bitsOf x) (bits-lt x f)); e = toZ w64 (ofZ w64 (toZ w64 (raw (bitsOf x)) -ℤ pos 1023)); bad = q })
     (split x)
-unfolding split
+unfolding split rateFactor factorOf
 split-is x f q h =
     let b = bitsOf x in
-    split-same (ofBits binary64 (set b (bits-lt x f))) (valueOf 11 52 (pattern 11 52 (signField 11 52 b) 1023 (fraction 52 b)))
-    (toZ w64 (ofZ w64 (toZ w64 (raw b) -ℤ pos 1023))) (pos (expField 11 52 b) -ℤ pos 1023) q (isBad x)
-    (mantissa-is b (bits-lt x f)) (exponent-is b) h
+    let g = rateFactor x in
+    split-same (ofBits binary64 (set b (bits-lt x f))) (valueOf 11 52 (pattern 11 52 (g .sign) 1023 (g .sig - 2 ^ 52)))
+    (toZ w64 (ofZ w64 (toZ w64 (raw b) -ℤ pos 1023))) (g .exp) q (isBad x)
+    (mantissa-is b (bits-lt x f) ∙ ap (λ (T' : ℕ). valueOf 11 52 (pattern 11 52 (g .sign) 1023 T')) (unled (fraction 52 b))) (exponent-is b) h
+  where
+    unled : (y : ℕ) → y ≡ 2 ^ 52 + y - 2 ^ 52
+    unled y = omega arith
 
 -- the mark, by the two ways of the code's test
 pub bad-zero : (x : Float) → raw (bitsOf x) ≡ 0 → eqb (raw (bitsOf x)) 0 ≡ isBad x
@@ -162,7 +169,7 @@ bad-other x h =
 
 -- the NaN
 pub split-nan : (x : Float) → x ≡ nan → _≡_ {A = Split} (record { m = ofBits binary64 0x3ff8000000000000; e = pos 1024; bad = true }) (split x)
-unfolding split toBits ofBits valueOf isBad
+unfolding split rateFactor factorOf toBits ofBits valueOf isBad
 split-nan x h = subst (λ (y : Float). _≡_ {A = Split} (record { m = ofBits binary64 0x3ff8000000000000; e = pos 1024; bad = true }) (split y)) (sym h) refl
 
 -- what does not differ from itself is no NaN

@@ -7,8 +7,8 @@ use lib.IntN.{pos, negsuc}
 use lib.Ieee.{nan, fin, size, odd, toBits, isNan}
 use Rattle.floats.specs.Rounding.{delivered, rounded}
 use Rattle.floats.specs.Product.{product}
-use Rattle.floats.specs.Fields.{ofParts, valueOf, badBits}
-use Rattle.floats.specs.Splitting.{isBad, split}
+use Rattle.floats.specs.Fields.{ofParts, valueOf, badBits, factorOf}
+use Rattle.floats.specs.Splitting.{isBad, rateFactor, split}
 use Rattle.accumulator.specs.Joining.{identityAcc}
 use Rattle.kernels.specs.Lanes.{feed, inOrder, every, some}
 use Rattle.kernels.specs.InnerLanes.{inBounds}
@@ -37,6 +37,6 @@ bound-nan = refl
 
 -- no value at all: the identity, as the Rust returns at once
 pub none-blocks : contiguous [] ≡ identityAcc
-unfolding contiguous blocks block unsplit renorm renormLane inOrder feed splitStep unsplitStep inRange every some laneIn lanesIn split toBits valueOf ofParts
+unfolding contiguous blocks block unsplit renorm renormLane inOrder feed splitStep unsplitStep inRange every some laneIn lanesIn split rateFactor factorOf toBits valueOf ofParts
     delivered isBad badBits product rounded size odd isNan
 none-blocks = refl

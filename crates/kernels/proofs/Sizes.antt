@@ -10,9 +10,9 @@ use lib.IntN.{ℤ, pos, negsuc, natAbs, _+ℤ_, _-ℤ_}
 use lib.Dec.{ltb}
 use lib.Ieee.{Float}
 use Rattle.floats.specs.Product.{productOf}
-use Rattle.floats.specs.Fields.{expField}
+use Rattle.floats.specs.Fields.{expField, factorOf}
 use Rattle.floats.specs.Magnitude.{twoOrMore}
-use Rattle.floats.specs.Splitting.{bitsOf, split}
+use Rattle.floats.specs.Splitting.{bitsOf, rateFactor, split}
 use Rattle.floats.proofs.Fields.{field-lt}
 use Rattle.floats.proofs.Factor.{add-size}
 use Rattle.accumulator.specs.declared.StableProductFloatAcc.{StableProductFloatAcc}
@@ -42,7 +42,7 @@ less-size n h = go (ltb n 1023)
     go false = omega arith
 
 pub split-size : (x : Float) → natAbs (split x .e) ≤ 1024
-unfolding split
+unfolding split rateFactor factorOf
 split-size x = less-size (expField 11 52 (bitsOf x)) (field-lt 11 52 (bitsOf x))
 
 pub rate-size : (x : Float) → natAbs (rateAcc x .e) ≤ 1024

@@ -15,9 +15,9 @@ use Rattle.offsets.specs.Lists.{totalIn, rangeRefusals, rangeCode, offsetsFrom}
 use Rattle.offsets.proofs.Cases.{layout-table, layout-deciding}
 use Rattle.floats.specs.Rounding.{delivered, rounded}
 use Rattle.floats.specs.Product.{product}
-use Rattle.floats.specs.Fields.{ofParts, valueOf, badBits}
+use Rattle.floats.specs.Fields.{ofParts, valueOf, badBits, factorOf}
 use Rattle.floats.specs.Magnitude.{twoOrMore}
-use Rattle.floats.specs.Splitting.{isBad, split}
+use Rattle.floats.specs.Splitting.{isBad, rateFactor, split}
 use Rattle.accumulator.specs.Joining.{multiplied, combined}
 use Rattle.kernels.specs.Lanes as lanes
 use Rattle.kernels.specs.Stepped.{rateAcc, laneJoined, steppedLanes, lanesJoined, stepped}
@@ -32,7 +32,7 @@ unfolding fitsI64 eqZ span axisOf resetFits placesOf keptAxes rank precedes inse
     totalOf fusedOf layoutOf emptyLayout traversalAt traversalOf firstOf overflows aboveMost compileRefusals layoutBeside compileOf digits shift
     offset insideValues everyBelow allInside totalIn rangeRefusals rangeCode offsetsFrom runOf outerOf piecesFrom reduceOf joinedPieces
     blocks.contiguous blocks.blocks blocks.block blocks.unsplit blocks.renorm blocks.renormLane lanes.inOrder lanes.feed blocks.splitStep
-    blocks.unsplitStep blocks.inRange lanes.every lanes.some blocks.laneIn blocks.lanesIn split toBits valueOf ofParts delivered isBad badBits product
+    blocks.unsplitStep blocks.inRange lanes.every lanes.some blocks.laneIn blocks.lanesIn split rateFactor factorOf toBits valueOf ofParts delivered isBad badBits product
     rounded size odd isNan stepped steppedLanes lanesJoined laneJoined rateAcc combined multiplied twoOrMore
 product-table = (refl, refl, refl, refl, refl, refl)
 
@@ -44,7 +44,7 @@ unfolding fitsI64 eqZ span axisOf resetFits placesOf keptAxes rank precedes inse
     totalOf fusedOf layoutOf emptyLayout traversalAt traversalOf firstOf overflows aboveMost compileRefusals layoutBeside compileOf digits shift
     offset insideValues everyBelow allInside totalIn rangeRefusals rangeCode offsetsFrom runOf outerOf piecesFrom reduceOf joinedPieces
     blocks.contiguous blocks.blocks blocks.block blocks.unsplit blocks.renorm blocks.renormLane lanes.inOrder lanes.feed blocks.splitStep
-    blocks.unsplitStep blocks.inRange lanes.every lanes.some blocks.laneIn blocks.lanesIn split toBits valueOf ofParts delivered isBad badBits product
+    blocks.unsplitStep blocks.inRange lanes.every lanes.some blocks.laneIn blocks.lanesIn split rateFactor factorOf toBits valueOf ofParts delivered isBad badBits product
     rounded size odd isNan stepped steppedLanes lanesJoined laneJoined rateAcc combined multiplied twoOrMore
 lanes-deciding = (refl, refl, refl, refl)
 
@@ -53,7 +53,7 @@ unfolding fitsI64 eqZ span axisOf resetFits placesOf keptAxes rank precedes inse
     totalOf fusedOf layoutOf emptyLayout traversalAt traversalOf firstOf overflows aboveMost compileRefusals layoutBeside compileOf digits shift
     offset insideValues everyBelow allInside totalIn rangeRefusals rangeCode offsetsFrom runOf outerOf piecesFrom reduceOf joinedPieces
     blocks.contiguous blocks.blocks blocks.block blocks.unsplit blocks.renorm blocks.renormLane lanes.inOrder lanes.feed blocks.splitStep
-    blocks.unsplitStep blocks.inRange lanes.every lanes.some blocks.laneIn blocks.lanesIn split toBits valueOf ofParts delivered isBad badBits product
+    blocks.unsplitStep blocks.inRange lanes.every lanes.some blocks.laneIn blocks.lanesIn split rateFactor factorOf toBits valueOf ofParts delivered isBad badBits product
     rounded size odd isNan stepped steppedLanes lanesJoined laneJoined rateAcc combined multiplied twoOrMore
 pieces-deciding = (refl, refl, refl, refl)
 
