@@ -14,7 +14,7 @@ from pathlib import Path
 ROOT = Path(__file__).resolve().parent.parent
 PAGE = ROOT / "docs" / "PROOFS.md"
 # A new rule raises it by the lines of its definitions, in the commit that adds them.
-MOST_LINES = 1348
+MOST_LINES = 1386
 # The exported calls: a file of src and the functions in it (docs/RULES.md, C1 to C13).
 EXPORTED = {
     "layout/src/traversal.rt": ["compile"],

@@ -6,7 +6,7 @@ Only layouts that are accepted come here.
 
 import struct
 
-from case_lines import ONE, SIGN, unit
+from case_lines import INFINITE, ONE, SIGN, unit
 
 LANES = 8
 IDENTITY = (unit(ONE), 0, 0)
@@ -22,8 +22,13 @@ def bits_of(number):
 
 def split(bits):
     """Rule A2. No table here has a NaN of another pattern than the one."""
-    e = bits // 2**52 % 2048 - 1023
-    return bits % 2**52 + bits // SIGN * SIGN + unit(ONE), e, int(e in (-1023, 1024))
+    sign, size = bits // SIGN * SIGN, bits % SIGN
+    e, fraction = size // ONE - 1023, size % ONE
+    if 0 < size < ONE:
+        # A subnormal: its highest one goes to the leading place, and e down by as many places.
+        places = 53 - fraction.bit_length()
+        e, fraction = -1022 - places, fraction * 2**places - ONE
+    return unit(ONE) + fraction + sign, e, int(size == 0 or size >= INFINITE)
 
 
 def joined(left, right):

@@ -208,15 +208,10 @@ def shown_offsets(case, words):
 
 
 def shown_bad(case, element, offset):
-    """The first bad rate: where it stands, and what it is."""
+    """The first bad rate: where it stands, and what it is. A subnormal number is none."""
     values, _ = take_list(shown_range(case[1:])[1])
     value = float_of(values[int(offset)])
-    if value != value:
-        what = "a NaN"
-    elif value == 0:
-        what = f"{value!r}, a zero"
-    else:
-        what = f"{value!r}, " + ("an infinity" if abs(value) == float("inf") else "a subnormal number")
+    what = "a NaN" if value != value else f"{value!r}, a zero" if value == 0 else f"{value!r}, an infinity"
     return f"the first bad rate is element {element}, at offset {offset}: {what}"
 
 

@@ -2,15 +2,15 @@
 
 from case_lines import INFINITE, LISTED, MANY, ONE, SIGN, THREE_HALVES, TWO
 from case_lines import between_good_lines, in_words, rate, reduce, unit
-from stored_products import BAD_RATES, NAMED, NAN, STRIDES
+from stored_products import NAMED, NAN, NOT_NORMAL, STRIDES
 from stored_products import about_the_ends, backwards, cuts, equal_strides, exchanged, five_axes, laid, malformed_ranges
 from stored_products import mixed, nine_axes, rates, refused, run, with_rate
 
 WORDS = ["ordered", "figure"]
 HALF, QUARTER = rate(ONE, -1), rate(ONE, -2)
 LEAST, GREATEST = ONE, INFINITE - 1
-# Three values whose product in this order is 1 exactly. The middle one is 2^-1060, which is subnormal, so bad.
-BAD_ONE = [rate(ONE, 1000), 2**14, rate(ONE, 60)]
+# Three values whose product in this order is 1 exactly. The middle one is 2^-1060, which is subnormal, and not bad.
+SUBNORMAL_ONE = [rate(ONE, 1000), 2**14, rate(ONE, 60)]
 NANS = [INFINITE + 1, NAN - 1, NAN, NAN + 1, SIGN + NAN, 2**64 - 1]
 
 
@@ -29,15 +29,16 @@ def runs_both(values):
         run_both(values, stride)
 
 
-def figure_in_order(values, stride=1):
-    """The figure with a bad rate in front, which is the ordered product of the values."""
-    run([*BAD_ONE, *values], stride, "figure")
+def figure_past_a_subnormal(values, stride=1):
+    """The figure with a subnormal in front, which is the finished number and not the ordered product: the values lie in
+    other lanes, and their product is the same."""
+    run([*SUBNORMAL_ONE, *values], stride, "figure")
 
 
 def run_all(values, stride=1):
-    """The ordered product, the figure, and the figure with a bad rate."""
+    """The ordered product, the figure, and the figure with a subnormal."""
     run_both(values, stride)
-    figure_in_order(values, stride)
+    figure_past_a_subnormal(values, stride)
 
 
 def minus(values, places):
@@ -54,7 +55,7 @@ def named_products():
 
 
 def lengths():
-    """Runs of one value to 300, without a bad rate and with one."""
+    """Runs of one value to 300, without a subnormal and with one."""
     for length in [1, 2, 3, 7, 8, 9, 15, 16, 17, 63, 64, 65, 129, 300]:
         for stride in STRIDES:
             run_all(rates(length, length), stride)
@@ -89,7 +90,7 @@ def one_product_through_all_runs():
     """The same values in runs of every length: one number, where the runs' own products, multiplied, give others."""
     for cut in cuts(rates(235, 24)):
         both(*cut)
-    for cut in cuts([*BAD_ONE, *rates(232, 21)]):
+    for cut in cuts([*SUBNORMAL_ONE, *rates(232, 21)]):
         both(*cut)
 
 
@@ -141,13 +142,13 @@ def layouts():
 
 
 def the_listed_layouts():
-    """The list calls with few values. The value at the base is bad for the figures, and some ranges visit it."""
+    """The list calls with few values. The value at the base is subnormal for the figures, and some ranges visit it."""
     for sizes, strides, base, start, end, length in LISTED:
         if length <= 256 and end - start <= 4096:
             values = rates(91, length)
             reduce(sizes, strides, base, start, end, values, "ordered")
-            spoiled = with_rate(values, base, 2**30) if 0 <= base < length else values
-            reduce(sizes, strides, base, start, end, spoiled, "figure")
+            lowered = with_rate(values, base, 2**30) if 0 <= base < length else values
+            reduce(sizes, strides, base, start, end, lowered, "figure")
 
 
 def plan_of_nine_axes():
@@ -245,7 +246,7 @@ def bits_rounded_off():
         for s in [*(s + beside for s in halves for beside in [-1, 0, 1]), TWO - 1]:
             if ONE <= s < TWO:
                 run([rate(-s if bits % 2 else s, -1000), rate(ONE, -22 - bits)], 1, "ordered")
-        figure_in_order([rate(ONE, -1000), unit(TWO - 1), rate(ONE, -22 - bits)])
+        figure_past_a_subnormal([rate(ONE, -1000), unit(TWO - 1), rate(ONE, -22 - bits)])
 
 
 def pair_beside(product, side):
@@ -279,7 +280,7 @@ def down_and_up():
         for s in [THREE_HALVES + 1, *(s for s in [tie, tie + 2 * half] if ONE <= s < TWO)]:
             values = [rate(s, -1000), rate(ONE, -22 - bits), rate(ONE, 500), rate(ONE, 522 + bits)]
             run_both(minus(values, [0] if bits % 2 else []))
-        figure_in_order([rate(TWO - 1, -1000), rate(ONE, -22 - bits), rate(-ONE, 1020)], 2)
+        figure_past_a_subnormal([rate(TWO - 1, -1000), rate(ONE, -22 - bits), rate(-ONE, 1020)], 2)
 
 
 def down_and_up_again_and_again():
@@ -294,8 +295,9 @@ def down_and_up_again_and_again():
 
 
 def growing_from_the_least():
-    """2^-1074 times three halves, and 3 × 2^-1074 times five quarters, over and over: each product is rounded, and many
-    are ties. Times three quarters 2^-1074 stays as it is, and times one half it is zero."""
+    """2^-1074 times three halves, and 3 × 2^-1074 times five quarters, over and over: in order each product is rounded,
+    and many are ties; times three quarters 2^-1074 stays as it is, and times one half it is zero. A figure comes down
+    to so few digits only at its end."""
     for count in [1, 2, 3, 4, 5, 9, 90, 100]:
         run_both([1, *[unit(THREE_HALVES)] * count])
         run_both([SIGN + 3, *[unit(5 * 2**50)] * count])
@@ -335,12 +337,13 @@ def about_the_greatest():
 # ---- figures
 
 
-def bad_rate_in_a_figure():
-    """Each bad rate in the first place, in a block only, in the last place of one, in the tail only, in the last."""
-    for index, bad in enumerate(BAD_RATES):
+def one_that_is_not_normal():
+    """Each bad rate, and subnormals, in the first place, in a block only, in the last place of one, in the tail only,
+    in the last: with a subnormal alone the figure is the finished number."""
+    for index, other in enumerate(NOT_NORMAL):
         for place in [0, 37, 63, 66, 72]:
-            run_both(with_rate(rates(20 + index, 73), place, bad), 1 + place % 2)
-        runs_both([*rates(index, 8), bad])
+            run_both(with_rate(rates(20 + index, 73), place, other), 1 + place % 2)
+        runs_both([*rates(index, 8), other])
 
 
 def subnormal_rate_in_a_figure():
@@ -348,19 +351,19 @@ def subnormal_rate_in_a_figure():
     for length, places in [(9, range(9)), (73, [0, 1, 7, 8, 37, 63, 64, 66, 72]), (1024, [0, 255, 256, 512, 1023])]:
         for place in places:
             values = rates(171, length)
-            for at, value in enumerate(BAD_ONE, place - 1):
+            for at, value in enumerate(SUBNORMAL_ONE, place - 1):
                 values[at % length] = value
             run(values, 1, "figure")
             if length < 100:
                 run_both(values, 2)
 
 
-def bad_beside_a_range():
-    """Bad rates before and after a range, between its elements and in the gaps are not seen: what another range of the
-    same layout visits is its own."""
-    for bad in [0, 1, INFINITE, NAN]:
+def beside_a_range():
+    """Bad rates, and subnormals, before and after a range, between its elements and in the gaps are not seen: what
+    another range of the same layout visits is its own."""
+    for other in [0, 1, INFINITE, NAN]:
         values = rates(172, 20)
-        values[4] = values[15] = bad
+        values[4] = values[15] = other
         for stride in STRIDES:
             base, table = laid(values, stride)
             for start, end in [(5, 15), (4, 15), (5, 16), (0, 4), (16, 20), (0, 20)]:
@@ -375,18 +378,19 @@ def bad_beside_a_range():
         both([4, 3], [1, 5], 0, start, end, table)
 
 
-def bad_rows():
-    """A bad rate in the first row, between, in the last, in ranges that begin and end inside rows."""
+def one_in_a_row():
+    """A zero, and a subnormal, in the first row, between, in the last, in ranges that begin and end inside rows."""
     for stride in STRIDES:
-        for bad in [SIGN, 2**20 + 1]:
+        for other in [SIGN, 2**20 + 1]:
             for place in [2, 16, 29]:
-                base, table = laid(with_rate(rates(175, 35), place, bad), stride)
+                base, table = laid(with_rate(rates(175, 35), place, other), stride)
                 both([10, 3], [stride, 12 * stride], base, 0, 30, table)
                 both([10, 3], [stride, 12 * stride], base, 3, 27, table)
 
 
-def one_bad_rate_among_many():
-    """As many values as a line may have, near 1, and one of them bad: a figure where the product is a NaN."""
+def one_among_many():
+    """As many values as a line may have, near 1, and one of them a zero: a figure where the product is a NaN. So too
+    with a subnormal, whose figure is the product."""
     keep = [unit(ONE) - 1 - (mixed(place) >> 14) for place in range(4096)]
     both([4096], [1], 0, 0, 4096, with_rate(keep, 2000, 0))
     reduce([4096], [1], 0, 0, 4096, with_rate(keep, 2000, 2**51 + 1), "figure")
@@ -440,11 +444,11 @@ GROUPS = [
     growing_from_the_least,
     about_both_ends,
     about_the_greatest,
-    bad_rate_in_a_figure,
+    one_that_is_not_normal,
     subnormal_rate_in_a_figure,
-    bad_beside_a_range,
-    bad_rows,
-    one_bad_rate_among_many,
+    beside_a_range,
+    one_in_a_row,
+    one_among_many,
     refusals,
     malformed,
 ]

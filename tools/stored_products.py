@@ -7,8 +7,8 @@ from case_lines import WRONG_FLOATS, WRONG_MARKS, WRONG_SIGNED, WRONG_UNSIGNED
 from case_lines import finish, floats, in_words, patterns_of_m, rate, reduce, say, spoiled, unit
 
 NAN = INFINITE + 2**51
-# A zero, a subnormal, an infinity and the NaN, with both signs where there are two.
-BAD_RATES = [0, SIGN, 1, ONE - 1, SIGN + 2**51 + 3, INFINITE, SIGN + INFINITE, NAN]
+# Zeros, subnormals, infinities and the NaN, with both signs where there are two. All but the subnormals are bad.
+NOT_NORMAL = [0, SIGN, 1, ONE - 1, SIGN + 2**51 + 3, INFINITE, SIGN + INFINITE, NAN]
 STRIDES = [1, 2, -1]
 # The bounds within which a block of 64 is multiplied unsplit, each with the doubles above and below it.
 HIGH, LOW = rate(ONE, 120), rate(ONE, -120)
@@ -96,28 +96,29 @@ def blocks_out_of_range():
         runs(values)
 
 
-def bad_rates():
-    """Each bad rate in the first place, in a block only, in the last place of one, in the tail only, in the last."""
-    for index, bad in enumerate(BAD_RATES):
+def one_that_is_not_normal():
+    """Each bad rate, and subnormals, in the first place, in a block only, in the last place of one, in the tail only,
+    in the last."""
+    for index, other in enumerate(NOT_NORMAL):
         for place in [0, 37, 63, 66, 72]:
-            values = with_rate(rates(20 + index, 73), place, bad)
+            values = with_rate(rates(20 + index, 73), place, other)
             run(values, 1)
             run(values, 2)
         # Alone, at every stride, and as the last of two and of nine: the ninth comes to the lane of the first.
-        runs([bad])
-        runs([*rates(index, 1), bad])
-        runs([*rates(index, 8), bad])
-        run(with_rate(rates(index, 12), 5, bad), 2, "product")
+        runs([other])
+        runs([*rates(index, 1), other])
+        runs([*rates(index, 8), other])
+        run(with_rate(rates(index, 12), 5, other), 2, "product")
 
 
-def several_bad_rates():
-    """Two bad rates in one lane, in two lanes, in a block and its tail, and nothing else."""
+def several_that_are_not_normal():
+    """Two bad rates, or one and a subnormal, in one lane, in two lanes, in a block and its tail; and 65 of one sort."""
     for first, second in [(3, 11), (3, 4), (30, 70), (71, 72)]:
         values = rates(first, 73)
-        for bads in [(0, INFINITE), (NAN, 1), (SIGN, SIGN)]:
-            runs(with_rate(with_rate(values, first, bads[0]), second, bads[1]))
-    for bad in BAD_RATES:
-        runs([bad] * 65)
+        for pair in [(0, INFINITE), (NAN, 1), (SIGN, SIGN)]:
+            runs(with_rate(with_rate(values, first, pair[0]), second, pair[1]))
+    for other in NOT_NORMAL:
+        runs([other] * 65)
 
 
 def nan_in_a_block():
@@ -218,8 +219,8 @@ def stride_0():
     for sizes, strides in [([70, 3], [1, 0]), ([3, 70], [0, 1]), ([20, 3, 2], [2, 0, 40]), ([9, 4, 5], [-1, 0, 0])]:
         reduce(sizes, strides, 8, 0, sizes[0] * sizes[1], rates(63, 90))
         reduce(sizes, strides, 8, 5, sizes[0] * sizes[1] - 7, rates(63, 90))
-    for bad in BAD_RATES:
-        reduce([20], [0], 1, 0, 20, [*value, bad])
+    for other in NOT_NORMAL:
+        reduce([20], [0], 1, 0, 20, [*value, other])
     reduce([MANY], [0], 0, MANY - 70, MANY, value)
     reduce([2, MANY // 2], [1, 0], 0, MANY - 71, MANY, rates(64, 2))
     reduce([2**20, 2**20], [0, 0], 0, 2**39 + 1, 2**39 + 9, value)
@@ -558,8 +559,8 @@ GROUPS = [
     lengths,
     bounds_of_a_block,
     blocks_out_of_range,
-    bad_rates,
-    several_bad_rates,
+    one_that_is_not_normal,
+    several_that_are_not_normal,
     nan_in_a_block,
     bad_pieces,
     ranges_inside_runs,

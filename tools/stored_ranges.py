@@ -6,7 +6,7 @@ A layout is a tuple of sizes, strides, base and table here, a list of ranges one
 from case_lines import GAPS, LEAST, MANY, MOST, ONE, PLAN, SIGN
 from case_lines import WRONG_BYTES
 from case_lines import apart, between_good_lines, floats, items, needed, patterns_of_m, rate, reduce, say, spoiled
-from stored_products import BAD_RATES, NAN, STRIDES, laid, rates, with_rate
+from stored_products import NAN, NOT_NORMAL, STRIDES, laid, rates, with_rate
 from stored_search import with_bad
 from stored_steps import ALL, rows, wrong
 
@@ -162,12 +162,12 @@ def bad_in_turn():
             call(layout, [0, 7, 14], [7, 14, 21], [*held(3)[:BADS], [255] * 3])
 
 
-def each_bad_rate():
-    """Each sort of bad rate, in the first place of a range, inside, in the last, beside two ranges that do not have it,
-    and alone. The marks that the places held before are of no account."""
-    for index, bad in enumerate(BAD_RATES):
+def each_that_is_not_normal():
+    """Each sort of bad rate, and subnormals, in the first place of a range, inside, in the last, beside two ranges that
+    do not have it, and alone. The marks that the places held before are of no account."""
+    for index, other in enumerate(NOT_NORMAL):
         for stride in [1, 2]:
-            layout = one_run(with_rate(rates(418, 12), 5, bad), stride)
+            layout = one_run(with_rate(rates(418, 12), 5, other), stride)
             marks = [0, 1, 255, 1, 0, 7] if index % 2 else [1, 0, 0, 255, 1, 1]
             call(layout, [5, 3, 2, 6, 0, 5], [9, 8, 6, 12, 5, 6], [*held(6)[:BADS], marks])
 
@@ -371,7 +371,7 @@ GROUPS = [
     single_elements,
     far_ranges,
     bad_in_turn,
-    each_bad_rate,
+    each_that_is_not_normal,
     bad_rows,
     past_the_count,
     anything_held,

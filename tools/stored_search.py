@@ -3,7 +3,7 @@
 from case_lines import GAPS, INFINITE, MANY, ONE, PLAN, SIGN
 from case_lines import between_good_lines, rate, reduce, spoiled
 from stored_figures import GREATEST, LEAST, NANS, minus
-from stored_products import BAD_RATES, NAN, STRIDES
+from stored_products import NAN, NOT_NORMAL, STRIDES
 from stored_products import laid, rates, refused, run, with_rate
 
 # Values that are tested at a time, and the least whose square is a normal number.
@@ -36,14 +36,15 @@ def with_bad(values, places, bad=0):
 # ---- which rates are bad
 
 
-def each_bad_rate():
-    """Each sort of bad rate, of both signs, and patterns of a NaN: as the only value, and among eight others."""
-    for bad in [*BAD_RATES, SIGN + 1, SIGN + ONE - 1, *NANS]:
-        first([], [], 0, 0, 1, [bad])
-        run_first(with_rate(positive(181, 9), 5, bad))
+def each_that_is_not_normal():
+    """Each sort of bad rate, of both signs, and patterns of a NaN, and subnormals, which are not bad: as the only
+    value, and among eight others."""
+    for other in [*NOT_NORMAL, SIGN + 1, SIGN + ONE - 1, *NANS]:
+        first([], [], 0, 0, 1, [other])
+        run_first(with_rate(positive(181, 9), 5, other))
 
 
-def just_not_bad():
+def normal_ends():
     """The least and the greatest normal numbers, and those about the least whose square is one: none is bad, alone,
     among others, and many of them. Behind many of them a bad rate is found."""
     for size in [LEAST, GREATEST, ROOT, ROOT - 1]:
@@ -55,26 +56,27 @@ def just_not_bad():
 
 
 def huge_and_tiny():
-    """Rates whose product leaves the doubles, without a bad one and with one at the end: a product that is infinite or
-    zero long before it says nothing."""
+    """Rates whose product leaves the doubles, without a bad one and with one, or a subnormal, at the end: a product
+    that is infinite or zero long before it says nothing."""
     for pair in [(GREATEST, GREATEST), (LEAST, LEAST), (GREATEST, LEAST), (rate(ONE, 900), rate(-ONE, -900))]:
         values = [*pair * 36, pair[0]]
         run_first(values)
-        for bad in [0, SIGN + 1, INFINITE, NAN]:
-            run_first(with_rate(values, len(values) - 1, bad))
+        for other in [0, SIGN + 1, INFINITE, NAN]:
+            run_first(with_rate(values, len(values) - 1, other))
     for values in [[GREATEST] * 1100, [LEAST] * 1100]:
         run_first(values)
         run_first(with_rate(values, 1099, SIGN + INFINITE))
 
 
 def mixed_signs():
-    """Negative rates before a bad one, behind it, and everywhere; a negative one in one run, a bad one in another."""
-    for bad in [0, SIGN, 1, SIGN + 1, INFINITE, SIGN + INFINITE]:
-        run_first(minus(with_rate(positive(183, 12), 9, bad), [2]))
-        run_first(minus(with_rate(positive(184, 12), 2, bad), [9]))
-        run_first(with_rate([value + SIGN for value in positive(185, 12)], 10, bad), -1)
-        # Rows of nine with a gap of two, of which the second has the sign and the last the bad rate.
-        table = minus(with_rate(positive(186, 42), 37, bad), [13])
+    """Negative rates before a bad one, or a subnormal, behind it, and everywhere; a negative one in one run, the other
+    in another."""
+    for other in [0, SIGN, 1, SIGN + 1, INFINITE, SIGN + INFINITE]:
+        run_first(minus(with_rate(positive(183, 12), 9, other), [2]))
+        run_first(minus(with_rate(positive(184, 12), 2, other), [9]))
+        run_first(with_rate([value + SIGN for value in positive(185, 12)], 10, other), -1)
+        # Rows of nine with a gap of two, of which the second has the sign and the last the other.
+        table = minus(with_rate(positive(186, 42), 37, other), [13])
         first([9, 4], [1, 11], 0, 0, 36, table)
         first([9, 4], [1, 11], 0, 0, 31, table)
     runs_first([value + SIGN for value in positive(187, 20)])
@@ -84,7 +86,8 @@ def mixed_signs():
 
 
 def first_of_two():
-    """Two bad rates and three: the first by its element number is found, whatever the sort of the others."""
+    """Two bad rates and three: the first by its element number is found, whatever the sort of the others. And a bad
+    rate behind a subnormal, which is passed over."""
     for places in [[2, 6], [0, 8], [3, 4, 5], [7, 8], [1]]:
         runs_first(with_bad(rates(191, 9), places))
     for one, other in [(0, NAN), (NAN, 0), (INFINITE, SIGN), (1, SIGN + INFINITE)]:
@@ -133,8 +136,8 @@ def stride_0():
         first([2, MANY // 2], [1, 0], 0, start, MANY, [*rates(197, 1), SIGN])
 
 
-def about_the_range():
-    """A bad rate before the range, as its first, as its last, and behind it: only the range's own are seen."""
+def subnormal_about_the_range():
+    """A subnormal before the range, as its first, as its last, and behind it: none is bad."""
     for places in [[4], [5], [14], [15], [0, 19], [4, 15], [4, 9, 15]]:
         for stride in STRIDES:
             base, table = laid(with_bad(rates(201, 20), places, SIGN + 2), stride)
@@ -159,14 +162,14 @@ def only_in_gaps():
 
 
 def each_place_of_a_run():
-    """Runs with and without whole vectors of eight, without a bad rate and with one at each place in turn."""
+    """Runs with and without whole vectors of eight, of normal rates, and with one that is not at each place in turn."""
     for length in [1, 7, 8, 9, 15, 16, 17]:
         run_first(positive(length, length))
         for place in range(length):
-            run_first(with_rate(positive(length, length), place, BAD_RATES[place % len(BAD_RATES)]))
+            run_first(with_rate(positive(length, length), place, NOT_NORMAL[place % len(NOT_NORMAL)]))
     for stride in [2, -1]:
         for place in range(9):
-            run_first(with_rate(positive(211, 9), place, BAD_RATES[place % len(BAD_RATES)]), stride)
+            run_first(with_rate(positive(211, 9), place, NOT_NORMAL[place % len(NOT_NORMAL)]), stride)
 
 
 def ranges_inside_runs():
@@ -178,12 +181,12 @@ def ranges_inside_runs():
 
 
 def ends_of_chunks():
-    """A bad rate beside the end of a chunk and in the last place, forwards, backwards and at stride 2, which has room
-    for one chunk; in a range and in rows, whose chunks begin with the range and with the row; and none in as many
-    values as a line may have."""
+    """A bad rate beside the end of a chunk, and a subnormal in the last place, forwards and backwards; a bad rate at
+    stride 2, which has room for one chunk; in a range and in rows, whose chunks begin with the range and with the row;
+    a subnormal in as many values as a line may have, and none."""
     for place in [CHUNK - 1, CHUNK, CHUNK + 1, 2059]:
         for stride in [1, -1]:
-            run_first(with_rate(positive(213, 2060), place, BAD_RATES[place % len(BAD_RATES)]), stride)
+            run_first(with_rate(positive(213, 2060), place, NOT_NORMAL[place % len(NOT_NORMAL)]), stride)
     for place in [CHUNK // 2 - 1, CHUNK // 2, CHUNK - 2, CHUNK - 1]:
         run_first(with_rate(positive(214, CHUNK), place, INFINITE), 2)
     for places in [[CHUNK], [2 * CHUNK - 1], []]:
@@ -194,9 +197,10 @@ def ends_of_chunks():
 
 
 def signs_in_chunks():
-    """A negative rate in the first chunk and a bad one in the second; both in the second, in either order."""
-    for sign, place, bad in [(100, 3000, SIGN), (100, 2054, INFINITE), (2200, 3000, 1), (2800, 2200, 0)]:
-        run_first(minus(with_rate(positive(218, 3200), place, bad), [sign]))
+    """A negative rate in the first chunk and a bad one in the second; both in the second, in either order, one of these
+    times with a subnormal for the bad one."""
+    for sign, place, other in [(100, 3000, SIGN), (100, 2054, INFINITE), (2200, 3000, 1), (2800, 2200, 0)]:
+        run_first(minus(with_rate(positive(218, 3200), place, other), [sign]))
 
 
 # ---- many axes
@@ -259,15 +263,15 @@ def malformed():
 
 
 GROUPS = [
-    each_bad_rate,
-    just_not_bad,
+    each_that_is_not_normal,
+    normal_ends,
     huge_and_tiny,
     mixed_signs,
     first_of_two,
     higher_offset_first,
     visited_again,
     stride_0,
-    about_the_range,
+    subnormal_about_the_range,
     only_in_gaps,
     each_place_of_a_run,
     ranges_inside_runs,

@@ -294,10 +294,13 @@ bad_rates() {
     check_lines 'bad rates' 0 \
         "first $two $m $m" '    no visited rate is bad' \
         "first $two $m $zero" '    the first bad rate is element 1, at offset 1: 0.0, a zero' \
-        "first 1 2 1 -1 1 0 2 2 8000000000000001 $m" '    the first bad rate is element 1, at offset 0: -5e-324, a subnormal number' \
+        "first 1 2 1 -1 1 0 2 2 8000000000000000 8000000000000001" '    the first bad rate is element 1, at offset 0: -0.0, a zero' \
+        "first $two 0000000000000001 800fffffffffffff" '    no visited rate is bad' \
         "first $two fff0000000000000 $zero" '    the first bad rate is element 0, at offset 0: -inf, an infinity' \
         "first 1 2 1 1 1 1 2 3 $zero $m 7ff0000000000001" '    the first bad rate is element 1, at offset 2: a NaN' \
         "first 1 2 1 1 0 0 3 2 $m $zero" '    refused 6 (RANGE_PAST_END)'
+    check 'an example of subnormal rates' 0 '    1.066161054867543 × 2^-3139' '' run_sh 'examples/long-run.cases'
+    has "$work/out" 'element 11, at offset 13: 0.0, a zero' || die 'a subnormal rate is taken for a bad one'
 }
 
 # What a job holds, as words and as it was read; the bytes that were written, and no others of the buffer.

@@ -25,7 +25,7 @@ pub struct Table {
     pub ratios: &'static [(&'static str, f64)],
     pub rows: fn() -> Vec<Row>,
     pub times: fn(&Job, Duration) -> [f64; 3],
-    /// What the engine answers otherwise than the Rust.
+    /// What the engine answers otherwise than the oracle.
     pub difference: fn(&Job) -> Option<String>,
 }
 

@@ -77,7 +77,7 @@ impl Seen {
     fn time(&mut self, name: &str, job: &Job) {
         self.cases += 1;
         if let Some((base, expected, found)) = job.difference() {
-            println!("{name}, from {base}: the Rust gives {expected:x?}, the engine {found:x?}");
+            println!("{name}, from {base}: the oracle gives {expected:x?}, the engine {found:x?}");
             self.same = false;
             return;
         }

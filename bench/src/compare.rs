@@ -1,10 +1,13 @@
-//! Random calls to the engine and to the Rust, whose answers must be the same to the bit: the number of the
+//! Random calls to the engine and to the oracle, whose answers must be the same to the bit: the number of the
 //! refusal, the accumulator, and every place of a buffer. The offsets of each range are listed and compared too, and
 //! its ordered product, its figure and its first bad rate; then these for calls that are drawn for them. Jobs are read
 //! and written. Steps of a few pieces are asked, by themselves and in callers' loops, and lists of ranges, whose answers
 //! are joined and finished. Now and then comes a long piece. At the end a host with threads is asked.
+//!
+//! The oracle's accumulators are the Rust's where no subnormal is visited, and else those of its own rule; how often
+//! each was asked is told.
 
-use crate::erased::calls::{self, Layout};
+use crate::erased::calls::Layout;
 use crate::generate::reduce::Call;
 use crate::generate::{first, ordered, Dice};
 use crate::job;
@@ -16,6 +19,7 @@ use crate::rules;
 use crate::searches;
 use crate::sent_answers;
 use crate::step_answers;
+use crate::subnormal;
 use crate::tally::Tally;
 use crate::threads;
 use std::collections::BTreeMap;
@@ -32,7 +36,7 @@ const LONG: u64 = 100;
 /// What is told apart in the counts.
 #[derive(Clone, Copy, Eq, Ord, PartialEq, PartialOrd)]
 enum Kind {
-    Accepted { way: &'static str, several: bool, bad: bool },
+    Accepted { way: &'static str, several: bool, subnormal: bool, bad: bool },
     Refused(u32),
 }
 
@@ -40,9 +44,10 @@ impl Kind {
     fn text(self) -> String {
         match self {
             Kind::Refused(code) => format!("refused {code}"),
-            Kind::Accepted { way, several, bad } => format!(
-                "accumulator, {way}, {}{}",
+            Kind::Accepted { way, several, subnormal, bad } => format!(
+                "accumulator, {way}, {}{}{}",
                 if several { "several pieces" } else { "one piece" },
+                if subnormal { ", a subnormal" } else { "" },
                 if bad { ", bad" } else { "" }
             ),
         }
@@ -126,15 +131,15 @@ impl Seen {
     fn reduction(&mut self, dice: &mut Dice) -> Result<(), String> {
         let call = Call::drawn(dice);
         let values = call.floats();
-        let (kind, expected) = rust(&call, &values);
+        let (kind, expected) = oracle(&call, &values);
         let found = engine(&call, &values);
         if found != expected {
-            return Err(format!("{}\nthe Rust gives {expected:x?}, the engine {found:x?}", call.text()));
+            return Err(format!("{}\nthe oracle gives {expected:x?}, the engine {found:x?}", call.text()));
         }
         let before = buffer(dice, &call);
-        let (expected, found) = (rust_list(&call, before.clone()), engine_list(&call, before));
+        let (expected, found) = (oracle_list(&call, before.clone()), engine_list(&call, before));
         if found != expected {
-            return Err(format!("the list of {}\nthe Rust gives {expected:?}, the engine {found:?}", call.text()));
+            return Err(format!("the list of {}\nthe oracle gives {expected:?}, the engine {found:?}", call.text()));
         }
         *self.kinds.entry(kind).or_default() += 1;
         searches::ask(&mut self.searches, &call, &values)?;
@@ -158,7 +163,7 @@ impl Seen {
 fn long_piece(dice: &mut Dice) -> Result<(), String> {
     let job = long::drawn(dice);
     if let Some((base, expected, found)) = job.difference() {
-        let answers = format!("the Rust gives {expected:x?}, the engine {found:x?}");
+        let answers = format!("the oracle gives {expected:x?}, the engine {found:x?}");
         return Err(format!("the long piece behind it, from {base}\n{answers}"));
     }
     match job.number_difference().or_else(|| job.search_difference()) {
@@ -167,17 +172,19 @@ fn long_piece(dice: &mut Dice) -> Result<(), String> {
     }
 }
 
-fn rust(call: &Call, values: &[f64]) -> (Kind, Reduced) {
+fn oracle(call: &Call, values: &[f64]) -> (Kind, Reduced) {
     match rules::range(&call.axes.sizes, &call.axes.strides, &call.range) {
         Err(code) => (Kind::Refused(code), (code, BEFORE.bits())),
         Ok(layout) => {
-            let acc = calls::product(&layout, call.range.base, (call.range.start, call.range.end), values);
-            (accepted(call, &layout, acc.bad), (0, job::bits(acc)))
+            let (base, range) = (call.range.base, (call.range.start, call.range.end));
+            let acc = rules::product(&layout, base, range, values);
+            let subnormal = subnormal::is_visited(&layout, base, range, values);
+            (accepted(call, &layout, subnormal, acc.bad), (0, job::bits(acc)))
         }
     }
 }
 
-fn accepted(call: &Call, layout: &Layout, bad: bool) -> Kind {
+fn accepted(call: &Call, layout: &Layout, subnormal: bool, bad: bool) -> Kind {
     let (run, start, end) = (layout.run_len, call.range.start, call.range.end);
     let (first, last) = (start / run, (end - 1) / run);
     let longest = match last - first {
@@ -190,7 +197,7 @@ fn accepted(call: &Call, layout: &Layout, bad: bool) -> Kind {
         1 => "stride 1, short",
         _ => "other strides",
     };
-    Kind::Accepted { way, several: first != last, bad }
+    Kind::Accepted { way, several: first != last, subnormal, bad }
 }
 
 fn engine(call: &Call, values: &[f64]) -> Reduced {
@@ -210,7 +217,7 @@ fn buffer(dice: &mut Dice, call: &Call) -> Vec<i64> {
     (0..places as i64).map(|place| -1 - place).collect()
 }
 
-fn rust_list(call: &Call, mut buffer: Vec<i64>) -> Listed {
+fn oracle_list(call: &Call, mut buffer: Vec<i64>) -> Listed {
     let code = rules::list(&call.axes.sizes, &call.axes.strides, &call.range, &mut buffer);
     (code, buffer)
 }

@@ -31,7 +31,7 @@ pub fn print() -> bool {
 
 fn print_line(count: u64, job: &Job) -> bool {
     if let Some((base, expected, found)) = job.difference() {
-        println!("{count} values from {base}: the Rust gives {expected:x?}, the engine {found:x?}");
+        println!("{count} values from {base}: the oracle gives {expected:x?}, the engine {found:x?}");
         return false;
     }
     let times = timing::measure(job, LEAST);

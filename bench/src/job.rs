@@ -4,8 +4,10 @@
 //! `StableProductKernel` or `OrderedProductKernel` on f64, and nothing else. The refusals that the engine adds are no
 //! part of the source: `Job::new` asks them once, before the timing, and there puts the axes into the form in which the
 //! source takes them in the engine's order. Timed of the engine: the whole call, with all its checks.
+//!
+//! What the engine answers is held against the oracle (`rules::product` and the calls above it).
 
-use crate::erased::calls::{Acc, Answer, Plan};
+use crate::erased::calls::{Acc, Answer, Layout, Plan};
 use crate::probe::{self, BadPlace, Bits, Numbered, Place, Places, Reduced, StepPlace};
 use crate::searches;
 use crate::rules;
@@ -17,8 +19,8 @@ pub struct Job {
     /// The sizes and the strides for the Rust.
     dims: Vec<usize>,
     steps: Vec<isize>,
+    layout: Layout,
     count: u64,
-    run_len: u64,
     bases: Vec<i64>,
     pub values: Vec<f64>,
 }
@@ -34,15 +36,15 @@ impl Job {
     pub fn new(axes: &[(u64, i64)], count: u64, bases: Vec<i64>, values: Vec<f64>) -> Job {
         let sizes: Vec<u64> = axes.iter().map(|axis| axis.0).collect();
         let strides: Vec<i64> = axes.iter().map(|axis| axis.1).collect();
-        let mut run_len = 0;
+        let layout = rules::compile(&sizes, &strides).expect("a timed layout compiles");
         for &base in &bases {
             let range = rules::Range { base, start: 0, end: count, length: values.len() as u64 };
-            run_len = rules::range(&sizes, &strides, &range).expect("a timed call is accepted").run_len;
+            assert!(rules::range(&sizes, &strides, &range).is_ok(), "a timed call is accepted");
         }
         let (dims, steps) = rules::forward_first(&sizes, &strides);
         let dims = dims.into_iter().map(|size| size as usize).collect();
         let steps = steps.into_iter().map(|stride| stride as isize).collect();
-        Job { sizes, strides, dims, steps, count, run_len, bases, values }
+        Job { sizes, strides, dims, steps, layout, count, bases, values }
     }
 
     pub fn count(&self) -> u64 {
@@ -94,7 +96,7 @@ impl Job {
     #[inline(never)]
     pub fn rust_by_steps(&self, turn: usize, n: u64) -> Answer {
         let base = black_box(self.bases[turn]) as isize;
-        let (end, run_len, n) = (black_box(self.count), black_box(self.run_len), black_box(n));
+        let (end, run_len, n) = (black_box(self.count), black_box(self.layout.run_len), black_box(n));
         let mut acc: Option<Answer> = None;
         let mut next = 0;
         while next < end {
@@ -178,25 +180,41 @@ impl Job {
         probe::ranges_into(&ranges, black_box(&self.values), places)
     }
 
+    /// The oracle's accumulator.
+    pub fn expected(&self, turn: usize) -> Bits {
+        bits(rules::product(&self.layout, self.bases[turn], (0, self.count), &self.values))
+    }
+
+    /// The oracle's accumulator of a range of the layout, from the first base.
+    pub fn expected_part(&self, start: u64, end: u64) -> Bits {
+        bits(rules::product(&self.layout, self.bases[0], (start, end), &self.values))
+    }
+
+    /// The whole of a turn, for the oracle.
+    fn asked(&self, turn: usize) -> rules::Range {
+        rules::Range { base: self.bases[turn], start: 0, end: self.count, length: self.values.len() as u64 }
+    }
+
     /// The first base at which the two answers differ, with them.
     pub fn difference(&self) -> Option<(i64, Bits, Reduced)> {
         (0..self.turns()).find_map(|turn| {
-            let expected = bits(self.rust(turn).read());
-            let found = self.engine(turn);
+            let (expected, found) = (self.expected(turn), self.engine(turn));
             (found != Ok(expected)).then_some((self.bases[turn], expected, found))
         })
     }
 
-    /// The first number of the engine that is not the Rust's: the ordered product or the figure, from each base.
+    /// The first number of the engine that is not the oracle's: the ordered product or the figure, from each base.
     pub fn number_difference(&self) -> Option<String> {
         (0..self.turns()).find_map(|turn| {
-            let ordered = ("ordered product", self.rust_ordered(turn), self.ordered(turn));
-            let figure = ("figure", self.rust_figure(turn), self.figure(turn));
-            [ordered, figure].into_iter().find_map(|(name, number, found)| {
-                let expected = rules::one_nan(number).to_bits();
-                let base = self.bases[turn];
-                (found != Ok(expected)).then(|| {
-                    format!("the {name} from {base} differs: the Rust gives {expected:x}, the engine {found:x?}")
+            let range = self.asked(turn);
+            let ordered = rules::ordered(&self.sizes, &self.strides, &range, &self.values);
+            let figure = rules::figure(&self.sizes, &self.strides, &range, &self.values);
+            let pairs = [("ordered product", ordered, self.ordered(turn)), ("figure", figure, self.figure(turn))];
+            pairs.into_iter().find_map(|(name, number, found)| {
+                let expected = number.map(f64::to_bits);
+                let base = range.base;
+                (found != expected).then(|| {
+                    format!("the {name} from {base} differs: the oracle gives {expected:x?}, the engine {found:x?}")
                 })
             })
         })
@@ -205,12 +223,11 @@ impl Job {
     /// The first base from which the engine finds another first bad rate than the Rust's own loop meets.
     pub fn search_difference(&self) -> Option<String> {
         (0..self.turns()).find_map(|turn| {
-            let base = self.bases[turn];
-            let range = rules::Range { base, start: 0, end: self.count, length: self.values.len() as u64 };
+            let range = self.asked(turn);
             let expected = searches::expected(&self.sizes, &self.strides, &range, &self.values);
-            let found = self.first(turn);
+            let (base, found) = (range.base, self.first(turn));
             (found != expected).then(|| {
-                format!("the first bad rate from {base} differs: the Rust gives {expected:?}, the engine {found:?}")
+                format!("the first bad rate from {base} differs: the oracle gives {expected:?}, the engine {found:?}")
             })
         })
     }

@@ -38,16 +38,32 @@ fn wild(dice: &mut Dice) -> f64 {
     unit(dice) * 2f64.powi(dice.below(2040) as i32 - 1020)
 }
 
-/// Keep rates, and now and then one that is bad.
-fn spoiled(dice: &mut Dice) -> f64 {
-    if dice.below(300) == 0 {
-        dice.of(&[0.0, -0.0, f64::NAN, f64::INFINITY, f64::NEG_INFINITY, 1e-310])
+/// Any subnormal, of either sign; every count of its digits is alike frequent.
+fn subnormal(dice: &mut Dice) -> f64 {
+    let least = 1 << dice.below(52);
+    f64::from_bits(least + dice.below(least)) * dice.of(&[-1.0, 1.0])
+}
+
+/// Keep rates, and now and then a subnormal.
+fn seldom_subnormal(dice: &mut Dice) -> f64 {
+    if dice.below(100) == 0 {
+        subnormal(dice)
     } else {
         keep(dice)
     }
 }
 
-const RATES: [Rate; 7] = [keep, signed, low, lower, large, wild, spoiled];
+/// Keep rates, and now and then one that is bad.
+fn spoiled(dice: &mut Dice) -> f64 {
+    if dice.below(300) == 0 {
+        dice.of(&[0.0, -0.0, f64::NAN, f64::INFINITY, f64::NEG_INFINITY])
+    } else {
+        keep(dice)
+    }
+}
+
+const RATES: [Rate; 12] =
+    [keep, keep, signed, signed, low, lower, large, wild, spoiled, spoiled, subnormal, seldom_subnormal];
 
 /// A call on one piece, at any stride but 0.
 pub fn drawn(dice: &mut Dice) -> Job {

@@ -7,7 +7,9 @@
 //! Rust, or than aimed at, `bench compare COUNT SEED` the answers to random calls, by kind. Each ends with 1 if two answers
 //! differ, and `bench check` if a case takes longer.
 //!
-//! The Rust is the oracle's, included by its path, so that nothing is copied and both see the same source.
+//! The Rust is the oracle's, included by its path, so that nothing is copied and both see the same source. Answers are
+//! held against the oracle's, which are the Rust's unless a subnormal is visited: that the Rust marks as bad. It is
+//! timed on such values all the same.
 
 extern crate self as num_complex;
 
@@ -24,6 +26,7 @@ mod oracle {
     pub mod rules;
     pub mod simd;
     pub mod steps;
+    pub mod subnormal;
 }
 
 mod beside;
@@ -54,7 +57,7 @@ mod workers;
 // The oracle's files name each other from the root of the crate.
 pub use oracle::complex::{Complex32, Complex64};
 pub use oracle::error::{Result, StridedError};
-use oracle::{erased, generate, inline, jobs, ranges, rules, simd, steps};
+use oracle::{erased, generate, inline, jobs, ranges, rules, simd, steps, subnormal};
 
 fn usage() -> ! {
     eprintln!(

@@ -1,5 +1,6 @@
 //! Calls that are seldom met, in a table of their own: where the engine's lanes cannot wait, and where there is more to
-//! do before the first value than for all of them.
+//! do before the first value than for all of them. With subnormal rates the Rust is timed on the same values, although
+//! it takes them for bad and gives another answer.
 
 use crate::rates::Rates;
 use crate::table::{self, row, Row, GAP};
@@ -27,13 +28,31 @@ fn contiguous() -> Vec<Row> {
         run("contiguous, 1e5, all rates a millionth", 1, all(1e-6)),
         run("contiguous, 1e5, all rates a million times", 1, all(1e6)),
         run("contiguous, 1e5, all rates below 2^-120", 1, all(2f64.powi(-130))),
+        run("contiguous, 1e5, one subnormal a block", 1, one(subnormal)),
+        run("contiguous, 1e5, all rates subnormal", 1, all_subnormal(COUNT)),
         run("contiguous, 1e5, a zero in 3000", 1, zero_in(3000, KEEP.draw(COUNT))),
     ]
+}
+
+/// The rate times 2^-1022 to 2^-1073, chosen by its last digits: how many digits the fraction has, and so the shift to
+/// the leading place, varies.
+fn subnormal(rate: f64) -> f64 {
+    rate * 2f64.powi(-1022) * 2f64.powi(-((rate.to_bits() % 52) as i32))
+}
+
+fn all_subnormal(count: usize) -> Vec<f64> {
+    KEEP.draw(count).into_iter().map(subnormal).collect()
 }
 
 /// One value in so many becomes a zero.
 fn zero_in(every: usize, mut values: Vec<f64>) -> Vec<f64> {
     values.iter_mut().skip(3).step_by(every).for_each(|value| *value = 0.0);
+    values
+}
+
+/// One value in so many becomes subnormal.
+fn subnormal_in(every: usize, mut values: Vec<f64>) -> Vec<f64> {
+    values.iter_mut().skip(3).step_by(every).for_each(|value| *value = subnormal(*value));
     values
 }
 
@@ -48,6 +67,7 @@ fn stepped() -> Vec<Row> {
     vec![
         run("stride 2, 1e5, a rate a millionth in some blocks", 2, one(|rate| rate * 1e-6)),
         run("stride 2, 1e5, a rate below 2^-120 in some blocks", 2, one(|rate| rate * 2f64.powi(-130))),
+        run("stride 2, 1e5, a subnormal in some blocks", 2, one(subnormal)),
         run("stride 2, 1e5, a zero in some blocks", 2, one(|_| 0.0)),
         run("stride 2, 1e5, one zero in the middle", 2, zero_at(COUNT / 2 + 3)),
         run("stride 2, 1e5, the last value a zero", 2, zero_at(COUNT - 1)),
@@ -64,6 +84,7 @@ fn short_rows() -> Vec<Row> {
         with(2, "", |count| KEEP.draw(count)),
         with(4, "", |count| KEEP.draw(count)),
         with(16, ", one rate in 64 a millionth", |count| KEEP.with_one_a_block(count, |rate| rate * 1e-6)),
+        with(16, ", a subnormal in one row of four", |count| subnormal_in(4 * 24, KEEP.draw(count))),
         with(16, ", a zero in one row of four", |count| zero_in(4 * 24, KEEP.draw(count))),
         with(100, "", |count| KEEP.draw(count)),
     ]

@@ -1,5 +1,5 @@
-//! The search for the first bad rate, asked of the engine and of the Rust's own loop: the element number, the offset,
-//! and what the places hold that are not written.
+//! The search for the first bad rate, asked of the engine and of the oracle, which goes through what the Rust's own
+//! loop visits: the element number, the offset, and what the places hold that are not written.
 
 use crate::generate::reduce::Call;
 use crate::probe::{self, BadPlace};
@@ -26,7 +26,7 @@ pub fn ask(tally: &mut Tally, call: &Call, values: &[f64]) -> Result<(), String>
     let found = (code, place);
     if found != expected {
         let text = call.text();
-        return Err(format!("the first bad rate of {text}\nthe Rust gives {expected:?}, the engine {found:?}"));
+        return Err(format!("the first bad rate of {text}\nthe oracle gives {expected:?}, the engine {found:?}"));
     }
     let kind = match found {
         (0, BadPlace { found: 0, .. }) => String::from("no bad rate"),

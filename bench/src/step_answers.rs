@@ -1,8 +1,7 @@
 //! Steps of a few pieces, asked of the engine and of the oracle: the code, the bookmark, how many pieces were worked,
 //! whether the range is done, and what the places hold that are not written. And callers' loops of such steps, which must
-//! end after as many calls as the rules say, with the Rust's unbroken reduction.
+//! end after as many calls as the rules say, with the accumulator of the unbroken reduction.
 
-use crate::erased::calls;
 use crate::generate::reduce::Call;
 use crate::generate::{step as drawn, Dice};
 use crate::job;
@@ -72,7 +71,7 @@ fn whole_loop(tally: &mut Tally, call: &Call, values: &[f64], n: u64) -> Result<
         return Ok(());
     }
     let pieces = (range.end - 1) / layout.run_len - range.start / layout.run_len + 1;
-    let product = calls::product(&layout, range.base, (range.start, range.end), values);
+    let product = rules::product(&layout, range.base, (range.start, range.end), values);
     let expected = (Ok(job::bits(product)), pieces.div_ceil(n));
     let found = probe::by_steps(&probe::Range::of(call), values, n);
     if found != expected {

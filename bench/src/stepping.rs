@@ -46,12 +46,13 @@ fn times<const N: u64>(job: &Job, least: Duration) -> [f64; 3] {
 
 fn difference<const N: u64>(job: &Job) -> Option<String> {
     (0..job.turns()).find_map(|turn| {
-        let expected = job::bits(job.rust(turn).read());
-        let rust = job::bits(job.rust_by_steps(turn, N).read());
-        let found = job.by_steps(turn, N);
-        (rust != expected || found != Ok(expected)).then(|| {
-            format!("the Rust gives {expected:x?}, by {N} pieces a call {rust:x?}, and so the engine {found:x?}")
-        })
+        let [unbroken, rust] = [job.rust(turn), job.rust_by_steps(turn, N)].map(|answer| job::bits(answer.read()));
+        if rust != unbroken {
+            return Some(format!("the Rust gives {unbroken:x?}, and by {N} pieces a call {rust:x?}"));
+        }
+        let (expected, found) = (job.expected(turn), job.by_steps(turn, N));
+        (found != Ok(expected))
+            .then(|| format!("the oracle gives {expected:x?}, the engine by {N} pieces a call {found:x?}"))
     })
 }
 

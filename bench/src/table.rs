@@ -39,7 +39,7 @@ pub fn print_rows(lists: &[fn() -> Vec<Row>]) -> bool {
 
 fn print_row(row: &Row) -> bool {
     if let Some((base, expected, found)) = row.job.difference() {
-        println!("{}, from {base}: the Rust gives {expected:x?}, the engine {found:x?}", row.name);
+        println!("{}, from {base}: the oracle gives {expected:x?}, the engine {found:x?}", row.name);
         return false;
     }
     let times = timing::measure(&row.job, LEAST);

@@ -6,7 +6,7 @@
 //! but what they read, so they need no lock.
 //!
 //! `bench threads` times it; the rest of this file is that table. The answer by each number of threads must be what the
-//! Rust's own reductions of the same ranges give, joined in the same order and finished.
+//! oracle's reductions of the same ranges give, joined in the same order and finished.
 
 use crate::beside::grouped;
 use crate::job;
@@ -106,8 +106,8 @@ impl Plan {
         }
     }
 
-    /// The Rust's reductions of so many ranges, joined and finished: the bits of the accumulator and of the number.
-    fn rust(&self, count: usize) -> Result<(Bits, u64), u32> {
+    /// The oracle's reductions of so many ranges, joined and finished: the bits of the accumulator and of the number.
+    fn expected(&self, count: usize) -> Result<(Bits, u64), u32> {
         let Ranges { starts, ends } = cut(self.total(), count);
         let part = |at: usize| {
             let length = self.values.len() as u64;
@@ -118,13 +118,13 @@ impl Plan {
         Ok((job::bits(whole), rules::finish(Ok(whole))?.to_bits()))
     }
 
-    /// What the host gives otherwise than the Rust: by so many threads, or by none in one call.
+    /// What the host gives otherwise than the oracle: by so many threads, or by none in one call.
     fn difference(&self, threads: usize) -> Option<String> {
-        let expected = self.rust(threads.max(1));
+        let expected = self.expected(threads.max(1));
         let found = self.product(threads).map(|(whole, number)| (whole.bits(), number));
         (found != expected).then(|| {
             let count = grouped(self.total());
-            format!("{count} values by {threads} threads: the Rust gives {expected:x?}, the host {found:x?}")
+            format!("{count} values by {threads} threads: the oracle gives {expected:x?}, the host {found:x?}")
         })
     }
 

@@ -3,8 +3,8 @@
 //! the layout.
 
 use crate::beside::{Table, Unit};
-use crate::job::{self, Job};
-use crate::probe::{Bits, Place, Places};
+use crate::job::Job;
+use crate::probe::{Place, Places};
 use crate::ranges::{Buffers, Ranges};
 use crate::rates::Rates;
 use crate::stepping::{rows_in_house, rows_of};
@@ -82,7 +82,7 @@ fn times<const K: usize>(job: &Job, least: Duration) -> [f64; 3] {
     )
 }
 
-/// The first range of which one of the three has another accumulator.
+/// The first range of which the engine has another accumulator than the oracle, by itself or in one call.
 fn difference<const K: usize>(job: &Job) -> Option<String> {
     let list = cut(job.count(), RANGES);
     let mut places = [Place { m: f64::NAN, e: i64::MIN, bad: 1 }; RANGES];
@@ -91,11 +91,11 @@ fn difference<const K: usize>(job: &Job) -> Option<String> {
         return Some(String::from("the engine refuses a call"));
     }
     (0..RANGES).find_map(|at| {
-        let expected: Bits = job::bits(job.rust_part(list.starts[at], list.ends[at]).read());
+        let expected = job.expected_part(list.starts[at], list.ends[at]);
         let alone = places[at].bits();
         let found = Place { m: out.ms[at], e: out.es[at], bad: out.bads[at] }.bits();
         (alone != expected || found != expected).then(|| {
-            format!("range {at}: the Rust gives {expected:x?}, the engine {alone:x?}, and in one call {found:x?}")
+            format!("range {at}: the oracle gives {expected:x?}, the engine {alone:x?}, and in one call {found:x?}")
         })
     })
 }

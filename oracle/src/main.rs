@@ -6,7 +6,8 @@
 //! The source's: `reduce_kernel.rs`, a copy that is the same to the byte.
 //! Ours: this file and every other. `erased.rs` stands in for the file of the source that we lack, and is
 //! written from the rules of the product engine; `inline.rs`, `simd.rs`, `complex.rs` and `error.rs` stand in for
-//! the few other names that the copy imports.
+//! the few other names that the copy imports. `subnormal.rs` answers in the source's place where a range visits a
+//! subnormal number, which the source does not count.
 
 extern crate self as num_complex;
 
@@ -21,6 +22,7 @@ mod ranges;
 mod rules;
 mod simd;
 mod steps;
+mod subnormal;
 mod words;
 
 pub use complex::{Complex32, Complex64};

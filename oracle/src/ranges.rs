@@ -1,7 +1,7 @@
-//! Ours: the ranges of several workers in one call. The source has no such call. Each range is reduced here by itself,
-//! by the source's loop over the layout, which is compiled once.
+//! Ours: the ranges of several workers in one call. The source has no such call. Each range is reduced here by itself
+//! (`rules::product`), over the layout, which is compiled once.
 
-use crate::erased::calls::{self, Layout};
+use crate::erased::calls::Layout;
 use crate::generate::{floats_text, items_text};
 use crate::rules;
 
@@ -40,9 +40,9 @@ pub fn reduce_ranges(
         Ok(layout) => layout,
         Err(code) => return code,
     };
-    // Without elements no range is accepted, so the source is asked nothing then.
+    // Without elements no range is accepted, so nothing is reduced then.
     for (place, (&start, &end)) in ranges.starts.iter().zip(&ranges.ends).enumerate() {
-        let acc = calls::product(&layout, base, (start, end), values);
+        let acc = rules::product(&layout, base, (start, end), values);
         out.ms[place] = acc.m;
         out.es[place] = acc.e;
         out.bads[place] = u8::from(acc.bad);

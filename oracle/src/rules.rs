@@ -1,9 +1,12 @@
 //! Ours: what the product engine adds to the source, stated from its rules: refusals 2 and 4 to 10, the order in
 //! which they are asked, forward axes before backward ones of one |stride|, layouts with a size of 0, the offset of an
 //! element, the first bad rate, and the one NaN. All sums and products of sizes here are made in 128 bits.
+//!
+//! The source's accumulator and its figure count only for ranges that visit no subnormal. The others have those of
+//! `subnormal.rs`; every call asks `product`, which chooses. Ordered products are the source's for all ranges.
 
 use crate::erased::calls::{self, Acc, Layout};
-use crate::StridedError;
+use crate::{subnormal, StridedError};
 
 pub const MOST_AXES: usize = 16;
 const MOST_ELEMENTS: u64 = 1 << 40;
@@ -159,9 +162,24 @@ pub fn list(sizes: &[u64], strides: &[i64], r: &Range, buffer: &mut [i64]) -> u3
     0
 }
 
+/// The accumulator of an accepted range: the source's, or our own rule's if a subnormal is visited. Where assertions
+/// are on, our own rule must give what the source does, m and e beside a mark included.
+pub fn product(layout: &Layout, base: i64, range: (u64, u64), values: &[f64]) -> Acc {
+    if subnormal::is_visited(layout, base, range, values) {
+        return subnormal::product(layout, base, range, values);
+    }
+    let acc = calls::product(layout, base, range, values);
+    debug_assert_eq!(
+        acc.fields(),
+        subnormal::product(layout, base, range, values).fields(),
+        "the source gives another accumulator than our own rule"
+    );
+    acc
+}
+
 pub fn reduce(sizes: &[u64], strides: &[i64], r: &Range, values: &[f64]) -> Result<Acc, u32> {
     let layout = range(sizes, strides, r)?;
-    Ok(calls::product(&layout, r.base, (r.start, r.end), values))
+    Ok(product(&layout, r.base, (r.start, r.end), values))
 }
 
 /// The one NaN for every pattern of a NaN: those of the Rust count as equal to it, as that of an infinity times 0,
@@ -179,9 +197,16 @@ pub fn ordered(sizes: &[u64], strides: &[i64], r: &Range, values: &[f64]) -> Res
     Ok(one_nan(calls::ordered(&layout, r.base, (r.start, r.end), values)))
 }
 
+/// The source's own figure, or, if a subnormal is visited, the ordered product where the mark is set, else the finished
+/// number.
 pub fn figure(sizes: &[u64], strides: &[i64], r: &Range, values: &[f64]) -> Result<f64, u32> {
     let layout = range(sizes, strides, r)?;
-    Ok(one_nan(calls::figure(&layout, r.base, (r.start, r.end), values)))
+    let stretch = (r.start, r.end);
+    if !subnormal::is_visited(&layout, r.base, stretch, values) {
+        return Ok(one_nan(calls::figure(&layout, r.base, stretch, values)));
+    }
+    let acc = product(&layout, r.base, stretch, values);
+    Ok(one_nan(if acc.bad { calls::ordered(&layout, r.base, stretch, values) } else { calls::finish(acc) }))
 }
 
 /// Where a bad rate stands: its element number in the layout, and its offset in the values.
@@ -190,20 +215,20 @@ pub struct BadRate {
     pub offset: i64,
 }
 
-/// The first of the values that the source's loop visits which is zero, subnormal, infinite or a NaN. There is one
-/// exactly if the source's own reduction has its mark.
+/// The first of the values that the source's loop visits which is zero, infinite or a NaN. There is one exactly if the
+/// range's accumulator has its mark.
 pub fn first_bad_rate(sizes: &[u64], strides: &[i64], r: &Range, values: &[f64]) -> Result<Option<BadRate>, u32> {
     let layout = range(sizes, strides, r)?;
     let visited = calls::visited(&layout, r.base, (r.start, r.end), r.length);
     let mut found = None;
     for (element, offset) in (r.start..).zip(visited) {
-        if !values[offset as usize].is_normal() {
+        if subnormal::is_bad(values[offset as usize]) {
             found = Some(BadRate { element, offset });
             break;
         }
     }
-    let marked = calls::product(&layout, r.base, (r.start, r.end), values).bad;
-    assert_eq!(found.is_some(), marked, "the source's mark says otherwise");
+    let marked = product(&layout, r.base, (r.start, r.end), values).bad;
+    assert_eq!(found.is_some(), marked, "the accumulator's mark says otherwise");
     Ok(found)
 }
 

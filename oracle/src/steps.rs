@@ -1,7 +1,7 @@
 //! Ours: a reduction that is worked in several calls, some pieces in each. The source has no such call. Every piece is
-//! reduced here as a range of its own by the source's loop, and the pieces are joined by the source's joining.
+//! reduced here as a range of its own (`rules::product`), and the pieces are joined by the source's joining.
 
-use crate::erased::calls::{self, Acc, Layout};
+use crate::erased::calls::{Acc, Layout};
 use crate::rules::{self, Range};
 
 /// Where a reduction goes on: the next element number, and the accumulator of what comes before it.
@@ -44,7 +44,7 @@ pub fn step(
     let mut pieces = 0;
     while next < r.end && pieces < most {
         let past = (next + 1..r.end).find(|&element| begins_piece(&layout, r, element)).unwrap_or(r.end);
-        let piece = calls::product(&layout, r.base, (next, past), values);
+        let piece = rules::product(&layout, r.base, (next, past), values);
         // Refusals 9 and 10 are those of joining: 9 of the given accumulator at the first join, 10 after each.
         acc = Some(acc.map_or(Ok(piece), |left| rules::join(left, piece))?);
         next = past;
@@ -52,12 +52,8 @@ pub fn step(
     }
     let acc = acc.expect("an accepted call works a piece");
     if from.next == r.start {
-        let unbroken = calls::product(&layout, r.base, (r.start, next), values);
-        assert_eq!(fields(acc), fields(unbroken), "the source's unbroken reduction gives another accumulator");
+        let unbroken = rules::product(&layout, r.base, (r.start, next), values);
+        assert_eq!(acc.fields(), unbroken.fields(), "the unbroken reduction gives another accumulator");
     }
     Ok(StepResult { to: Bookmark { next, acc }, pieces, done: next == r.end })
-}
-
-fn fields(acc: Acc) -> (u64, i64, bool) {
-    (acc.m.to_bits(), acc.e, acc.bad)
 }

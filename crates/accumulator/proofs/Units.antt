@@ -12,9 +12,10 @@ use Rattle.floats.specs.declared.Split.{Split}
 use Rattle.floats.specs.Factor.{Factor, floatOf}
 use Rattle.floats.specs.Magnitude.{inUnit, withExponent}
 use Rattle.floats.specs.Splitting.{rateFactor, split}
+use Rattle.floats.specs.InnerKinds.{isSubnormal}
 use Rattle.floats.proofs.Product.{mul-binary64}
 use Rattle.floats.proofs.Magnitude.{near-range, moved-normal}
-use Rattle.floats.proofs.Splitting.{split-m, split-e, float-rate}
+use Rattle.floats.proofs.Splitting.{split-m, split-e, float-rate, float-other}
 use Rattle.floats.proofs.Units.{both, up, both-normal, up-le, unit-product}
 use Rattle.accumulator.specs.declared.StableProductFloatAcc.{StableProductFloatAcc}
 use Rattle.accumulator.specs.Joining.{multiplied, combined}
@@ -43,8 +44,17 @@ module _ (a b : StableProductFloatAcc) (fa : T (fits binary64 (a .m))) (fb : T (
       ∙ float-rate (withExponent k (pos c)) (moved-normal 52 k (pos c) (both-normal (a .m) (b .m) fa fb ua ub))
       (near-range binary64 11 52 refl refl (lit< tt) k c c-le)
 
-  -- the code's way, from what it holds of the split
-  module _ (p : Split) (is : p ≡ split raw) (hx : natAbs (a .e) ≤ 2 ^ 61) (hy : natAbs (b .e) ≤ 2 ^ 61) (pe : SFits w64 (p .e)) where
+  raw-other : isSubnormal raw ≡ false
+  raw-other =
+      ap isSubnormal (mul-binary64 (a .m) (b .m) ∙ unit-product (a .m) (b .m) fa fb ua ub)
+      ∙ float-other (withExponent k (pos c)) (moved-normal 52 k (pos c) (both-normal (a .m) (b .m) fa fb ua ub))
+      (near-range binary64 11 52 refl refl (lit< tt) k c c-le)
+
+  -- the code's way, from what it holds of the fields of a product that is not subnormal
+  module _ (p : Split) (fields : isSubnormal raw ≡ false → p ≡ split raw) (hx : natAbs (a .e) ≤ 2 ^ 61) (hy : natAbs (b .e) ≤ 2 ^ 61) (pe : SFits w64 (p .e)) where
+    is : p ≡ split raw
+    is = fields raw-other
+
     m-is : p .m ≡ multiplied a b .m
     m-is =
         ap (λ (s : Split). s .m) is ∙ split-m raw ∙ ap (λ (f : Factor). floatOf 11 52 (withExponent f (pos 0))) raw-rate ∙ sym (settled a b fa fb ua ub .m-is)

@@ -113,7 +113,7 @@ pub fn combine_units(
         kept.bad = true;
         return kept;
     }
-    let p = floats::split_f64(lhs.m * rhs.m);
+    let p = floats::split_fields(lhs.m * rhs.m);
     let e = lhs.e + rhs.e;
     let raised = e + p.e;
     StableProductFloatAcc {

@@ -20,7 +20,7 @@ use Rattle.accumulator.specs.declared.Reduced.the-variants.{Acc}
 use Rattle.accumulator.specs.Joining.{combined, withinLimit, inLimits, Answer, refusal, answerOf, answered}
 use Rattle.accumulator.proofs.Combining.{acc-same}
 use Rattle.kernels.specs.Pieces.{Piece, workedPiece, joinedOnto, joinedPieces, ratesOf}
-use Rattle.kernels.proofs.Sizes.{combined-size}
+use Rattle.kernels.proofs.Sizes.{inList, combined-size}
 use Rattle.kernels.proofs.Bounded.{FullPiece, worked-size, joined-within}
 use Rattle.reduction.specs.Ranges.{piecesFrom}
 use Rattle.reduction.proofs.Demand.{full-pieces, range-in-limits}
@@ -36,14 +36,14 @@ answered-within a b h =
     ap (λ (t : Bool). cond (not (a .bad || b .bad) && not t) (refusal 10) (answerOf (Acc (combined a b)))) h
     ∙ ap (λ (t : Bool). cond t (refusal 10) (answerOf (Acc (combined a b)))) (and-false (not (a .bad || b .bad)))
 
--- exponents of at most 1034 for each value, and those of the accumulator, within the limit: nothing is refused
-pub joined-near : (a : StableProductFloatAcc) {ps : List Piece} → Each FullPiece ps → natAbs (a .e) + 1034 * length (ratesOf ps) ≤ 2 ^ 52
+-- exponents of at most `inList` for each value, and those of the accumulator, within the limit: nothing is refused
+pub joined-near : (a : StableProductFloatAcc) {ps : List Piece} → Each FullPiece ps → natAbs (a .e) + inList * length (ratesOf ps) ≤ 2 ^ 52
     → joinedWithin a ps ≡ answerOf (Acc (joinedOnto a ps))
 unfolding joinedWithin ratesOf
 joined-near a none h = refl
 joined-near a (more {x = p} {xs = ps} f fs) h =
     let c = combined a (workedPiece p) in
-    let z : natAbs (c .e) + 1034 * length (ratesOf ps) ≤ 2 ^ 52 = omega (
+    let z : natAbs (c .e) + inList * length (ratesOf ps) ≤ 2 ^ 52 = omega (
       arith,
       combined-size a (workedPiece p),
       worked-size p (f .values),

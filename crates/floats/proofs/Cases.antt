@@ -1,11 +1,15 @@
--- Worked cases of the definitions, computed: the product of binary64 at its edges, and the whole-number rule. Assumes nothing.
+-- Worked cases of the definitions, computed: the product of binary64 at its edges, the whole-number rule, and splitting. Assumes nothing.
 use mathlib.Core.Path.{_≡_, refl}
 use mathlib.Core.Bool.{true, false}
 use Prim.Native.Nat.{_+_, _-_, _*_, _^_}
 use lib.IntN.{pos, negsuc}
-use lib.Ieee.{nan, inf, fin}
+use lib.Ieee.{nan, inf, fin, size, odd, toBits}
 use Rattle.floats.specs.Product.{product, productOf}
+use Rattle.floats.specs.Rounding.{delivered}
 use Rattle.floats.specs.Factor.{times}
+use Rattle.floats.specs.Fields.{valueOf, ofParts, badBits, factorOf}
+use Rattle.floats.specs.Splitting.{isBad, rateFactor, split}
+use Rattle.floats.specs.Cases.{SplittingTable}
 
 -- 1.5 × -1.5 is -2.25, exactly
 exact-product : productOf 11 52 (fin false 3 (negsuc 0)) (fin true 3 (negsuc 0)) ≡ fin true 9 (negsuc 1)
@@ -68,3 +72,8 @@ rounds-up : times 52 (record { sign = false; sig = 3 * 2 ^ 51; exp = pos 7 }) (r
     ≡ record { sign = false; sig = 2 ^ 52; exp = negsuc 1 }
 unfolding times
 rounds-up = refl
+
+-- splitting
+pub splitting-table : SplittingTable
+unfolding split rateFactor factorOf isBad badBits valueOf ofParts delivered size odd toBits
+splitting-table = ((refl, refl, refl), (refl, refl, refl, refl, refl, refl, refl), (refl, refl, refl, refl, refl, refl))

@@ -9,9 +9,13 @@ pub mod Bridge
 pub mod Overflow
 pub mod Magnitude
 pub mod Units
+pub mod Subnormal
 pub mod Fields
+pub mod PatternFactor
 pub mod Masks
 pub mod Splitting
-mod Cases
+pub mod Moving
+pub mod Wholes
+pub mod Cases
 pub mod Theorems
 pub mod Patterns

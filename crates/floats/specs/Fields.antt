@@ -1,10 +1,10 @@
 -- For rule A2, IEEE 754-2019, 3.4: the fields of a bit pattern, for an exponent field of w bits and a trailing significand field (the fraction) of t bits.
 -- From the highest: the sign S, the exponent field E, the fraction T. binary64 is w = 11, t = 52.
 use Prim.Native.Nat.{ℕ, zero, suc, _+_, _-_, _*_, _/_, _%_, _^_}
-use mathlib.Core.Bool.{Bool, cond, _||_}
+use mathlib.Core.Bool.{Bool, not, cond, _&&_, _||_}
 use lib.Dec.{leb, eqb}
 use lib.IntN.{pos, _-ℤ_}
-use lib.Ieee.{Float, nan, inf}
+use lib.Ieee.{Float, nan, inf, size}
 use Rattle.floats.specs.Rounding.{delivered}
 use Rattle.floats.specs.Product.{bias}
 use Rattle.floats.specs.Factor.{Factor}
@@ -33,10 +33,28 @@ unfoldable pub valueOf : ℕ → ℕ → ℕ → Float
 unfolding ofParts
 valueOf w t b = ofParts w t (signField w t b) (expField w t b) (fraction t b)
 
--- Which patterns are bad: those with the exponent field 0 (zeros and subnormals) or all ones (infinities and NaNs).
+-- Which patterns are bad: zeros (E and T are 0), infinities and NaNs (E is all ones).
 unfoldable pub badBits : ℕ → ℕ → ℕ → Bool
-badBits w t b = eqb (expField w t b) 0 || eqb (expField w t b) (2 ^ w - 1)
+badBits w t b = (eqb (expField w t b) 0 && eqb (fraction t b) 0) || eqb (expField w t b) (2 ^ w - 1)
 
--- The factor of a pattern that is not bad: its sign, 2^t and the fraction, the field less the bias.
+-- a subnormal: E is 0 and T is not
+abbrev pub subnormalBits : ℕ → ℕ → ℕ → Bool
+subnormalBits w t b = eqb (expField w t b) 0 && not (eqb (fraction t b) 0)
+
+-- by how many places T's highest one is moved up to the leading place, that of 2^t
+abbrev pub movedPlaces : ℕ → ℕ → ℕ
+movedPlaces t T = suc t - size T
+
+-- The factor of a pattern that is not bad: its sign, and S of t + 1 digits and e for which its magnitude is S × 2^(e - t).
+-- A subnormal is T × 2^(1 - bias - t): its highest one is moved to the leading place, and e lowered to match. A normal number is (2^t + T) × 2^(E - bias - t).
+-- Bad patterns are read as normal ones, which gives what splitting has for them.
 unfoldable pub factorOf : ℕ → ℕ → ℕ → Factor
-factorOf w t b = record { sign = signField w t b; sig = 2 ^ t + fraction t b; exp = pos (expField w t b) -ℤ pos (bias w) }
+unfolding size
+factorOf w t b =
+    let T = fraction t b in
+    let sub = subnormalBits w t b in
+    record {
+      sign = signField w t b;
+      sig = cond sub (T * 2 ^ movedPlaces t T) (2 ^ t + T);
+      exp = cond sub (pos 1 -ℤ pos (bias w + movedPlaces t T)) (pos (expField w t b) -ℤ pos (bias w));
+    }

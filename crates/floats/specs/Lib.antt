@@ -6,4 +6,6 @@ pub mod Factor
 pub mod Fields
 pub mod Magnitude
 pub mod Splitting
+pub mod Cases
+pub mod InnerKinds
 pub mod Theorems

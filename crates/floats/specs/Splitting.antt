@@ -11,7 +11,7 @@ use Rattle.floats.specs.Fields.{pattern, valueOf, badBits, factorOf}
 abbrev pub bitsOf : Float → ℕ
 bitsOf x = toBits binary64 x
 
--- a rate that has no factor: a zero, a subnormal, an infinity or a NaN
+-- a rate that has no factor: a zero, an infinity or a NaN
 unfoldable pub isBad : Float → Bool
 unfolding badBits
 isBad x = badBits (f64Format .w) (f64Format .t) (bitsOf x)

@@ -14,7 +14,7 @@ use Rattle.floats.specs.Factor.{Factor, Normalised, times}
 use Rattle.floats.specs.Fields.{factorOf}
 use Rattle.floats.specs.Splitting.{bitsOf, isBad, rateFactor}
 use Rattle.floats.proofs.Factor.{times-normal}
-use Rattle.floats.proofs.Fields.{factor-normal}
+use Rattle.floats.proofs.PatternFactor.{factor-normal}
 use Rattle.accumulator.specs.declared.StableProductFloatAcc.{StableProductFloatAcc}
 use Rattle.accumulator.specs.Joining.{combined, withinLimit, inLimits}
 use Rattle.laws.specs.Lists.{Each, none, more}

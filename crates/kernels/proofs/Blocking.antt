@@ -11,7 +11,7 @@ use lib.IntN.{ℤ, pos, _+ℤ_}
 use lib.Arith.{lt-of-le-ne}
 use lib.Dec.{T, lit≤}
 use lib.Ieee.{Float, nan, fin, binary64, fits, isNan}
-use Rattle.laws.proofs.Tests.{and-both}
+use Rattle.laws.proofs.Tests.{and-both, neither}
 use Rattle.floats.specs.Product.{productOf}
 use Rattle.floats.specs.Factor.{Factor, unit, times}
 use Rattle.floats.specs.Splitting.{isBad, rateFactor, split}
@@ -27,7 +27,7 @@ use Rattle.kernels.specs.Blocks.{startLanes, mOf, eOf, unsplitStep, spli
 use Rattle.kernels.specs.Blocks.{contiguous}
 use Rattle.kernels.specs.Pieces.{GoodRate, accOf}
 use Rattle.kernels.proofs.Feeding.{feed-related, feed-holds, feed-vectors, feed-mark, order-keeps, order-related, every-each, each-map}
-use Rattle.kernels.proofs.Feeding.{each-both, each-take, each-drop, some-append, some-none, neither}
+use Rattle.kernels.proofs.Feeding.{each-both, each-take, each-drop, some-append, some-none}
 use Rattle.kernels.proofs.Factors.{lane-lt, set-cases, times-again}
 use Rattle.kernels.specs.InnerLanes.{Represents, LanesAre, LanesRepresent, zeros, plainAfter}
 use Rattle.kernels.proofs.Lanewise.{turns, depth, turn-small, lanes-widen, lanes-turn, exponents-same}

@@ -1,4 +1,4 @@
--- The accumulators of pieces stay within their bounds: 1 <= |m| < 2 always, and |e| is at most 1025 for each value and 8 for each piece. So a list of up to
+-- The accumulators of pieces stay within their bounds: 1 <= |m| < 2 always, and |e| is at most 1075 for each value and 8 for each piece. So a list of up to
 -- 2^40 values, each piece with at least one, joins to |e| <= 2^52.
 -- For every input, bad rates too. Assumes nothing.
 use Prim.Native.Nat.{ℕ, zero, suc, _+_, _*_, _≤_, _<_, zero-le}
@@ -18,7 +18,7 @@ use Rattle.floats.specs.Splitting.{rateFactor}
 use Rattle.floats.proofs.Factor.{unit-normal, times-normal, times-size}
 use Rattle.floats.proofs.Bridge.{floatOf-fits}
 use Rattle.floats.proofs.Magnitude.{unit-float}
-use Rattle.floats.proofs.Splitting.{rate-normal, split-m, split-e, split-unit}
+use Rattle.floats.proofs.Splitting.{farthest, rate-normal, rate-size, split-m, split-unit}
 use Rattle.accumulator.specs.declared.StableProductFloatAcc.{StableProductFloatAcc}
 use Rattle.accumulator.specs.Joining.{identityAcc, combined}
 use Rattle.accumulator.proofs.Combining.{combined-bad, combined-good}
@@ -32,7 +32,7 @@ use Rattle.kernels.specs.Blocks.{contiguous}
 use Rattle.kernels.specs.Pieces.{Piece, worked, workedPiece, joinedPieces, ratesOf}
 use Rattle.kernels.proofs.Feeding.{feed-keeps, order-keeps, each-of}
 use Rattle.kernels.proofs.Factors.{lane-lt, set-cases, NormalLanes, units-normal, lane-normal, piece-normal}
-use Rattle.kernels.proofs.Sizes.{split-size, rate-size, combined-size}
+use Rattle.kernels.proofs.Sizes.{inList, rate-acc-size, combined-size}
 use Rattle.kernels.proofs.Blocking.{contiguous-is}
 
 -- ---- the sum of eight sizes, and one of them that grows
@@ -150,7 +150,7 @@ record UnitAccs (ls : List StableProductFloatAcc) : Type 0 where
 -- i values are in the lanes ls
 record Joined (i : ℕ) (ls : List StableProductFloatAcc) : Type 0 where
   long : length ls ≡ 8
-  near : total accSize ls ≤ 1025 * i
+  near : total accSize ls ≤ suc farthest * i
   sound : UnitAccs ls
 
 joined-start : Joined 0 (replicate 8 identityAcc)
@@ -167,7 +167,7 @@ joined-more i ls x h =
     let j = laneOf i in
     let a = combined (accAt ls j) (rateAcc x) in
     let inside = subst (λ (n : ℕ). j < n) (sym (h .long)) (lane-lt i) in
-    let z = total-set accSize ls j 1025 a (accAt [] 0) inside (le-trans (combined-size (accAt ls j) (rateAcc x)) (let w = rate-size x in omega arith)) in
+    let z = total-set accSize ls j (suc farthest) a (accAt [] 0) inside (le-trans (combined-size (accAt ls j) (rateAcc x)) (let w = rate-acc-size x in omega arith)) in
     record {
       long = length-set ls j a ∙ h .long;
       near = le-trans z (let w = h .near in omega arith);
@@ -202,14 +202,14 @@ module _ (xs : List Float) where
   unfolding stepped lanesJoined
   stepped-sound = order-sound (steppedLanes xs) 8 (le-refl 8) (joined-all .sound)
 
-  pub stepped-size : natAbs (stepped xs .e) ≤ 1025 * length xs + 8
+  pub stepped-size : natAbs (stepped xs .e) ≤ suc farthest * length xs + 8
   unfolding stepped lanesJoined total
   stepped-size =
       let ls = steppedLanes xs in
       let r = order-keeps (λ (k : ℕ) (a : StableProductFloatAcc). combined a (accAt ls k))
       (λ (k : ℕ) (a : StableProductFloatAcc). accSize a ≤ total accSize (take k ls) + k) 8 (turn) identityAcc zero-le in
       le-trans r
-      (subst (λ (l : List StableProductFloatAcc). total accSize l + 8 ≤ 1025 * length xs + 8) (sym (take-all 8 ls (le-of-eq (joined-all .long))))
+      (subst (λ (l : List StableProductFloatAcc). total accSize l + 8 ≤ suc farthest * length xs + 8) (sym (take-all 8 ls (le-of-eq (joined-all .long))))
       (add-le-add (joined-all .near) (le-refl 8)))
     where
       turn : (k : ℕ) (a : StableProductFloatAcc) → k < 8 → accSize a ≤ total accSize (take k (steppedLanes xs)) + k
@@ -220,15 +220,15 @@ module _ (xs : List Float) where
           le-trans (combined-size a (accAt ls k)) (omega arith)
 
 -- ---- blocks of 64
-pub rate-short : (x : Float) → Short 52 1024 (rateFactor x)
-rate-short x = record { normal = rate-normal x; near = subst (λ (z : ℤ). natAbs z ≤ 1024) (split-e x) (split-size x) }
+pub rate-short : (x : Float) → Short 52 farthest (rateFactor x)
+rate-short x = record { normal = rate-normal x; near = rate-size x }
 
 module _ {xs : List Float} (v : Each (λ (x : Float). T (fits binary64 x)) xs) where
-  pub contiguous-size : natAbs (contiguous xs .e) ≤ 1025 * length xs + 8
+  pub contiguous-size : natAbs (contiguous xs .e) ≤ suc farthest * length xs + 8
   contiguous-size =
-      subst (λ (z : ℤ). natAbs z ≤ 1025 * length xs + 8) (sym (ap (λ (a : StableProductFloatAcc). a .e) (contiguous-is v)))
-      (subst (λ (n : ℕ). natAbs (pieceProduct 52 (map rateFactor xs) .exp) ≤ 1025 * n + 8) (length-map xs rateFactor)
-      (plain-size 52 1024 (each-of rateFactor (λ (x : Float). T (fits binary64 x)) (Short 52 1024) (λ x f. rate-short x) v)))
+      subst (λ (z : ℤ). natAbs z ≤ suc farthest * length xs + 8) (sym (ap (λ (a : StableProductFloatAcc). a .e) (contiguous-is v)))
+      (subst (λ (n : ℕ). natAbs (pieceProduct 52 (map rateFactor xs) .exp) ≤ suc farthest * n + 8) (length-map xs rateFactor)
+      (plain-size 52 farthest (each-of rateFactor (λ (x : Float). T (fits binary64 x)) (Short 52 farthest) (λ x f. rate-short x) v)))
 
   pub contiguous-sound : Sound (contiguous xs)
   contiguous-sound =
@@ -244,10 +244,10 @@ module _ {xs : List Float} (v : Each (λ (x : Float). T (fits binary64 x)) xs) w
 abbrev pub ValuePiece : Piece → Type 0
 ValuePiece p = Each (λ (x : Float). T (fits binary64 x)) (p .rates)
 
-pub worked-size : (p : Piece) → ValuePiece p → natAbs (workedPiece p .e) ≤ 1025 * length (p .rates) + 8
+pub worked-size : (p : Piece) → ValuePiece p → natAbs (workedPiece p .e) ≤ suc farthest * length (p .rates) + 8
 worked-size p v = go (p .inBlocks)
   where
-    go : (b : Bool) → natAbs (worked b (p .rates) .e) ≤ 1025 * length (p .rates) + 8
+    go : (b : Bool) → natAbs (worked b (p .rates) .e) ≤ suc farthest * length (p .rates) + 8
     go true = contiguous-size v
     go false = stepped-size (p .rates)
 
@@ -263,19 +263,19 @@ pub record FullPiece (p : Piece) : Type 0 where
   pub some-rate : 0 < length (p .rates)
   pub values : ValuePiece p
 
--- pieces joined to one that is within 1034 for each of n values
-joined-near : (n : ℕ) (a : StableProductFloatAcc) → Sound a → natAbs (a .e) ≤ 1034 * n → {ps : List Piece} → Each FullPiece ps
-    → Sound (foldl combined a (map workedPiece ps)) × (natAbs (foldl combined a (map workedPiece ps) .e) ≤ 1034 * (n + length (ratesOf ps)))
+-- pieces joined to one that is within `inList` for each of n values
+joined-near : (n : ℕ) (a : StableProductFloatAcc) → Sound a → natAbs (a .e) ≤ inList * n → {ps : List Piece} → Each FullPiece ps
+    → Sound (foldl combined a (map workedPiece ps)) × (natAbs (foldl combined a (map workedPiece ps) .e) ≤ inList * (n + length (ratesOf ps)))
 unfolding ratesOf
 joined-near n a A h none = (A, le-trans h (omega arith))
 joined-near n a A h (more {x = p} {xs = ps} f fs) =
     let b = workedPiece p in
-    let k : natAbs (combined a b .e) ≤ 1034 * (n + length (p .rates)) = le-trans (combined-size a b)
+    let k : natAbs (combined a b .e) ≤ inList * (n + length (p .rates)) = le-trans (combined-size a b)
     (let z = worked-size p (f .values) in let y = f .some-rate in omega arith) in
     let r = joined-near (n + length (p .rates)) (combined a b) (combined-sound a b A (worked-sound p (f .values))) k fs in
     (r .0, le-trans (r .1) (omega (arith, length-append (p .rates) (ratesOf ps))))
 
-pub joined-within : {ps : List Piece} → Each FullPiece ps → Sound (joinedPieces ps) × (natAbs (joinedPieces ps .e) ≤ 1034 * length (ratesOf ps))
+pub joined-within : {ps : List Piece} → Each FullPiece ps → Sound (joinedPieces ps) × (natAbs (joinedPieces ps .e) ≤ inList * length (ratesOf ps))
 unfolding joinedPieces ratesOf
 joined-within none = (identity-sound, zero-le)
 joined-within (more {x = p} {xs = ps} f fs) =

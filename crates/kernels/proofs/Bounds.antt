@@ -16,10 +16,10 @@ use Rattle.laws.proofs.Tests.{and-both}
 use Rattle.integers.proofs.Difference.{ints, atoms}
 use Rattle.floats.specs.Factor.{Factor, NormalExponent}
 use Rattle.floats.specs.Splitting.{isBad, rateFactor}
-use Rattle.floats.proofs.Splitting.{rate-normal, rate-range}
+use Rattle.floats.proofs.Splitting.{Normal, rate-normal, rate-range}
 use Rattle.accumulator.proofs.Exponents.{limits}
 use Rattle.kernels.specs.Blocks.{inRange}
-use Rattle.kernels.proofs.Least.{reaches, reaching-good, reaching-exponent, rate-value}
+use Rattle.kernels.proofs.Least.{reaches, reaching-normal, reaching-good, reaching-exponent, rate-value}
 
 -- the lower bound alone
 in-range-reaches : (B : ℕ) (x : Float) → inRange B x ≡ true → reaches B x ≡ true
@@ -56,7 +56,7 @@ pub in-range-exponent : (k : ℕ) → suc k ≤ 1021 → (x : Float) → T (fits
 in-range-exponent k small x f w =
     leb-true (natAbs (g .exp)) (suc k)
     (sym (limits k (g .exp))
-    ∙ ap (λ (t : Bool). t && leZ (g .exp) (pos (suc k))) (reaching-exponent k x f good (in-range-reaches B x w))
+    ∙ ap (λ (t : Bool). t && leZ (g .exp) (pos (suc k))) (reaching-exponent k x small f (in-range-reaches B x w))
     ∙ most-place (g .exp) p k (R .above) most)
   where
     B : ℕ
@@ -65,11 +65,11 @@ in-range-exponent k small x f w =
     g : Factor
     g = rateFactor x
 
-    good : isBad x ≡ false
-    good = in-range-good B small x f w
+    n : Normal x
+    n = reaching-normal B small x f (in-range-reaches B x w)
 
     R : NormalExponent 11 g
-    R = rate-range x good
+    R = rate-range x n
 
     p : ℕ
     p = R .place
@@ -78,5 +78,5 @@ in-range-exponent k small x f w =
     most =
         let l : 52 + p ≤ B + 1074 = power-le (52 + p) (B + 1074)
         (le-trans (le-of-eq (pow-add 2 52 p)) (le-trans (mul-le-mul-right (2 ^ p) (rate-normal x .least))
-        (le-trans (value-most B (g .sign) (g .sig * 2 ^ p) (2 ^ 1074) x (rate-value x f good) w) (le-of-eq (sym (pow-add 2 B 1074)))))) in
+        (le-trans (value-most B (g .sign) (g .sig * 2 ^ p) (2 ^ 1074) x (rate-value x f n) w) (le-of-eq (sym (pow-add 2 B 1074)))))) in
         omega arith

@@ -2,7 +2,7 @@
 -- Any states, any values: no float and no format is in it. Assumes nothing.
 use Prim.Native.Nat.{ℕ, zero, suc, _+_, _*_, _≤_, _<_, zero-le}
 use mathlib.Core.Path.{_≡_, refl, sym, ap, _∙_, subst}
-use mathlib.Core.Bool.{Bool, true, false, _&&_, _||_, true≢false, or-false, or-assoc}
+use mathlib.Core.Bool.{Bool, true, false, _&&_, _||_, or-false, or-assoc}
 use mathlib.Core.List.{List, [], _∷_, _++_, map}
 use native.Mathlib.Nat.{le-refl, le-of-lt, add-zero, zero-add}
 use native.Mathlib.Numerals.{add-one}
@@ -162,10 +162,6 @@ pub each-drop : {X : Type 0} (P : X → Type 0) (n : ℕ) {xs : List X} → Each
 each-drop P zero ps = ps
 each-drop P (suc n) none = none
 each-drop P (suc n) (more p ps) = each-drop P n ps
-
-pub neither : (p q : Bool) → (p || q) ≡ false → (p ≡ false) × (q ≡ false)
-neither false q e = (refl, e)
-neither true q e = absurd (true≢false e)
 
 or-swap : (p q r : Bool) → ((p || q) || r) ≡ ((p || r) || q)
 or-swap true q r = refl

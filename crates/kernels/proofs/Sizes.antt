@@ -1,19 +1,17 @@
 -- How far an exponent can be from 0: no sum of exponents of a piece comes near the ends of i64. Assumes nothing.
-use Prim.Native.Nat.{ℕ, zero, suc, _+_, _-_, _≤_, _<_}
+use Prim.Native.Nat.{ℕ, zero, suc, _+_, _-_, _≤_}
 use mathlib.Core.Path.{_≡_, refl, sym, ap, subst}
-use mathlib.Core.Bool.{Bool, true, false, cond, _||_}
+use mathlib.Core.Bool.{Bool, true, false, _||_}
 use mathlib.Core.List.{List, [], _∷_}
 use native.Mathlib.Nat.{le-refl, le-trans, add-le-add}
 use native.Mathlib.Omega.{arith}
 use lib.ListN.{getD, set, replicate}
-use lib.IntN.{ℤ, pos, negsuc, natAbs, _+ℤ_, _-ℤ_}
-use lib.Dec.{ltb}
+use lib.IntN.{ℤ, pos, natAbs, _+ℤ_}
 use lib.Ieee.{Float}
 use Rattle.floats.specs.Product.{productOf}
-use Rattle.floats.specs.Fields.{expField, factorOf}
 use Rattle.floats.specs.Magnitude.{twoOrMore}
-use Rattle.floats.specs.Splitting.{bitsOf, rateFactor, split}
-use Rattle.floats.proofs.Fields.{field-lt}
+use Rattle.floats.specs.Splitting.{split}
+use Rattle.floats.proofs.Splitting.{farthest, rate-size, split-e}
 use Rattle.floats.proofs.Factor.{add-size}
 use Rattle.accumulator.specs.declared.StableProductFloatAcc.{StableProductFloatAcc}
 use Rattle.accumulator.specs.Joining.{combined, multiplied}
@@ -33,21 +31,20 @@ replicate-either P zero k a d p q = q
 replicate-either P (suc n) zero a d p q = p
 replicate-either P (suc n) (suc k) a d p q = replicate-either P n k a d p q
 
--- ---- a split value's exponent: a field of 0 to 2047, less 1023
-less-size : (n : ℕ) → n < 2048 → natAbs (pos n -ℤ pos 1023) ≤ 1024
-less-size n h = go (ltb n 1023)
-  where
-    go : (t : Bool) → natAbs (cond t (negsuc (1023 - suc n)) (pos (n - 1023))) ≤ 1024
-    go true = omega arith
-    go false = omega arith
+-- ---- exponents, for each value: of a piece, with a carry at each product and the joins of its lanes; and of a list, with each piece's own join
+abbrev pub inPiece : ℕ
+inPiece = farthest + 9
 
-pub split-size : (x : Float) → natAbs (split x .e) ≤ 1024
-unfolding split rateFactor factorOf
-split-size x = less-size (expField 11 52 (bitsOf x)) (field-lt 11 52 (bitsOf x))
+abbrev pub inList : ℕ
+inList = farthest + 10
 
-pub rate-size : (x : Float) → natAbs (rateAcc x .e) ≤ 1024
+-- ---- a split value's exponent
+pub split-size : (x : Float) → natAbs (split x .e) ≤ farthest
+split-size x = subst (λ (z : ℤ). natAbs z ≤ farthest) (sym (split-e x)) (rate-size x)
+
+pub rate-acc-size : (x : Float) → natAbs (rateAcc x .e) ≤ farthest
 unfolding rateAcc
-rate-size x = split-size x
+rate-acc-size x = split-size x
 
 -- ---- joining adds the exponents, and at most 1
 pub combined-size : (a b : StableProductFloatAcc) → natAbs (combined a b .e) ≤ natAbs (a .e) + natAbs (b .e) + 1

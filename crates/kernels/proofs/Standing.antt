@@ -16,7 +16,8 @@ use Rattle.floats.specs.Splitting.{isBad, rateFactor, split}
 use Rattle.floats.proofs.Factor.{factor-same, unit-normal, times-normal, carry-le, add-size}
 use Rattle.floats.proofs.Bridge.{product-times}
 use Rattle.floats.proofs.Magnitude.{moved-normal}
-use Rattle.floats.proofs.Splitting.{split-m, split-e, rate-normal, rate-float, float-rate}
+use Rattle.floats.specs.InnerKinds.{isSubnormal}
+use Rattle.floats.proofs.Splitting.{split-m, split-e, rate-normal, rate-float, float-rate, float-other}
 use Rattle.accumulator.specs.declared.StableProductFloatAcc.{StableProductFloatAcc}
 use Rattle.accumulator.proofs.Combining.{acc-same}
 use Rattle.kernels.specs.Pieces.{accOf}
@@ -73,6 +74,11 @@ range-split m e f off R is at N =
       e-is = at ∙ ap (λ (y : ℤ). e +ℤ y) (sym (split-e m ∙ ap (λ (k : Factor). k .exp) r)) ∙ sym (+ℤ-idr (e +ℤ split m .e));
       normal = N;
     }
+
+-- such a lane is not subnormal
+pub represents-other : (B : ℕ) (m : Float) (e : ℤ) (f : Factor) → B ≤ 1022 → Represents B m e f → isSubnormal m ≡ false
+represents-other B m e f h s =
+    ap isSubnormal (s .m-is) ∙ float-other (withExponent f (s .off)) (moved-normal 52 f (s .off) (s .normal)) (near-in f (s .off) (le-trans (s .near) h))
 
 pub represents-split : (B : ℕ) (m : Float) (e : ℤ) (f : Factor) → B ≤ 1022 → Represents B m e f → Represents 0 (split m .m) (e +ℤ split m .e) f
 represents-split B m e f h s = range-split m e f (s .off) (near-in f (s .off) (le-trans (s .near) h)) (s .m-is) (s .e-is) (s .normal)

@@ -1,23 +1,34 @@
 -- Inner: what it is for a float and an exponent, or for eight lanes of them, to represent factors of the whole-number rule (W1), whatever way they came.
 use Prim.Native.Nat.{ℕ, _≤_, _<_}
 use mathlib.Core.List.{List, map}
-use mathlib.Core.Bool.{Bool, _||_}
-use lib.ListN.{length, getD, take, drop}
+use mathlib.Core.Bool.{Bool, false, _||_}
+use lib.ListN.{length, getD, set, take, drop}
 use lib.IntN.{ℤ, pos, natAbs, _+ℤ_}
 use lib.Ieee.{Float, nan}
 use mathlib.Core.Path.{_≡_}
+use Rattle.floats.specs.declared.Split.{Split}
+use Rattle.floats.specs.Product.{productOf}
 use Rattle.floats.specs.Splitting.{isBad, rateFactor}
+use Rattle.floats.specs.InnerKinds.{isSubnormal}
 use Rattle.kernels.specs.declared.lanes.Lanes.{Lanes}
 use Rattle.kernels.specs.Lanes.{feed, some}
 use Rattle.floats.specs.Factor.{Factor, Normalised, unit, floatOf}
 use Rattle.floats.specs.Magnitude.{withExponent}
 use Rattle.kernels.specs.InnerPlain.{laneTimes}
-use Rattle.kernels.specs.Blocks.{eOf, inRange}
+use Rattle.kernels.specs.Blocks.{mOf, eOf, inRange}
 use Rattle.floats.specs.Formats.{f64Format}
 
 -- the bounds of a block of f64
 abbrev pub inBounds : Float → Bool
 inBounds = inRange (f64Format .bound)
+
+-- a value that is split as p, put into lane k
+abbrev pub splitInto : ℕ → Lanes → Split → Lanes
+splitInto k s p = record { m = set (s .m) k (productOf 11 52 (mOf s k) (p .m)); e = set (s .e) k (eOf s k +ℤ p .e); bad = s .bad || p .bad }
+
+-- no lane's m is subnormal
+abbrev pub NoneSubnormal : Lanes → Type 0
+NoneSubnormal s = (k : ℕ) → k < 8 → isSubnormal (mOf s k) ≡ false
 
 -- no lane's exponent is past n, either way
 pub record SmallLanes (n : ℕ) (s : Lanes) : Type 0 where

@@ -16,7 +16,7 @@ use Rattle.layout.specs.Compile.{compileRefusals, compileOf}
 use Rattle.offsets.specs.Lists.{totalIn, endRefusals, placeRefusals, rangeCode}
 use Rattle.offsets.proofs.Accepted.{refused-none}
 use Rattle.offsets.proofs.Ranges.{first-hides, first-none, Clear, clear, Within, within, range-places}
-use Rattle.kernels.proofs.Feeding.{neither}
+use Rattle.laws.proofs.Tests.{neither}
 use Rattle.ranges.specs.Many.{rangesOf, eachRefusals, unfit, codeBy, manyCode}
 use Rattle.ranges.proofs.Lists.{length-ranges, range-at}
 

@@ -25,7 +25,7 @@ use Rattle.kernels.specs.Blocks as blocks
 use Rattle.kernels.specs.Pieces.{joinedPieces}
 use Rattle.finishing.proofs.Cases.{finishing-table, limits-deciding}
 use Rattle.reduction.specs.Ranges.{piecesFrom, reduceOf}
-use Rattle.reduction.specs.Cases.{ProductTable, CaseTable, LanesDeciding, PiecesDeciding, DecidingTable}
+use Rattle.reduction.specs.Cases.{ProductTable, SubnormalTable, CaseTable, LanesDeciding, PiecesDeciding, DecidingTable}
 
 product-table : ProductTable
 unfolding fitsI64 eqZ span axisOf resetFits placesOf keptAxes rank precedes insertAxis orderFrom axesOf resetsFit reach joinOf fuseFrom fuse totalFrom
@@ -35,6 +35,15 @@ unfolding fitsI64 eqZ span axisOf resetFits placesOf keptAxes rank precedes inse
     blocks.unsplitStep blocks.inRange lanes.every lanes.some blocks.laneIn blocks.lanesIn split rateFactor factorOf toBits valueOf ofParts delivered isBad badBits product
     rounded size odd isNan stepped steppedLanes lanesJoined laneJoined rateAcc combined multiplied twoOrMore
 product-table = (refl, refl, refl, refl, refl, refl)
+
+pub subnormal-table : SubnormalTable
+unfolding fitsI64 eqZ span axisOf resetFits placesOf keptAxes rank precedes insertAxis orderFrom axesOf resetsFit reach joinOf fuseFrom fuse totalFrom
+    totalOf fusedOf layoutOf emptyLayout traversalAt traversalOf firstOf overflows aboveMost compileRefusals layoutBeside compileOf digits shift
+    offset insideValues everyBelow allInside totalIn rangeRefusals rangeCode offsetsFrom runOf outerOf piecesFrom reduceOf joinedPieces
+    blocks.contiguous blocks.blocks blocks.block blocks.unsplit blocks.renorm blocks.renormLane lanes.inOrder lanes.feed blocks.splitStep
+    blocks.unsplitStep blocks.inRange lanes.every lanes.some blocks.laneIn blocks.lanesIn split rateFactor factorOf toBits valueOf ofParts delivered isBad badBits product
+    rounded size odd isNan stepped steppedLanes lanesJoined laneJoined rateAcc combined multiplied twoOrMore
+subnormal-table = (refl, refl, refl, refl, refl, refl, refl, refl)
 
 pub case-table : CaseTable
 case-table = (layout-table, product-table, finishing-table)

@@ -23,7 +23,8 @@ use Rattle.laws.specs.Lists.{Each, none, more}
 use Rattle.kernels.specs.Lanes.{some}
 use Rattle.kernels.specs.Plain.{plainProduct}
 use Rattle.kernels.specs.Pieces.{Piece, joinedPieces, GoodPiece, patternsOf, accOf, ratesOf}
-use Rattle.kernels.proofs.Feeding.{each-map, some-append, neither}
+use Rattle.laws.proofs.Tests.{neither}
+use Rattle.kernels.proofs.Feeding.{each-map, some-append}
 use Rattle.kernels.proofs.Blocking.{each-rate}
 use Rattle.kernels.proofs.Striding.{strided-values, strided-all}
 use Rattle.kernels.proofs.Bounded.{ValuePiece, FullPiece, joined-within}

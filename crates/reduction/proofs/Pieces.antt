@@ -20,6 +20,7 @@ use Rattle.offsets.specs.InnerLists.{steps}
 use Rattle.offsets.specs.Pieces.{pieceLength}
 use Rattle.kernels.specs.Pieces.{Piece, worked}
 use Rattle.kernels.specs.InnerStrided.{strided}
+use Rattle.kernels.proofs.Sizes.{inPiece}
 use Rattle.kernels.proofs.Striding.{length-strided}
 use Rattle.integers.specs.Integers.{eqZ}
 use Rattle.kernels.proofs.Bounded.{worked-size}
@@ -77,9 +78,9 @@ unfolding strided steps
 strided-steps values z s zero = refl
 strided-steps values z s (suc n) = ap (λ (xs : List Float). valueAt values z ∷ xs) (strided-steps values (z +ℤ s) s n)
 
--- ---- exponents: at most 1033 for each value of a piece, either way
+-- ---- exponents: at most `inPiece` for each value of a piece, either way
 pub strided-near : (values : List Float) → ((i : ℕ) → T (fits binary64 (getD values i nan))) → (z s : ℤ) (n : ℕ) → 1 ≤ n
-    → natAbs (worked (eqZ s (pos 1)) (strided values z s n) .e) ≤ 1033 * n
+    → natAbs (worked (eqZ s (pos 1)) (strided values z s n) .e) ≤ inPiece * n
 strided-near values v z s n h =
     le-trans
     (worked-size (record { inBlocks = eqZ s (pos 1); rates = strided values z s n }) (strided-values values v z s n))

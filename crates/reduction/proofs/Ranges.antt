@@ -26,7 +26,7 @@ use Rattle.offsets.proofs.Writing.{piece-steps}
 use Rattle.kernels.specs.Pieces.{worked, workedPiece, joinedOnto, joinedPieces}
 use Rattle.kernels.specs.InnerStrided.{strided, PlacesInside}
 use Rattle.kernels.specs.InnerStepped.{Sound}
-use Rattle.kernels.proofs.Sizes.{combined-size}
+use Rattle.kernels.proofs.Sizes.{inPiece, inList, combined-size}
 use Rattle.kernels.proofs.Bounded.{combined-sound, worked-sound}
 use Rattle.kernels.proofs.Striding.{strided-values}
 use Rattle.offsets.specs.Values.{valueAt, ratesFrom}
@@ -79,7 +79,7 @@ module _ (l : FullTraversal) (t : Traversal l) (base : ℤ) (b : Bounded (runOf 
 pub record Reducing (l : FullTraversal) (base : ℤ) (values : List Float) (end : ℕ) (whole acc : StableProductFloatAcc) (c : RangeCursor) : Type 0 where
   pub upto : c .at ≤ end
   pub cursor-is : c .at < end → c ≡ rangeAt l base (c .at)
-  pub small : natAbs (acc .e) ≤ 2 ^ 53 + 1034 * c .at
+  pub small : natAbs (acc .e) ≤ 2 ^ 53 + inList * c .at
   pub sound : Sound acc
   pub rest : joinedOnto acc (piecesOf l base values (c .at) end) ≡ whole
 
@@ -87,9 +87,9 @@ module _ (l : FullTraversal) (base : ℤ) (values : List Float) (end : ℕ) (c :
     (b : StableProductFloatAcc)
     (e : b ≡ worked (eqZ (l .«run_stride») (pos 1)) (strided values (p .first) (l .«run_stride») (p .len)))
     (v : (i : ℕ) → T (fits binary64 (getD values i nan))) where
-  pub near : natAbs (b .e) ≤ 1033 * p .len
+  pub near : natAbs (b .e) ≤ inPiece * p .len
   near =
-      subst (λ (a : StableProductFloatAcc). natAbs (a .e) ≤ 1033 * p .len) (sym e) (strided-near values v (p .first) (l .«run_stride») (p .len) (t .some-len))
+      subst (λ (a : StableProductFloatAcc). natAbs (a .e) ≤ inPiece * p .len) (sym e) (strided-near values v (p .first) (l .«run_stride») (p .len) (t .some-len))
 
   -- |m| lies in [1, 2)
   pub piece-sound : Sound b
@@ -121,7 +121,7 @@ module _ (l : FullTraversal) (base : ℤ) (values : List Float) (end : ℕ) (c :
         upto = omega (arith, t .next-at, t .ends);
         cursor-is = t .next-cursor-is;
         small =
-            subst (λ (a : StableProductFloatAcc). natAbs (a .e) ≤ 2 ^ 53 + 1034 * p .next .at) (sym g)
+            subst (λ (a : StableProductFloatAcc). natAbs (a .e) ≤ 2 ^ 53 + inList * p .next .at) (sym g)
             (le-trans (combined-size acc b) (omega (arith, t .next-at, near, s .small, t .some-len)));
         sound = subst Sound (sym g) (combined-sound acc b (s .sound) (piece-sound));
         rest = joined-more acc r g ∙ s .rest;

@@ -31,7 +31,7 @@ use Rattle.offsets.proofs.Runs.{run-some, runs-begin, runs-end, runs-at}
 use Rattle.kernels.specs.Pieces.{worked, workedPiece, joinedOnto}
 use Rattle.kernels.specs.InnerStrided.{strided, PlacesInside}
 use Rattle.kernels.specs.InnerStepped.{Sound}
-use Rattle.kernels.proofs.Sizes.{combined-size}
+use Rattle.kernels.proofs.Sizes.{inList, combined-size}
 use Rattle.kernels.proofs.Bounded.{combined-sound, worked-sound}
 use Rattle.kernels.proofs.Striding.{strided-values}
 use Rattle.reduction.specs.Ranges.{pieceAt, piecesOf}
@@ -68,9 +68,9 @@ strip-next values step stride len count j z a r h e =
     one : suc (count - (j + 1)) ≡ count - j
     one = omega arith
 
--- ---- exponents: at most 1034 more for each value
+-- ---- exponents: at most `inList` more for each value
 pub strip-small : (values : List Float) → ((i : ℕ) → T (fits binary64 (getD values i nan))) → (step stride : ℤ) (len : ℕ) → 1 ≤ len
-    → (n : ℕ) (z : ℤ) (acc : StableProductFloatAcc) → natAbs (strip values step stride len n z acc .e) ≤ natAbs (acc .e) + 1034 * (n * len)
+    → (n : ℕ) (z : ℤ) (acc : StableProductFloatAcc) → natAbs (strip values step stride len n z acc .e) ≤ natAbs (acc .e) + inList * (n * len)
 unfolding strip
 strip-small values v step stride len h zero z acc = omega arith
 strip-small values v step stride len h (suc n) z acc =
@@ -193,7 +193,7 @@ module _ (l : FullTraversal) (t : Traversal l) (base : ℤ) (b : Bounded (runOf 
         upto = omega arith;
         cursor-is = e;
         small =
-            subst (λ (a : StableProductFloatAcc). natAbs (a .e) ≤ 2 ^ 53 + 1034 * d .at) (sym g)
+            subst (λ (a : StableProductFloatAcc). natAbs (a .e) ≤ 2 ^ 53 + inList * d .at) (sym g)
             (le-trans (strip-small values v _ _ _ (run-some l t) n _ acc) (omega (arith, next-at, s .small)));
         sound =
             subst Sound (sym g)

@@ -1,5 +1,5 @@
 -- Two tables of cases: those of docs/RULES.md ("Cases that the rules fix"), and those that no theorem decides. Each row is an equation that holds by computing.
-use Prim.Native.Nat.{ℕ, _+_, _^_}
+use Prim.Native.Nat.{ℕ, _+_, _-_, _^_}
 use mathlib.Core.Path.{_≡_}
 use mathlib.Core.Bool.{Bool, true, false}
 use mathlib.Core.List.{List, [], _∷_, map}
@@ -28,6 +28,20 @@ ProductTable =
     × Reduces 64 (pos 0) (pos 0) (fin false 1 (pos 1) ∷ []) (wholeFloat 1) (pos 64) false
     × Reduces 2 (pos 1) (pos 0) (wholeFloat 0 ∷ wholeFloat 3 ∷ []) oneHalf (negsuc 1021) true
     × Reduces 2 (pos 2) (pos 0) (wholeFloat 0 ∷ wholeFloat 1 ∷ wholeFloat 3 ∷ []) (wholeFloat 1) (pos 0) true
+
+-- subnormal rates, likewise: 2^-1074 and 3.0; 2^-1074 and -2^-1074; the greatest of them, 2^-1022 - 2^-1074, and 1.0; and beside a zero
+abbrev pub SubnormalTable : Type 0
+SubnormalTable =
+    let least = fin false 1 (negsuc 1073) in
+    let greatest = fin false (2 ^ 52 - 1) (negsuc 1073) in
+    Reduces 2 (pos 1) (pos 0) (least ∷ wholeFloat 3 ∷ []) oneHalf (negsuc 1072) false
+    × Reduces 2 (pos 2) (pos 0) (least ∷ wholeFloat 0 ∷ wholeFloat 3 ∷ []) oneHalf (negsuc 1072) false
+    × Reduces 2 (pos 1) (pos 0) (least ∷ fin true 1 (negsuc 1073) ∷ []) (fin true 1 (pos 0)) (negsuc 2147) false
+    × Reduces 2 (pos 2) (pos 0) (least ∷ wholeFloat 0 ∷ fin true 1 (negsuc 1073) ∷ []) (fin true 1 (pos 0)) (negsuc 2147) false
+    × Reduces 2 (pos 1) (pos 0) (greatest ∷ wholeFloat 1 ∷ []) (fin false (2 ^ 52 - 1) (negsuc 50)) (negsuc 1022) false
+    × Reduces 2 (pos 2) (pos 0) (greatest ∷ wholeFloat 0 ∷ wholeFloat 1 ∷ []) (fin false (2 ^ 52 - 1) (negsuc 50)) (negsuc 1022) false
+    × Reduces 2 (pos 1) (pos 0) (least ∷ wholeFloat 0 ∷ []) (wholeFloat 1) (negsuc 2096) true
+    × Reduces 2 (pos 2) (pos 0) (least ∷ wholeFloat 1 ∷ wholeFloat 0 ∷ []) (wholeFloat 1) (negsuc 1073) true
 
 abbrev pub CaseTable : Type 0
 CaseTable = LayoutTable × ProductTable × FinishingTable

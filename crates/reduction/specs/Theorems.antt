@@ -33,7 +33,7 @@ pub record RuleD3 (ns : List ℕ) (ss : List ℤ) (base : ℤ) (start end : ℕ)
   pub answer : reduceOf ns ss base start end values ≡ answerOf (Acc a)
   -- the pieces hold the visited rates, in order
   pub rates : ratesOf (piecesOf ((compileOf PLACES ns ss) .traversal) base values start end) ≡ visitedRates ns ss base start end values
-  -- the mark is set exactly if a visited rate is zero, subnormal, infinite or NaN
+  -- the mark is set exactly if a visited rate is zero, infinite or NaN
   pub mark : a .bad ≡ some isBad (visitedRates ns ss base start end values)
   -- not bad: m and e are the plain product's over the pieces
   pub plain : a .bad ≡ false → a ≡ accOf (plainProduct 11 52 (patternsOf (piecesOf ((compileOf PLACES ns ss) .traversal) base values start end)))

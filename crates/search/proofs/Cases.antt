@@ -21,7 +21,7 @@ unfolding fitsI64 eqZ span axisOf resetFits placesOf keptAxes rank precedes inse
     totalOf fusedOf layoutOf emptyLayout traversalAt traversalOf firstOf overflows aboveMost compileRefusals layoutBeside compileOf digits shift
     offset insideValues everyBelow allInside totalIn rangeRefusals rangeCode offsetsFrom
     size odd toBits delivered ofParts valueOf badBits isBad lowestBad searchOf
-bad-table = (refl, refl, refl, refl, refl, refl, refl, refl, refl, refl, refl, refl)
+bad-table = (refl, refl, refl, refl, refl, refl, refl, refl, refl, refl, refl, refl, refl, refl)
 
 pub first-table : FirstTable
 unfolding fitsI64 eqZ span axisOf resetFits placesOf keptAxes rank precedes insertAxis orderFrom axesOf resetsFit reach joinOf fuseFrom fuse totalFrom

@@ -16,7 +16,7 @@ use Rattle.offsets.specs.Values.{valueAt}
 use Rattle.offsets.proofs.Writing.{steps-append}
 use Rattle.floats.specs.Splitting.{isBad}
 use Rattle.kernels.specs.Lanes.{some}
-use Rattle.kernels.proofs.Feeding.{neither}
+use Rattle.laws.proofs.Tests.{neither}
 use Rattle.search.specs.declared.Look.{Look}
 use Rattle.search.specs.Searching.{SearchAnswer, found, noneBad, refusal, lowestBad}
 use Rattle.search.specs.InnerLooks.{lookAnswer}

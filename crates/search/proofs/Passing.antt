@@ -26,8 +26,8 @@ module _ (signs : Bool) (w : Waiting) (m-long : length (w .m) ≡ 8) (least-long
   outcome : every (notBelow (leastOf signs 511)) (fed .least) ≡ true → Each GoodRate xs ⊎ LostLane (fed .m)
   unfolding waitStep
   outcome b =
-      fed-good (waitStep signs) (λ (w : Waiting). w .m) (λ (w : Waiting). replicate 8 (pos 0)) (λ i w x. refl) (λ i w x. refl) signs 510 0 (lit≤ tt) (lit≤ tt)
-      0 w m-long (guards signs 510 0 w v least-long b .1)
+      fed-good (waitStep signs) (λ (w : Waiting). w .m) (λ (w : Waiting). replicate 8 (pos 0)) (λ i w x. refl) (λ i w x. refl) 510 0 (lit≤ tt) (lit≤ tt)
+      0 w m-long (guards signs 510 (lit≤ tt) 0 w v least-long b .1)
 
   pub passed-good : every (notBelow (leastOf signs 511)) (fed .least) ≡ true → every notPast (fed .m) ≡ true → some isBad xs ≡ false
   passed-good b p = go (outcome b)

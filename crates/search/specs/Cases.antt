@@ -14,14 +14,14 @@ SearchRange ns ss base start end bs answer = searchOf ns ss base start end (map 
 abbrev pub SearchSecond : ℕ → SearchAnswer → Type 0
 SearchSecond b answer = SearchRange (2 ∷ []) (pos 1 ∷ []) (pos 0) 0 2 (0x3ff0000000000000 ∷ b ∷ []) answer
 
--- a zero of either sign, the least and the greatest subnormal number, infinities, NaNs; then the least normal number and the greatest, of either sign
+-- a zero of either sign, infinities, NaNs; then, of either sign, the least subnormal number and the greatest, the least normal number and the greatest
 abbrev pub BadTable : Type 0
 BadTable =
-    SearchSecond 0 (found 1 (pos 1)) × SearchSecond 0x8000000000000000 (found 1 (pos 1)) × SearchSecond 1 (found 1 (pos 1))
-    × SearchSecond 0x800fffffffffffff (found 1 (pos 1)) × SearchSecond 0x7ff0000000000000 (found 1 (pos 1))
+    SearchSecond 0 (found 1 (pos 1)) × SearchSecond 0x8000000000000000 (found 1 (pos 1)) × SearchSecond 0x7ff0000000000000 (found 1 (pos 1))
     × SearchSecond 0xfff0000000000000 (found 1 (pos 1)) × SearchSecond 0x7ff8000000000000 (found 1 (pos 1))
-    × SearchSecond 0xfff0000000000001 (found 1 (pos 1)) × SearchSecond 0x0010000000000000 noneBad × SearchSecond 0x8010000000000000 noneBad
-    × SearchSecond 0x7fefffffffffffff noneBad × SearchSecond 0xffefffffffffffff noneBad
+    × SearchSecond 0xfff0000000000001 (found 1 (pos 1)) × SearchSecond 1 noneBad × SearchSecond 0x8000000000000001 noneBad
+    × SearchSecond 0x000fffffffffffff noneBad × SearchSecond 0x800fffffffffffff noneBad × SearchSecond 0x0010000000000000 noneBad
+    × SearchSecond 0x8010000000000000 noneBad × SearchSecond 0x7fefffffffffffff noneBad × SearchSecond 0xffefffffffffffff noneBad
 
 -- three rates, of which the first and the last are zeros
 abbrev pub twoZeros : List ℕ

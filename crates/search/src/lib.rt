@@ -89,8 +89,7 @@ fn look_closer(values: &[f64], element: u64, first: i64, stride: i64, len: usize
     while i < len {
         let index = at as usize;
         let x = values[index];
-        let p = floats::split_f64(x);
-        if p.bad {
+        if floats::is_bad(x) {
             let number = element + i as u64;
             return Look {
                 bad: true,

@@ -14,7 +14,7 @@ use lib.Ieee.{Float, toBits, size, odd}
 use Rattle.floats.specs.Factor.{Factor, Normalised, unit, times}
 use Rattle.floats.specs.Splitting.{isBad, rateFactor, split}
 use Rattle.floats.proofs.Factor.{times-unit-right}
-use Rattle.floats.proofs.Splitting.{rate-normal}
+use Rattle.floats.proofs.Splitting.{farthest, rate-normal}
 use Rattle.accumulator.specs.declared.StableProductFloatAcc.{StableProductFloatAcc}
 use Rattle.kernels.specs.declared.lanes.Lanes.{Lanes}
 use Rattle.laws.specs.Lists.{Each, none, more}
@@ -120,11 +120,11 @@ module _ (xs : List Float) (r : Lanes) (F : LanesAfter startLanes xs r) where
       let s = represent .at k i in
       ap (λ (a : StableProductFloatAcc). a .e) (represents-acc (mOf r k) (eOf r k) (getD (lanes 52 (map rateFactor xs)) k (unit 52)) s)
 
-  short-rates : (ys : List Float) → Each (Short 52 1024) (map rateFactor ys)
+  short-rates : (ys : List Float) → Each (Short 52 farthest) (map rateFactor ys)
   short-rates [] = none
   short-rates (y ∷ ys) = more (rate-short y) (short-rates ys)
 
-  pub fed-small : (n : ℕ) → 1025 * length xs ≤ n → SmallLanes n r
+  pub fed-small : (n : ℕ) → suc farthest * length xs ≤ n → SmallLanes n r
   fed-small n h = record { at = λ k. go k (ltb k 8) refl }
     where
       far : (k : ℕ) → 8 ≤ k → eOf r k ≡ pos 0
@@ -133,7 +133,7 @@ module _ (xs : List Float) (r : Lanes) (F : LanesAfter startLanes xs r) where
       go : (k : ℕ) (b : Bool) → ltb k 8 ≡ b → natAbs (eOf r k) ≤ n
       go k true e =
           subst (λ (z : ℤ). natAbs z ≤ n) (sym (lane-exponent k (ltb-true k 8 e)))
-          (le-trans (lane-size 52 1024 (short-rates xs) k) (subst (λ (m : ℕ). 1025 * m ≤ n) (sym (length-map xs rateFactor)) h))
+          (le-trans (lane-size 52 farthest (short-rates xs) k) (subst (λ (m : ℕ). suc farthest * m ≤ n) (sym (length-map xs rateFactor)) h))
       go k false e = subst (λ (z : ℤ). natAbs z ≤ n) (sym (far k (ltb-false k 8 e))) zero-le
 
   -- the lanes multiplied are the piece in blocks of 64
@@ -170,4 +170,4 @@ fed-worked false xs r F v e =
 
 -- the lanes of at most 2^40 values are far from the ends of i64
 pub vectors-small : (xs : List Float) (b d : ℤ) (n : ℕ) (s : Lanes) → n ≤ 2 ^ 40 → LanesAfter startLanes (strided xs b d n) s → SmallLanes (2 ^ 56) s
-vectors-small xs b d n s h F = fed-small (strided xs b d n) s F (2 ^ 56) (subst (λ (m : ℕ). 1025 * m ≤ 2 ^ 56) (sym (length-strided xs b d n)) (omega arith))
+vectors-small xs b d n s h F = fed-small (strided xs b d n) s F (2 ^ 56) (subst (λ (m : ℕ). suc farthest * m ≤ 2 ^ 56) (sym (length-strided xs b d n)) (omega arith))

@@ -3,6 +3,7 @@ pub mod Vectorwise
 pub mod Vectors
 pub mod Walks
 pub mod Squares
+pub mod Magnitudes
 pub mod Waits
 pub mod Waiting
 pub mod Chaining

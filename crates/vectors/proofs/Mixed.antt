@@ -1,4 +1,4 @@
--- At most 32 vectors, each multiplied unsplit or split by the test of its least square: either every lane waits for its factor and the mark is right, or a lane
+-- At most 32 vectors, each multiplied unsplit or split by the test of its least magnitude: either every lane waits for its factor and the mark is right, or a lane
 -- is an infinity or a NaN, which it stays. Where all vectors are split, the lanes stand for their factors. Assumes nothing.
 use Prim.Native.Nat.{ℕ, suc, _+_, _*_, _≤_, _<_, zero-le}
 use mathlib.Core.Path.{_≡_, refl, sym, ap, _∙_, subst}
@@ -13,24 +13,26 @@ use lib.Ieee.{Float}
 use Rattle.floats.specs.Product.{productOf}
 use Rattle.floats.specs.Factor.{Factor, unit}
 use Rattle.floats.specs.Splitting.{isBad, rateFactor, split}
+use Rattle.floats.proofs.Splitting.{farthest}
 use Rattle.kernels.specs.declared.lanes.Lanes.{Lanes}
 use Rattle.laws.specs.Lists.{Each}
 use Rattle.kernels.specs.Lanes.{feed, laneOf, every, some}
 use Rattle.kernels.specs.InnerPlain.{laneTimes}
 use Rattle.kernels.specs.Pieces.{GoodRate}
 use Rattle.kernels.specs.Blocks.{mOf, eOf, unsplitStep, splitStep, renorm}
-use Rattle.kernels.specs.InnerLanes.{SmallLanes, LanesRepresent, LanesAfter, zeros, plainAfter}
+use Rattle.kernels.specs.InnerLanes.{SmallLanes, NoneSubnormal, LanesRepresent, LanesAfter, zeros, plainAfter}
+use Rattle.floats.specs.InnerKinds.{isSubnormal}
 use Rattle.kernels.proofs.Feeding.{feed-related, feed-holds, feed-eights, some-append}
 use Rattle.kernels.proofs.Factors.{lane-lt, lane-again, times-again}
 use Rattle.kernels.proofs.LaneSizes.{Eight, lanes-le, unsplit-small, split-small, unsplit-eight, split-eight}
 use Rattle.kernels.proofs.Lanewise.{depth, lanes-widen}
 use Rattle.kernels.proofs.Stepwise.{unsplit-again}
-use Rattle.kernels.proofs.Standing.{represents-more, represents-rate}
+use Rattle.kernels.proofs.Standing.{represents-more, represents-other, represents-rate}
 use Rattle.kernels.specs.InnerLanes.{Represents}
 use Rattle.kernels.proofs.Blocking.{Value, rates-mark, lanes-append, split-more, renorm-represent, renorm-each, renorm-mark, split-mark, unsplit-mark}
 use Rattle.vectors.specs.InnerWaiting.{notPast, notLow, guarded}
 use Rattle.vectors.proofs.Vectorwise.{guarded-outside}
-use Rattle.vectors.proofs.Waits.{waits-more, waits-split, represents-waits, lanes-wait}
+use Rattle.vectors.proofs.Waits.{waits-more, waits-other, waits-split, represents-waits, lanes-wait}
 use Rattle.vectors.proofs.Waiting.{LostLane, lost-stays, Guarded, Out, value-out, fed-out, fed-lost, fed-good, hit-lost, none-lost}
 use Rattle.vectors.proofs.Lows.{Hit, vector-low}
 
@@ -57,14 +59,14 @@ split-lost = feed-holds splitStep (λ (s : Lanes). LostLane (s .m)) (λ i s x. l
 
 -- ---- values that are not
 module _ (i : ℕ) (s : Lanes) where
-  unsplit-out : (fs : List Factor) {xs : List Float} → Each (Guarded true 14) xs → i + length xs ≤ 512 → LanesOut i s fs
+  unsplit-out : (fs : List Factor) {xs : List Float} → Each (Guarded 14) xs → i + length xs ≤ 512 → LanesOut i s fs
       → LanesOut (i + length xs) (feed unsplitStep i s xs) (feed (laneTimes 52) i fs (map rateFactor xs))
   unfolding unsplitStep
-  unsplit-out = fed-out unsplitStep (λ (s : Lanes). s .m) (λ (s : Lanes). s .e) (λ i s x. refl) (λ i s x. refl) true 14 64 (lit≤ tt) (lit≤ tt) i s
+  unsplit-out = fed-out unsplitStep (λ (s : Lanes). s .m) (λ (s : Lanes). s .e) (λ i s x. refl) (λ i s x. refl) 14 64 (lit≤ tt) (lit≤ tt) i s
 
-  unsplit-good : {xs : List Float} → length (s .m) ≡ 8 → Each (Guarded true 14) xs → Each GoodRate xs ⊎ LostLane (feed unsplitStep i s xs .m)
+  unsplit-good : {xs : List Float} → length (s .m) ≡ 8 → Each (Guarded 14) xs → Each GoodRate xs ⊎ LostLane (feed unsplitStep i s xs .m)
   unfolding unsplitStep
-  unsplit-good = fed-good unsplitStep (λ (s : Lanes). s .m) (λ (s : Lanes). s .e) (λ i s x. refl) (λ i s x. refl) true 14 64 (lit≤ tt) (lit≤ tt) i s
+  unsplit-good = fed-good unsplitStep (λ (s : Lanes). s .m) (λ (s : Lanes). s .e) (λ i s x. refl) (λ i s x. refl) 14 64 (lit≤ tt) (lit≤ tt) i s
 
   unsplit-lost : (xs : List Float) → LostLane (s .m) → LostLane (feed unsplitStep i s xs .m)
   unfolding unsplitStep
@@ -98,10 +100,10 @@ module _ (all : Bool) (s : Lanes) (vector : List Float) where
   guarded-long : Eight s → Eight (guarded all s vector)
   guarded-long h = guarded-by Eight (λ a e. unsplit-eight 0 s vector h) (split-eight 0 s vector h)
 
-  guarded-small : (n : ℕ) → length vector ≡ 8 → SmallLanes n s → SmallLanes (n + 8192) (guarded all s vector)
+  guarded-small : (n : ℕ) → length vector ≡ 8 → SmallLanes n s → SmallLanes (n + 8 * farthest) (guarded all s vector)
   guarded-small n e h =
-      guarded-by (SmallLanes (n + 8192)) (λ a e. lanes-le n (n + 8192) (feed unsplitStep 0 s vector) (omega arith) (unsplit-small n 0 s vector h))
-      (lanes-le (n + 1024 * length vector) (n + 8192) (feed splitStep 0 s vector) (omega (arith, e)) (split-small n 0 s vector h))
+      guarded-by (SmallLanes (n + 8 * farthest)) (λ a e. lanes-le n (n + 8 * farthest) (feed unsplitStep 0 s vector) (omega arith) (unsplit-small n 0 s vector h))
+      (lanes-le (n + farthest * length vector) (n + 8 * farthest) (feed splitStep 0 s vector) (omega (arith, e)) (split-small n 0 s vector h))
 
   guarded-lost : LostLane (s .m) → LostLane (guarded all s vector .m)
   guarded-lost h = guarded-by (λ (t : Lanes). LostLane (t .m)) (λ a e. unsplit-lost 0 s vector h) (split-lost 0 s vector h)
@@ -135,7 +137,7 @@ module _ (i : ℕ) (t : Lanes) (gs : List Factor) (vector : List Float) (eight :
       guarded-by all t vector (λ (u : Lanes). LanesOut (8 * suc i) u (plainAfter gs vector)) (λ a e. low (vector-low vector eight v e))
       (shifted LanesOut splitStep split-again (feed-related splitStep (laneTimes 52) rateFactor Value LanesOut 512 split-out (8 * i) t gs v within h))
     where
-      low : Each (Guarded true 14) vector ⊎ Hit vector → LanesOut (8 * suc i) (feed unsplitStep 0 t vector) (plainAfter gs vector)
+      low : Each (Guarded 14) vector ⊎ Hit vector → LanesOut (8 * suc i) (feed unsplitStep 0 t vector) (plainAfter gs vector)
       low (inl g) = shifted LanesOut unsplitStep unsplit-again (unsplit-out (8 * i) t gs g within h)
       low (inr k) = inr (unsplit-hit 0 t vector long eight k)
 
@@ -148,7 +150,7 @@ module _ (i : ℕ) (t : Lanes) (gs : List Factor) (vector : List Float) (eight :
       good a (inl R) = inl (unsplit-mark 0 t vector ∙ rates-mark (t .bad) R)
       good a (inr k) = inr (k, a)
 
-      low : all ≡ false → Each (Guarded true 14) vector ⊎ Hit vector → Marked all t vector (feed unsplitStep 0 t vector)
+      low : all ≡ false → Each (Guarded 14) vector ⊎ Hit vector → Marked all t vector (feed unsplitStep 0 t vector)
       low a (inl g) = good a (unsplit-good 0 t long g)
       low a (inr k) = inr (unsplit-hit 0 t vector long eight k, a)
 
@@ -156,7 +158,7 @@ module _ (i : ℕ) (t : Lanes) (gs : List Factor) (vector : List Float) (eight :
 pub record Mixed (all : Bool) (n : ℕ) (s : Lanes) (xs : List Float) (i : ℕ) (t : Lanes) : Type 0 where
   pub long : length (t .m) ≡ 8
   pub count-is : length xs ≡ 8 * i
-  pub small : SmallLanes (n + 8192 * i) t
+  pub small : SmallLanes (n + 8 * farthest * i) t
   pub waits : (fs : List Factor) → LanesRepresent zeros s fs → LanesOut (8 * i) t (plainAfter fs xs)
   pub represent : all ≡ true → (fs : List Factor) → LanesRepresent zeros s fs → LanesRepresent (depth 1 (8 * i)) t (plainAfter fs xs)
   pub mark : Marked all s xs t
@@ -166,7 +168,7 @@ unfolding feed some
 mixed-none all n s l h = record {
   long = l;
   count-is = refl;
-  small = lanes-le n (n + 8192 * 0) s (omega arith) h;
+  small = lanes-le n (n + 8 * farthest * 0) s (omega arith) h;
   waits = λ fs H. inl (lanes-wait (depth 15 (8 * 0)) s fs H);
   represent = λ e fs H. lanes-widen Represents represents-more zeros (depth 1 (8 * 0)) (λ k a. zero-le) H;
   mark = inl (sym (or-false (s .bad)));
@@ -179,7 +181,7 @@ mixed-more all n s xs i t u vector R l e v g =
     (record {
       long = guarded-long all t vector (R .long);
       count-is = length-append xs vector ∙ (let a = R .count-is in let b = e in omega arith);
-      small = lanes-le (n + 8192 * i + 8192) (n + 8192 * suc i) (guarded all t vector) (omega arith) (guarded-small all t vector (n + 8192 * i) e (R .small));
+      small = lanes-le (n + 8 * farthest * i + 8 * farthest) (n + 8 * farthest * suc i) (guarded all t vector) (omega arith) (guarded-small all t vector (n + 8 * farthest * i) e (R .small));
       waits = λ fs H.
           subst (LanesOut (8 * suc i) (guarded all t vector)) (sym (whole fs)) (vector-out i t (plainAfter fs xs) vector e l v all (R .long) (R .waits fs H));
       represent = λ a fs H.
@@ -224,3 +226,18 @@ mixed-fed all n s xs i t R l e = go all refl e
       mark = λ fs H. marked (R .mark) (λ k f. true≢false (sym a ∙ f));
     }
     go false a p = record { represent = λ fs H. back p (plainAfter fs xs) (R .waits fs H); mark = λ fs H. marked (R .mark) (λ k f. none-lost (t .m) p k) }
+
+-- and until then no lane is subnormal
+pub mixed-whole : (all : Bool) (n : ℕ) (s : Lanes) (xs : List Float) (i : ℕ) (t : Lanes) → Mixed all n s xs i t → i ≤ 32 → (all || every notPast (t .m)) ≡ true
+    → (fs : List Factor) → LanesRepresent zeros s fs → NoneSubnormal t
+mixed-whole all n s xs i t R l e fs H k a = go all refl e
+  where
+    waits : every notPast (t .m) ≡ true → LanesOut (8 * i) t (plainAfter fs xs) → isSubnormal (mOf t k) ≡ false
+    waits p (inr q) = absurd (none-lost (t .m) p q)
+    waits p (inl w) = waits-other (depth 15 (8 * i) k) (mOf t k) (eOf t k) (getD (plainAfter fs xs) k (unit 52)) (w .at k a)
+
+    go : (b : Bool) → all ≡ b → (b || every notPast (t .m)) ≡ true → isSubnormal (mOf t k) ≡ false
+    go true b p =
+        represents-other (depth 1 (8 * i) k) (mOf t k) (eOf t k) (getD (plainAfter fs xs) k (unit 52)) (let h : depth 1 (8 * i) k ≤ 1022 = omega arith in h)
+        (R .represent b fs H .at k a)
+    go false b p = waits p (R .waits fs H)

@@ -11,7 +11,9 @@ use lib.IntN.{ℤ, pos, _+ℤ_, +ℤ-idl}
 use lib.Dec.{T}
 use lib.Ieee.{Float, binary64, fits}
 use Rattle.floats.specs.Factor.{Factor, unit}
+use Rattle.floats.specs.declared.Split.{Split}
 use Rattle.floats.specs.Splitting.{rateFactor, split}
+use Rattle.floats.specs.InnerKinds.{isSubnormal}
 use Rattle.floats.proofs.Overflow.{isLost}
 use Rattle.accumulator.specs.declared.StableProductFloatAcc.{StableProductFloatAcc}
 use Rattle.laws.specs.Lists.{Each, none, more}
@@ -28,7 +30,7 @@ use Rattle.kernels.proofs.Blocking.{Value, rates-good, represent-start, contigu
 use Rattle.vectors.specs.InnerWaiting.{one, padded, startWaiting, waitStep, leastOf, notBelow, notPast, chained}
 use Rattle.vectors.specs.declared.vector.Waiting.{Waiting}
 use Rattle.vectors.specs.InnerShort.{ShortLeast}
-use Rattle.vectors.proofs.Waits.{Waits, waits-more, waits-split}
+use Rattle.vectors.proofs.Waits.{Waits, waits-more, waits-other, waits-split}
 use Rattle.vectors.proofs.Waiting.{LostLane, Out, past-lost}
 use Rattle.kernels.proofs.Stepping.{times-in}
 use Rattle.vectors.proofs.Chaining.{chain-waits, chain-lost}
@@ -50,16 +52,18 @@ front [] ys e = none
 front (x ∷ xs) ys (more p ps) = more p (front xs ys ps)
 
 -- ---- a piece whose values lie from 2^-(k + 1) on, in n vectors
-module _ (signs : Bool) (k n : ℕ) (few : k ≤ 510) (room : 8 * (suc k * n) ≤ 1022) (xs : List Float) (v : Each Value xs) (short : length xs ≤ 8 * n) where
+module _ (signs : Bool) (k n : ℕ) (few : k ≤ 510) (room : 8 * (suc k * n) ≤ 1022) (xs : List Float) (v : Each Value xs) (short : length xs ≤ 8 * n) (q : Split)
+    (fields : isSubnormal (chained (feed (waitStep signs) 0 (startWaiting (replicate 8 one)) (padded xs) .m)) ≡ false
+    → q ≡ split (chained (feed (waitStep signs) 0 (startWaiting (replicate 8 one)) (padded xs) .m))) where
   abbrev lanes-of : List Float
   lanes-of = feed (waitStep signs) 0 (startWaiting (replicate 8 one)) (padded xs) .m
 
   abbrev p : Float
   p = chained lanes-of
 
-  -- the product, brought back, is the piece's
+  -- the product, brought back by its fields, is the piece's
   abbrev ShortLanes : Type 0
-  ShortLanes = _≡_ {A = StableProductFloatAcc} (record { m = split p .m; e = split p .e; bad = false }) (contiguous xs)
+  ShortLanes = _≡_ {A = StableProductFloatAcc} (record { m = q .m; e = q .e; bad = false }) (contiguous xs)
 
   padded-long : length (padded xs) ≤ 8 * n
   padded-long = simp (length-append, length-replicate) (omega arith)
@@ -102,7 +106,8 @@ module _ (signs : Bool) (k n : ℕ) (few : k ≤ 510) (room : 8 * (suc k * n) �
 
       stood : Each GoodRate (padded xs) → Waits deep p (pos 0) (pieceProduct 52 (map rateFactor xs)) → ShortLanes
       stood R W =
-          ap (λ (z : ℤ). record { m = split p .m; e = z; bad = false }) (sym (+ℤ-idl (split p .e)))
+          ap (λ (z : Split). record { m = z .m; e = z .e; bad = false }) (fields (waits-other deep p (pos 0) (pieceProduct 52 (map rateFactor xs)) W))
+          ∙ ap (λ (z : ℤ). record { m = split p .m; e = z; bad = false }) (sym (+ℤ-idl (split p .e)))
           ∙ represents-acc (split p .m) (pos 0 +ℤ split p .e) (pieceProduct 52 (map rateFactor xs))
           (waits-split deep p (pos 0) (pieceProduct 52 (map rateFactor xs)) W)
           ∙ ap (λ (c : Bool). record { m = accOf (pieceProduct 52 (map rateFactor xs)) .m; e = pieceProduct 52 (map rateFactor xs) .exp; bad = c })
@@ -124,14 +129,14 @@ module _ (signs : Bool) (k n : ℕ) (few : k ≤ 510) (room : 8 * (suc k * n) �
 
 -- ---- by the number of values
 module _ (signs : Bool) (xs : List Float) (v : Each Value xs) (least : Float) (L : ShortLeast signs (length xs) least) (w : Waiting)
-    (waited : w ≡ feed (waitStep signs) 0 (startWaiting (replicate 8 one)) (padded xs)) where
+    (waited : w ≡ feed (waitStep signs) 0 (startWaiting (replicate 8 one)) (padded xs)) (q : Split)
+    (fields : isSubnormal (chained (w .m)) ≡ false → q ≡ split (chained (w .m))) where
   by-depth : (d : ℕ) → 1 ≤ d → d ≤ 120 → d * ((length xs + 7) / 8) ≤ 120 → every (notBelow (leastOf signs d)) (w .least) ≡ true
-      → notPast (chained (w .m)) ≡ true → let q = split (chained (w .m)) in
-      _≡_ {A = StableProductFloatAcc} (record { m = q .m; e = q .e; bad = false }) (contiguous xs)
+      → notPast (chained (w .m)) ≡ true → _≡_ {A = StableProductFloatAcc} (record { m = q .m; e = q .e; bad = false }) (contiguous xs)
   by-depth zero some few room b p = absurd (omega arith)
   by-depth (suc k) some few room b p =
-      ap (λ (u : Waiting). let q = split (chained (u .m)) in record { m = q .m; e = q .e; bad = false }) waited
-      ∙ short-contiguous signs k ((length xs + 7) / 8) (omega arith) (eight (suc k * ((length xs + 7) / 8)) room) xs v (omega arith)
+      short-contiguous signs k ((length xs + 7) / 8) (omega arith) (eight (suc k * ((length xs + 7) / 8)) room) xs v (omega arith) q
+      (subst (λ (u : Waiting). isSubnormal (chained (u .m)) ≡ false → q ≡ split (chained (u .m))) waited fields)
       (ap (λ (u : Waiting). every (notBelow (leastOf signs (suc k))) (u .least)) (sym waited) ∙ b)
       (ap (λ (u : Waiting). notPast (chained (u .m))) (sym waited) ∙ p)
     where
@@ -139,5 +144,5 @@ module _ (signs : Bool) (xs : List Float) (v : Each Value xs) (least : Float) (L
       eight m h = omega arith
 
   pub short-product : every (notBelow least) (w .least) ≡ true → notPast (chained (w .m)) ≡ true
-      → let q = split (chained (w .m)) in _≡_ {A = StableProductFloatAcc} (record { m = q .m; e = q .e; bad = false }) (contiguous xs)
+      → _≡_ {A = StableProductFloatAcc} (record { m = q .m; e = q .e; bad = false }) (contiguous xs)
   short-product b p = by-depth (L .depth) (L .some) (L .few) (L .room) (ap (λ (z : Float). every (notBelow z) (w .least)) (sym (L .is)) ∙ b) p

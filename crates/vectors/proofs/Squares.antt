@@ -106,7 +106,7 @@ module _ (k : ℕ) (few : k ≤ 510) where
     where
       go : (b : Bool) → leb (down e) (m * up e * 2 ^ suc k) ≡ b
           → (isLost (fin s m e) ≡ true) ⊎ ((isBad (fin s m e) ≡ false) × (leZ (negsuc k) (rateFactor (fin s m e) .exp) ≡ true))
-      go true q = let g = reaching-good (suc k) (omega arith) (fin s m e) f q in inr (g, reaching-exponent k (fin s m e) f g q)
+      go true q = inr (reaching-good (suc k) (omega arith) (fin s m e) f q, reaching-exponent k (fin s m e) (omega arith) f q)
       go false q =
           absurd
           (low-less

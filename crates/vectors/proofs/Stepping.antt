@@ -1,6 +1,6 @@
 -- The steps of a piece: vectors that are guarded, vectors that waited, and one step after another. Assumes nothing.
 use Prim.Native.Nat.{ℕ, suc, _+_, _-_, _*_, _/_, _%_, _^_, _≤_, _<_, min}
-use mathlib.Core.Path.{_≡_, refl, sym, ap, _∙_, subst}
+use mathlib.Core.Path.{_≡_, refl, sym, _∙_, subst}
 use mathlib.Core.Bool.{Bool, true, false, _||_}
 use mathlib.Core.List.{List, [], _++_}
 use native.Mathlib.Nat.{le-refl, le-of-lt}
@@ -10,11 +10,14 @@ use lib.IntN.{ℤ, pos, _+ℤ_, _*ℤ_}
 use lib.Dec.{T, ltb, lit≤}
 use lib.Ieee.{Float, nan, binary64, fits}
 use borrow.Author.Tests.{ltb-true, ltb-false}
+use Rattle.floats.proofs.Splitting.{farthest}
 use Rattle.kernels.specs.declared.lanes.Lanes.{Lanes}
 use Rattle.laws.specs.Lists.{Each}
 use Rattle.kernels.specs.Lanes.{every}
 use Rattle.kernels.specs.InnerStrided.{strided}
-use Rattle.kernels.specs.Blocks.{startLanes, renorm}
+use Rattle.floats.specs.Factor.{unit}
+use Rattle.kernels.specs.Blocks.{startLanes, mOf, eOf, renorm}
+use Rattle.kernels.proofs.Standing.{represents-other}
 use Rattle.kernels.specs.InnerLanes.{SmallLanes, LanesAfter, plainAfter}
 use Rattle.kernels.proofs.Striding.{length-strided, strided-values, strided-append}
 use Rattle.kernels.proofs.LaneSizes.{lanes-le}
@@ -22,14 +25,14 @@ use Rattle.kernels.proofs.Blocking.{Value, renorm-represent, renorm-mark}
 use Rattle.vectors.specs.InnerWaiting.{vectorOf, padded, notPast, guarded}
 use Rattle.vectors.specs.InnerSteps.{NotYetNormalised}
 use Rattle.vectors.proofs.Vectors.{vector-padded, vector-long, next-whole, next-last}
-use Rattle.vectors.proofs.Mixed.{Mixed, mixed-none, mixed-more, mixed-fed}
+use Rattle.vectors.proofs.Mixed.{Mixed, mixed-none, mixed-more, mixed-fed, mixed-whole}
 use Rattle.vectors.proofs.Feds.{fed-append, fed-pad, fed-none}
 use Rattle.vectors.proofs.Shorts.{padded-values}
 
 -- ---- vectors of a piece of n values, the last with 1.0 after its values
 pub record Vectors (all : Bool) (N : ℕ) (s : Lanes) (xs : List Float) (b d : ℤ) (n i : ℕ) (t : Lanes) : Type 0 where
   pub long : length (t .m) ≡ 8
-  pub small : SmallLanes (N + 8192 * i) t
+  pub small : SmallLanes (N + 8 * farthest * i) t
   pub whole : 8 * i ≤ n → Mixed all N s (strided xs b d (8 * i)) i t
   pub last : n < 8 * i → Mixed all N s (padded (strided xs b d n)) i t
 
@@ -73,7 +76,8 @@ module _ (all : Bool) (N : ℕ) (s : Lanes) (xs : List Float) (b d : ℤ) (n : �
           record {
             fed = fed-pad s (renorm t) (strided xs b d n) (7 - (length (strided xs b d n) + 7) % 8)
                 (mixed-fed all N s (padded (strided xs b d n)) i t r few ok);
-            small = lanes-le (N + 8192 * i) (2 ^ 59) t (omega arith) (R .small);
+            small = lanes-le (N + 8 * farthest * i) (2 ^ 59) t (omega arith) (R .small);
+            whole = mixed-whole all N s (padded (strided xs b d n)) i t r few ok;
           }
       go false e =
           let same : 8 * i ≡ n = (let a = ltb-false n (8 * i) e in omega arith) in
@@ -81,7 +85,8 @@ module _ (all : Bool) (N : ℕ) (s : Lanes) (xs : List Float) (b d : ℤ) (n : �
           record {
             fed = subst (λ (k : ℕ). LanesAfter s (strided xs b d k) (renorm t)) same
                 (mixed-fed all N s (strided xs b d (8 * i)) i t r few ok);
-            small = lanes-le (N + 8192 * i) (2 ^ 59) t (omega arith) (R .small);
+            small = lanes-le (N + 8 * farthest * i) (2 ^ 59) t (omega arith) (R .small);
+            whole = mixed-whole all N s (strided xs b d (8 * i)) i t r few ok;
           }
 
 -- ---- one step after another: i values are whole vectors
@@ -100,4 +105,5 @@ unmoved s h = record {
     mark = λ fs H. renorm-mark s ∙ fed-none s .mark fs H;
   };
   small = lanes-le (2 ^ 56) (2 ^ 59) s (lit≤ tt) h;
+  whole = λ fs H k i. represents-other 0 (mOf s k) (eOf s k) (getD fs k (unit 52)) (lit≤ tt) (H .at k i);
 }

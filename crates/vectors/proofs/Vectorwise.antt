@@ -25,7 +25,7 @@ use Rattle.kernels.proofs.Feeding.{feed-append}
 use Rattle.kernels.proofs.Striding.{length-strided, first-natural, first-below, strided-append, inside-part}
 use Rattle.vectors.specs.declared.vector.Waiting.{Waiting}
 use Rattle.vectors.specs.InnerWaiting.{vectorOf, put, lesser, measure, waitStep, leastOf, notBelow, MOST, notPast, guarded}
-use Rattle.vectors.specs.InnerWaiting.{square, squareAt, leastSquare, notLow}
+use Rattle.vectors.specs.InnerWaiting.{magnitude, magnitudeAt, leastMagnitude, notLow, LOWEST}
 
 module _ (len : ℕ) (s t : ℤ) (n : ℕ) (h : PlacesInside len s t n) (a : ℕ) (l : a < n) (m : len < 2 ^ 63) where
   -- a place, in i64
@@ -65,31 +65,58 @@ lesser-first x y h = sym (ap (λ (t : Bool). cond t x y) h)
 pub lesser-second : (x y : Float) → lt x y ≡ false → y ≡ lesser x y
 lesser-second x y h = sym (ap (λ (t : Bool). cond t x y) h)
 
-pub lesser-squares : (x y r : Float) → r ≡ lesser (mul binary64 x x) (mul binary64 y y) → r ≡ lesser (square x) (square y)
-lesser-squares x y r e = e ∙ ap (λ (z : Float). lesser z (mul binary64 y y)) (mul-binary64 x x) ∙ ap (lesser (square x)) (mul-binary64 y y)
+pub magnitude-minus : (x : Float) → lt x (neg x) ≡ true → neg x ≡ magnitude x
+magnitude-minus x h = sym (ap (λ (t : Bool). cond t (neg x) x) h)
+
+pub magnitude-plus : (x : Float) → lt x (neg x) ≡ false → x ≡ magnitude x
+magnitude-plus x h = sym (ap (λ (t : Bool). cond t (neg x) x) h)
+
+pub lesser-magnitudes : (x y a b r : Float) → a ≡ magnitude x → b ≡ magnitude y → r ≡ lesser a b → r ≡ lesser (magnitude x) (magnitude y)
+lesser-magnitudes x y a b r p q e = e ∙ ap (λ (z : Float). lesser z b) p ∙ ap (lesser (magnitude x)) q
 
 -- two and two of a vector
-pub least-tree : (vector : List Float) (a b c d p q r : Float) → a ≡ lesser (squareAt vector 0) (squareAt vector 4)
-    → b ≡ lesser (squareAt vector 1) (squareAt vector 5) → c ≡ lesser (squareAt vector 2) (squareAt vector 6)
-    → d ≡ lesser (squareAt vector 3) (squareAt vector 7) → p ≡ lesser a c → q ≡ lesser b d → r ≡ lesser p q → r ≡ leastSquare vector
-unfolding leastSquare
+pub least-tree : (vector : List Float) (a b c d p q r : Float) → a ≡ lesser (magnitudeAt vector 0) (magnitudeAt vector 4)
+    → b ≡ lesser (magnitudeAt vector 1) (magnitudeAt vector 5) → c ≡ lesser (magnitudeAt vector 2) (magnitudeAt vector 6)
+    → d ≡ lesser (magnitudeAt vector 3) (magnitudeAt vector 7) → p ≡ lesser a c → q ≡ lesser b d → r ≡ lesser p q → r ≡ leastMagnitude vector
+unfolding leastMagnitude
 least-tree vector a b c d p q r A B C D P Q R =
     R
-    ∙ ap (λ (z : Float). lesser z q) (P ∙ ap (λ (z : Float). lesser z c) A ∙ ap (lesser (lesser (squareAt vector 0) (squareAt vector 4))) C)
-    ∙ ap (lesser (lesser (lesser (squareAt vector 0) (squareAt vector 4)) (lesser (squareAt vector 2) (squareAt vector 6))))
-    (Q ∙ ap (λ (z : Float). lesser z d) B ∙ ap (lesser (lesser (squareAt vector 1) (squareAt vector 5))) D)
+    ∙ ap (λ (z : Float). lesser z q) (P ∙ ap (λ (z : Float). lesser z c) A ∙ ap (lesser (lesser (magnitudeAt vector 0) (magnitudeAt vector 4))) C)
+    ∙ ap (lesser (lesser (lesser (magnitudeAt vector 0) (magnitudeAt vector 4)) (lesser (magnitudeAt vector 2) (magnitudeAt vector 6))))
+    (Q ∙ ap (λ (z : Float). lesser z d) B ∙ ap (lesser (lesser (magnitudeAt vector 1) (magnitudeAt vector 5))) D)
 
 -- the constants of the code
-least-is : ofBits binary64 4476578029606273024 ≡ leastOf true 15
+least-is : ofBits binary64 4539628424389459968 ≡ leastOf false 15
 unfolding ofBits
 least-is = refl
+
+twice-is : ofBits binary64 9007199254740992 ≡ leastOf false 1021
+unfolding ofBits
+twice-is = refl
+
+positive-is : ofBits binary64 1 ≡ leastOf false 1074
+unfolding ofBits
+positive-is = refl
+
+lowest-is : ofBits binary64 4503599627370496 ≡ LOWEST
+unfolding ofBits
+lowest-is = refl
 
 most-is : ofBits binary64 9110782046170513408 ≡ MOST
 unfolding ofBits
 most-is = refl
 
-pub below-test : (x : Float) → le (ofBits binary64 4476578029606273024) x ≡ notBelow (leastOf true 15) x
+pub below-test : (x : Float) → le (ofBits binary64 4539628424389459968) x ≡ notBelow (leastOf false 15) x
 below-test x = ap (λ (l : Float). le l x) least-is
+
+pub twice-test : (x : Float) → le (ofBits binary64 9007199254740992) x ≡ notBelow (leastOf false 1021) x
+twice-test x = ap (λ (l : Float). le l x) twice-is
+
+pub positive-test : (x : Float) → le (ofBits binary64 1) x ≡ notBelow (leastOf false 1074) x
+positive-test x = ap (λ (l : Float). le l x) positive-is
+
+pub lowest-test : (x : Float) → lt x (ofBits binary64 4503599627370496) ≡ lt x LOWEST
+lowest-test x = ap (lt x) lowest-is
 
 pub past-test : (x : Float) → (le x (ofBits binary64 9110782046170513408) && le (neg (ofBits binary64 9110782046170513408)) x) ≡ notPast x
 past-test x = ap (λ (h : Float). le x h && le (neg h) x) most-is

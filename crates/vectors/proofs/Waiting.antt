@@ -7,14 +7,13 @@ use mathlib.Core.List.{List, [], _∷_, map}
 use mathlib.Core.Logic.{_⊎_, inl, inr}
 use native.Mathlib.Omega.{arith}
 use lib.ListN.{length, getD, set, length-set}
-use lib.IntN.{ℤ, pos, negsuc, _+ℤ_}
-use lib.Signed.{leZ}
+use lib.IntN.{ℤ, pos, _+ℤ_}
 use lib.Dec.{T}
 use lib.Ieee.{Float, nan, inf, fin, binary64, fits, isNan, le, neg}
 use Rattle.laws.proofs.Tests.{and-both}
 use Rattle.floats.specs.Product.{productOf}
 use Rattle.floats.specs.Factor.{Factor, unit, times}
-use Rattle.floats.specs.Splitting.{isBad, rateFactor}
+use Rattle.floats.specs.Splitting.{rateFactor}
 use Rattle.floats.proofs.Overflow.{isLost, lost-product, lost-factor}
 use Rattle.laws.specs.Lists.{Each, none, more}
 use Rattle.kernels.specs.Lanes.{feed, laneOf, every}
@@ -23,7 +22,7 @@ use Rattle.kernels.specs.Pieces.{GoodRate}
 use Rattle.kernels.proofs.Feeding.{feed-holds, feed-related}
 use Rattle.kernels.proofs.Factors.{lane-lt, set-cases}
 use Rattle.kernels.proofs.Lanewise.{depth, turn-small, lanes-turn, exponents-same}
-use Rattle.kernels.proofs.Least.{least-value, least-lesser}
+use Rattle.kernels.proofs.Least.{Reached, least-value, least-lesser}
 use Rattle.vectors.specs.declared.vector.Waiting.{Waiting}
 use Rattle.vectors.specs.InnerWaiting.{measure, lesser, waitStep, leastOf, notBelow, notPast}
 use Rattle.vectors.proofs.Squares.{square-least, square-nan}
@@ -60,33 +59,34 @@ module _ (ms : List Float) (j : ℕ) (J : j < 8) where
       }
 
 -- ---- one value, from 2^-(k + 1) on
--- its measure is not below the least, or a NaN
-pub record Guarded (signs : Bool) (k : ℕ) (x : Float) : Type 0 where
+pub record Guarded (k : ℕ) (x : Float) : Type 0 where
   pub value : T (fits binary64 x)
-  pub from : (notBelow (leastOf signs (suc k)) (measure signs x) ≡ true) ⊎ (isNan (measure signs x) ≡ true)
+  pub from : Reached k x
 
 -- a NaN and an infinity are lost; any other is a rate that waits
 abbrev Good : ℕ → Float → Type 0
 Good k x = GoodRate x × Waits (suc k) x (pos 0) (rateFactor x)
 
-nan-lost : (x : Float) → isNan x ≡ true → isLost x ≡ true
+pub nan-lost : (x : Float) → isNan x ≡ true → isLost x ≡ true
 unfolding isNan
 nan-lost nan h = refl
 nan-lost (inf s) h = refl
 nan-lost (fin s m e) h = absurd (true≢false (sym h))
 
-guard-cases : (signs : Bool) (k : ℕ) → k ≤ 510 → (x : Float) → Guarded signs k x → Good k x ⊎ (isLost x ≡ true)
-guard-cases signs k few x g = go signs (g .from)
+guard-cases : (k : ℕ) → k ≤ 510 → (x : Float) → Guarded k x → Good k x ⊎ (isLost x ≡ true)
+guard-cases k few x g = go (g .from)
   where
-    good : (isLost x ≡ true) ⊎ ((isBad x ≡ false) × (leZ (negsuc k) (rateFactor x .exp) ≡ true)) → Good k x ⊎ (isLost x ≡ true)
-    good (inl e) = inr e
-    good (inr p) = inl (record { value = g .value; good = p .0 }, waits-rate k x (g .value) (p .0) (p .1))
+    go : Reached k x → Good k x ⊎ (isLost x ≡ true)
+    go (inl e) = inr e
+    go (inr p) = inl (record { value = g .value; good = p .0 }, waits-rate k x (omega arith) (g .value) (p .0) (p .1))
 
-    go : (b : Bool) → (notBelow (leastOf b (suc k)) (measure b x) ≡ true) ⊎ (isNan (measure b x) ≡ true) → Good k x ⊎ (isLost x ≡ true)
-    go true (inl h) = good (square-least k few x (g .value) h)
-    go true (inr h) = inr (square-nan x h)
-    go false (inl h) = good (least-value k (omega arith) x (g .value) h)
-    go false (inr h) = inr (nan-lost x h)
+-- by a measure that is not below the least, or a NaN
+measured : (signs : Bool) (k : ℕ) → k ≤ 510 → (x : Float) → T (fits binary64 x)
+    → (notBelow (leastOf signs (suc k)) (measure signs x) ≡ true) ⊎ (isNan (measure signs x) ≡ true) → Reached k x
+measured true k few x v (inl h) = square-least k few x v h
+measured true k few x v (inr h) = inl (square-nan x h)
+measured false k few x v (inl h) = least-value k (omega arith) x v h
+measured false k few x v (inr h) = inl (nan-lost x h)
 
 -- the lanes after i values
 abbrev pub Out : ℕ → ℕ → List Float → List ℤ → List Factor → Type 0
@@ -141,12 +141,12 @@ module _ {S : Type 0} (step : ℕ → S → Float → S) (m : S → List Float) 
   hit-lost i s (x ∷ xs) (suc k) l h b = hit-lost (suc i) (step i s x) xs k (step-long i s x l) (omega arith) b
 
   -- ---- values from 2^-(k + 1) on, n to a lane
-  module _ (signs : Bool) (k n : ℕ) (few : k ≤ 510) (room : suc k * n ≤ 1022) where
+  module _ (k n : ℕ) (few : k ≤ 510) (room : suc k * n ≤ 1022) where
     -- no value is bad, or a lane is lost
-    pub fed-good : (i : ℕ) (s : S) {xs : List Float} → length (m s) ≡ 8 → Each (Guarded signs k) xs → Each GoodRate xs ⊎ LostLane (m (feed step i s xs))
+    pub fed-good : (i : ℕ) (s : S) {xs : List Float} → length (m s) ≡ 8 → Each (Guarded k) xs → Each GoodRate xs ⊎ LostLane (m (feed step i s xs))
     unfolding feed
     fed-good i s l none = inl none
-    fed-good i s l (more {x = x} {xs = xs} g gs) = go (guard-cases signs k few x g) (fed-good (suc i) (step i s x) (step-long i s x l) gs)
+    fed-good i s l (more {x = x} {xs = xs} g gs) = go (guard-cases k few x g) (fed-good (suc i) (step i s x) (step-long i s x l) gs)
       where
         go : Good k x ⊎ (isLost x ≡ true) → Each GoodRate xs ⊎ LostLane (m (feed step (suc i) (step i s x) xs))
             → Each GoodRate (x ∷ xs) ⊎ LostLane (m (feed step (suc i) (step i s x) xs))
@@ -154,10 +154,10 @@ module _ {S : Type 0} (step : ℕ → S → Float → S) (m : S → List Float) 
         go (inl p) (inr r) = inr r
         go (inr b) r = inr (fed-lost (suc i) (step i s x) xs (value-lost i s x l b))
 
-    step-out : (i : ℕ) (s : S) (fs : List Factor) (x : Float) → i < 8 * n → Guarded signs k x → Out (suc k) i (m s) (e s) fs
+    step-out : (i : ℕ) (s : S) (fs : List Factor) (x : Float) → i < 8 * n → Guarded k x → Out (suc k) i (m s) (e s) fs
         → Out (suc k) (suc i) (m (step i s x)) (e (step i s x)) (laneTimes 52 i fs (rateFactor x))
     step-out i s fs x l g (inr p) = inr (step-lost i s x p)
-    step-out i s fs x l g (inl h) = go (guard-cases signs k few x g)
+    step-out i s fs x l g (inl h) = go (guard-cases k few x g)
       where
         go : Good k x ⊎ (isLost x ≡ true) → Out (suc k) (suc i) (m (step i s x)) (e (step i s x)) (laneTimes 52 i fs (rateFactor x))
         go (inr b) = inr (value-lost i s x (h .m-long) b)
@@ -168,9 +168,9 @@ module _ {S : Type 0} (step : ℕ → S → Float → S) (m : S → List Float) 
             (λ (es : List ℤ). Out (suc k) (suc i) (set (m s) (laneOf i) (productOf 11 52 (getD (m s) (laneOf i) nan) x)) es (laneTimes 52 i fs (rateFactor x)))
             (exponents-same (e s) (laneOf i)) (value-out (suc k) n room i (m s) (e s) fs x (pos 0) (rateFactor x) l (p .1) h)))
 
-    pub fed-out : (i : ℕ) (s : S) (fs : List Factor) {xs : List Float} → Each (Guarded signs k) xs → i + length xs ≤ 8 * n → Out (suc k) i (m s) (e s) fs
+    pub fed-out : (i : ℕ) (s : S) (fs : List Factor) {xs : List Float} → Each (Guarded k) xs → i + length xs ≤ 8 * n → Out (suc k) i (m s) (e s) fs
         → Out (suc k) (i + length xs) (m (feed step i s xs)) (e (feed step i s xs)) (feed (laneTimes 52) i fs (map rateFactor xs))
-    fed-out = feed-related step (laneTimes 52) rateFactor (Guarded signs k) (λ (i : ℕ) (s : S). Out (suc k) i (m s) (e s)) (8 * n) step-out
+    fed-out = feed-related step (laneTimes 52) rateFactor (Guarded k) (λ (i : ℕ) (s : S). Out (suc k) i (m s) (e s)) (8 * n) step-out
 
 -- ---- the tests
 every-set : {A : Type 0} (p : A → Bool) (l : List A) (k : ℕ) (y d : A) → k < length l → every p (set l k y) ≡ true
@@ -183,26 +183,26 @@ every-set p (x ∷ l) (suc k) y d h e =
     let r = every-set p l k y d (omega arith) (b .1) in
     (r .0, λ q. ap (λ (t : Bool). t && every p l) (b .0) ∙ r .1 q)
 
-every-at : {A : Type 0} (p : A → Bool) (l : List A) (k : ℕ) (d : A) → k < length l → every p l ≡ true → p (getD l k d) ≡ true
+pub every-at : {A : Type 0} (p : A → Bool) (l : List A) (k : ℕ) (d : A) → k < length l → every p l ≡ true → p (getD l k d) ≡ true
 unfolding every
 every-at p [] k d h e = absurd (omega arith)
 every-at p (x ∷ l) zero d h e = and-both (p x) (every p l) e .0
 every-at p (x ∷ l) (suc k) d h e = every-at p l k d (omega arith) (and-both (p x) (every p l) e .1)
 
 -- if no lane's least is below the bound at the end, each measure passed, and none was below at the start
-pub guards : (signs : Bool) (k i : ℕ) (w : Waiting) {xs : List Float} → Each (λ (x : Float). T (fits binary64 x)) xs → length (w .least) ≡ 8
+pub guards : (signs : Bool) (k : ℕ) → k ≤ 510 → (i : ℕ) (w : Waiting) {xs : List Float} → Each (λ (x : Float). T (fits binary64 x)) xs → length (w .least) ≡ 8
     → every (notBelow (leastOf signs (suc k))) (feed (waitStep signs) i w xs .least) ≡ true
-    → (every (notBelow (leastOf signs (suc k))) (w .least) ≡ true) × Each (Guarded signs k) xs
+    → (every (notBelow (leastOf signs (suc k))) (w .least) ≡ true) × Each (Guarded k) xs
 unfolding feed waitStep
-guards signs k i w none h e = (e, none)
-guards signs k i w (more {x = x} {xs = xs} v vs) h e =
+guards signs k few i w none h e = (e, none)
+guards signs k few i w (more {x = x} {xs = xs} v vs) h e =
     let j = laneOf i in
     let a = getD (w .least) j nan in
     let y = lesser (measure signs x) a in
-    let r = guards signs k (suc i) (waitStep signs i w x) vs (length-set (w .least) j y ∙ h) e in
+    let r = guards signs k few (suc i) (waitStep signs i w x) vs (length-set (w .least) j y ∙ h) e in
     let s = every-set (notBelow (leastOf signs (suc k))) (w .least) j y nan (subst (λ (n : ℕ). j < n) (sym h) (lane-lt i)) (r .0) in
     let b = least-lesser (cond signs (k + k) k) (measure signs x) a (s .0) in
-    (s .1 (b .0), more (record { value = v; from = b .1 }) (r .1))
+    (s .1 (b .0), more (record { value = v; from = measured signs k few x v (b .1) }) (r .1))
 
 -- what is not past 2^1000 is a number
 pub past-lost : (x : Float) → notPast x ≡ true → isLost x ≡ true → ⊥

@@ -17,11 +17,12 @@ use Rattle.floats.specs.Product.{productOf}
 use Rattle.floats.specs.Factor.{Factor, Normalised, NormalExponent, carry, times, floatOf}
 use Rattle.floats.specs.Magnitude.{withExponent}
 use Rattle.floats.specs.Splitting.{isBad, rateFactor, split}
+use Rattle.floats.specs.InnerKinds.{isSubnormal}
 use Rattle.floats.proofs.Factor.{factor-same, times-normal}
 use Rattle.floats.proofs.Bridge.{product-times}
 use Rattle.floats.proofs.Magnitude.{moved-normal}
 use Rattle.floats.proofs.Overflow.{isLost, product-above}
-use Rattle.floats.proofs.Splitting.{rate-normal, rate-range, rate-float}
+use Rattle.floats.proofs.Splitting.{rate-normal, rate-range, rate-float, high-rate, float-other}
 use Rattle.kernels.specs.declared.lanes.Lanes.{Lanes}
 use Rattle.kernels.specs.InnerLanes.{Represents, LanesAre, LanesRepresent, zeros}
 use Rattle.kernels.proofs.Lanewise.{lanes-map}
@@ -117,11 +118,11 @@ module _ (n l : ℕ) (m x : Float) (e d : ℤ) (f g : Factor) (F : Waits n m e f
 low-place : (e : ℤ) (p k : ℕ) → e +ℤ pos 1022 ≡ pos p → leZ (negsuc k) e ≡ true → 1022 ≤ p + suc k
 low-place e p k = simp ints (simp atoms (omega arith))
 
-pub waits-rate : (k : ℕ) (x : Float) → T (fits binary64 x) → isBad x ≡ false → leZ (negsuc k) (rateFactor x .exp) ≡ true
+pub waits-rate : (k : ℕ) (x : Float) → k ≤ 1021 → T (fits binary64 x) → isBad x ≡ false → leZ (negsuc k) (rateFactor x .exp) ≡ true
     → Waits (suc k) x (pos 0) (rateFactor x)
-waits-rate k x v h l =
+waits-rate k x few v h l =
     let f = rateFactor x in
-    let R = rate-range x h in
+    let R = rate-range x (high-rate k x few h l) in
     record {
       off = f .exp;
       range = record { place = R .place; above = R .above; below = R .below };
@@ -146,6 +147,10 @@ represents-waits m e f s =
 
 pub lanes-wait : (b : ℕ → ℕ) (s : Lanes) (fs : List Factor) → LanesRepresent zeros s fs → WaitLanes b (s .m) (s .e) fs
 lanes-wait b s fs = lanes-map Represents Waits zeros b (λ k i m e f S. waits-more 0 (b k) m e f zero-le (represents-waits m e f S))
+
+-- a lane that waits is normal
+pub waits-other : (n : ℕ) (m : Float) (e : ℤ) (f : Factor) → Waits n m e f → isSubnormal m ≡ false
+waits-other n m e f w = ap isSubnormal (w .m-is) ∙ float-other (withExponent f (w .off)) (moved-normal 52 f (w .off) (w .normal)) (w .range)
 
 pub waits-split : (n : ℕ) (m : Float) (e : ℤ) (f : Factor) → Waits n m e f → Represents 0 (split m .m) (e +ℤ split m .e) f
 waits-split n m e f w = range-split m e f (w .off) (w .range) (w .m-is) (w .e-is) (w .normal)

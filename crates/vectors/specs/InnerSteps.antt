@@ -6,13 +6,15 @@ use mathlib.Core.List.{List}
 use lib.Ieee.{Float}
 use Rattle.kernels.specs.declared.lanes.Lanes.{Lanes}
 use Rattle.vectors.specs.declared.feeding.Try.{Try}
+use Rattle.floats.specs.Factor.{Factor}
 use Rattle.kernels.specs.Blocks.{renorm}
-use Rattle.kernels.specs.InnerLanes.{SmallLanes, LanesAfter}
+use Rattle.kernels.specs.InnerLanes.{SmallLanes, NoneSubnormal, LanesRepresent, LanesAfter, zeros}
 
 -- lanes that, brought back, are what the values xs make of the lanes s
 pub record NotYetNormalised (s : Lanes) (xs : List Float) (r : Lanes) : Type 0 where
   pub fed : LanesAfter s xs (renorm r)
   pub small : SmallLanes (2 ^ 59) r
+  pub whole : (fs : List Factor) → LanesRepresent zeros s fs → NoneSubnormal r
 
 -- How many values a step took of those that are left: whole vectors or all of them, and none only if a try failed.
 pub record Progress (left hold done : ℕ) : Type 0 where

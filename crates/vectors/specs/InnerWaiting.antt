@@ -9,7 +9,7 @@ use Rattle.floats.specs.Product.{productOf}
 use Rattle.floats.specs.Splitting.{split}
 use Rattle.accumulator.specs.declared.StableProductFloatAcc.{StableProductFloatAcc}
 use Rattle.kernels.specs.declared.lanes.Lanes.{Lanes}
-use Rattle.kernels.specs.Lanes.{feed, laneOf, inOrder}
+use Rattle.kernels.specs.Lanes.{feed, laneOf, inOrder, every}
 use Rattle.kernels.specs.Blocks.{eOf, unsplitStep, splitStep}
 use Rattle.vectors.specs.declared.vector.Waiting.{Waiting}
 
@@ -64,22 +64,41 @@ chained ms = inOrder (λ (k : ℕ) (p : Float). productOf 11 52 p (getD ms k nan
 unfoldable pub exponentsOf : Lanes → ℤ
 exponentsOf s = inOrder (λ (k : ℕ) (e : ℤ). e +ℤ eOf s k) 8 (pos 0)
 
--- the square of value k of a vector
-abbrev pub squareAt : List Float → ℕ → Float
-squareAt vector k = square (getD vector k nan)
+-- |x|: of x and -x the one that is not below the other
+abbrev pub magnitude : Float → Float
+magnitude x = cond (lt x (neg x)) (neg x) x
 
--- the least square of a vector of eight, lane beside lane
-unfoldable pub leastSquare : List Float → Float
-leastSquare vector =
+-- of value k of a vector
+abbrev pub magnitudeAt : List Float → ℕ → Float
+magnitudeAt vector k = magnitude (getD vector k nan)
+
+-- the least magnitude of a vector of eight, lane beside lane
+unfoldable pub leastMagnitude : List Float → Float
+leastMagnitude vector =
     lesser
-    (lesser (lesser (squareAt vector 0) (squareAt vector 4)) (lesser (squareAt vector 2) (squareAt vector 6)))
-    (lesser (lesser (squareAt vector 1) (squareAt vector 5)) (lesser (squareAt vector 3) (squareAt vector 7)))
+    (lesser (lesser (magnitudeAt vector 0) (magnitudeAt vector 4)) (lesser (magnitudeAt vector 2) (magnitudeAt vector 6)))
+    (lesser (lesser (magnitudeAt vector 1) (magnitudeAt vector 5)) (lesser (magnitudeAt vector 3) (magnitudeAt vector 7)))
 
--- a square from 2^-29 on is that of a value from 2^-15 on
+-- no magnitude is below 2^-15, or one is a NaN
 abbrev pub notLow : List Float → Bool
-notLow vector = notBelow (leastOf true 15) (leastSquare vector)
+notLow vector = notBelow (leastOf false 15) (leastMagnitude vector)
 
--- a vector multiplied unsplit if that is not below 2^-29 and not all are split, else split
+-- every value is a normal number, of a magnitude from 2^-1021 to 2^1000
+abbrev pub allNormal : List Float → Bool
+allNormal vector = notBelow (leastOf false 1021) (leastMagnitude vector) && every notPast vector
+
+-- a magnitude below the least normal number, 2^-1022
+abbrev pub LOWEST : Float
+LOWEST = fin false 1 (negsuc 1021)
+
+abbrev pub belowNormal : Float → Bool
+belowNormal x = lt (magnitude x) LOWEST
+
+-- every value is subnormal: such a magnitude, from 2^-1074 on
+abbrev pub allSubnormal : List Float → Bool
+allSubnormal vector = notBelow (leastOf false 1074) (leastMagnitude vector) && every belowNormal vector
+
+-- a vector multiplied unsplit if it is not low and not all are split, else split
 unfoldable pub guarded : Bool → Lanes → List Float → Lanes
 guarded all s vector = cond (not all && notLow vector) (feed unsplitStep 0 s vector) (feed splitStep 0 s vector)
 

@@ -26,8 +26,7 @@ pub fn first_bad(values: &[f64], start: i64, stride: i64, len: usize) -> usize
     let mut i: usize = 0;
     while i < len {
         let index = at as usize;
-        let p = floats::split_f64(values[index]);
-        if p.bad {
+        if floats::is_bad(values[index]) {
             first = integers::min_usize(first, i % LANES);
             if first == 0 {
                 return 0;
@@ -49,8 +48,7 @@ pub fn soon_bad(values: &[f64], start: i64, stride: i64, eight: i64, len: usize)
     let mut i: usize = 0;
     while i < vectors {
         let index = at as usize;
-        let p = floats::split_f64(values[index]);
-        if p.bad {
+        if floats::is_bad(values[index]) {
             return true;
         }
         i += 1;

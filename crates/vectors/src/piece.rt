@@ -147,7 +147,7 @@ pub fn short_piece(values: &[f64], start: i64, stride: i64, len: usize, least: f
     let w = short_lanes(values, start, stride, eight, len);
     let v = w.m;
     let p = crate::vector::chain(Vector { v });
-    let q = floats::split_f64(p);
+    let q = floats::split_fields(p);
     let ok = crate::vector::none_below(w, least) & crate::vector::not_past(p);
     Short { ok, m: q.m, e: q.e }
 }
@@ -170,7 +170,7 @@ fn middle_piece(values: &[f64], start: i64, stride: i64, eight: i64, len: usize)
     let least = short_least(len, true);
     let v = w.m;
     let p = crate::vector::chain(Vector { v });
-    let q = floats::split_f64(p);
+    let q = floats::split_fields(p);
     let ok = crate::vector::not_past(p) & crate::vector::none_below(w, least);
     Short { ok, m: q.m, e: q.e }
 }

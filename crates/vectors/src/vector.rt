@@ -1,5 +1,6 @@
 // A vector: eight values, one for each lane.
 ghost use mathlib.Core.Path.{_≡_};
+ghost use mathlib.Core.Bool.{true};
 ghost use Prim.Native.Nat.{_+_, _*_, _^_, _≤_, _<_, min};
 ghost use lib.ListN.{length};
 ghost use lib.IntN.{pos, _*ℤ_};
@@ -9,17 +10,24 @@ ghost use Rattle.kernels.specs.Lanes.{feed, every};
 ghost use Rattle.kernels.specs.InnerLanes.{window, SmallLanes};
 ghost use Rattle.kernels.specs.InnerStrided.{strided, PlacesInside};
 ghost use Rattle.kernels.specs.Blocks.{unsplitStep, splitStep};
-ghost use Rattle.vectors.specs.InnerWaiting.{vectorOf, lesser, square, measure, waitStep, leastOf, notBelow, notPast, chained};
-ghost use Rattle.vectors.specs.InnerWaiting.{leastSquare, notLow, guarded};
+ghost use Rattle.vectors.specs.InnerWaiting.{vectorOf, lesser, measure, waitStep, leastOf, notBelow, notPast, chained};
+ghost use Rattle.vectors.specs.InnerWaiting.{magnitude, leastMagnitude, notLow, allNormal, belowNormal, allSubnormal, guarded};
 use accumulator::StableProductFloatAcc;
 use kernels::lanes::Lanes;
 
 const LANES: usize = StableProductFloatAcc::LANES;
 
-// 2^-29 and 2^1000.
-const LEAST: f64 = 0.00000000186264514923095703125;
+// 2^-15 and 2^1000.
+const LEAST: f64 = 0.000030517578125;
 
 const MOST: f64 = 1.0715086071862673e301;
+
+// The least positive number, 2^-1074, the least normal one, 2^-1022, and twice that.
+const LEAST_POSITIVE: f64 = 5e-324;
+
+const LOWEST: f64 = 2.2250738585072014e-308;
+
+const TWICE_LOWEST: f64 = 4.450147717014403e-308;
 
 pub struct Vector {
     pub v: [f64; LANES],
@@ -188,30 +196,78 @@ pub fn chain(vector: Vector) -> f64
     p
 }
 
-fn lesser_square(x: f64, y: f64) -> f64
-    ensures { λ r. ⌜ r ≡ lesser (square x) (square y) ⌝ }
+// There is no abs.
+fn magnitude(x: f64) -> f64
+    ensures { λ r. ⌜ r ≡ magnitude x ⌝ }
 {
-    lesser(x * x, y * y)
+    if x < -x { -x } else { x }
 }
 
-// The least square of eight values, lane beside lane. Where one of two is a NaN, the second counts.
-fn least_square(vector: Vector) -> f64
-    requires { ⌜ length (vector .v) ≡ 8 ⌝ }
-    ensures { λ r. ⌜ r ≡ leastSquare (vector .v) ⌝ }
+fn lesser_magnitude(x: f64, y: f64) -> f64
+    ensures { λ r. ⌜ r ≡ lesser (magnitude x) (magnitude y) ⌝ }
 {
-    let a = lesser_square(vector.v[0], vector.v[4]);
-    let b = lesser_square(vector.v[1], vector.v[5]);
-    let c = lesser_square(vector.v[2], vector.v[6]);
-    let d = lesser_square(vector.v[3], vector.v[7]);
+    lesser(magnitude(x), magnitude(y))
+}
+
+// The least magnitude of eight values, lane beside lane. Where one of two is a NaN, the second counts.
+fn least_magnitude(vector: Vector) -> f64
+    requires { ⌜ length (vector .v) ≡ 8 ⌝ }
+    ensures { λ r. ⌜ r ≡ leastMagnitude (vector .v) ⌝ }
+{
+    let a = lesser_magnitude(vector.v[0], vector.v[4]);
+    let b = lesser_magnitude(vector.v[1], vector.v[5]);
+    let c = lesser_magnitude(vector.v[2], vector.v[6]);
+    let d = lesser_magnitude(vector.v[3], vector.v[7]);
     lesser(lesser(a, c), lesser(b, d))
 }
 
-// If so, no square is below 2^-29, or one is a NaN.
+// If so, no magnitude is below 2^-15, or one is a NaN.
 fn vector_not_low(vector: Vector) -> bool
     requires { ⌜ length (vector .v) ≡ 8 ⌝ }
     ensures { λ r. ⌜ r ≡ notLow (vector .v) ⌝ }
 {
-    LEAST <= least_square(vector)
+    LEAST <= least_magnitude(vector)
+}
+
+// If so, all are normal numbers.
+fn vector_normal(vector: Vector) -> bool
+    requires { ⌜ length (vector .v) ≡ 8 ⌝ }
+    ensures { λ r. ⌜ r ≡ allNormal (vector .v) ⌝ }
+{
+    if TWICE_LOWEST <= least_magnitude(vector) {
+        return none_past(vector);
+    }
+    false
+}
+
+fn below_normal(x: f64) -> bool
+    ensures { λ r. ⌜ r ≡ belowNormal x ⌝ }
+{
+    magnitude(x) < LOWEST
+}
+
+fn none_normal(vector: Vector) -> bool
+    requires { ⌜ length (vector .v) ≡ 8 ⌝ }
+    ensures { λ r. ⌜ r ≡ every belowNormal (vector .v) ⌝ }
+{
+    let mut ok = true;
+    let mut k: usize = 0;
+    while k < LANES {
+        ok = ok & below_normal(vector.v[k]);
+        k += 1;
+    }
+    ok
+}
+
+// If so, all are subnormal. They are compared and not multiplied, which takes long on some machines.
+fn vector_subnormal(vector: Vector) -> bool
+    requires { ⌜ length (vector .v) ≡ 8 ⌝ }
+    ensures { λ r. ⌜ r ≡ allSubnormal (vector .v) ⌝ }
+{
+    if LEAST_POSITIVE <= least_magnitude(vector) {
+        return none_normal(vector);
+    }
+    false
 }
 
 fn unsplit_vector(s: Lanes, vector: Vector) -> Lanes
@@ -227,7 +283,33 @@ fn unsplit_vector(s: Lanes, vector: Vector) -> Lanes
     t
 }
 
-fn split_vector(s: Lanes, vector: Vector) -> Lanes
+fn split_normals(s: Lanes, vector: Vector) -> Lanes
+    requires { ⌜ SmallLanes (2 ^ 59) s × (length (vector .v) ≡ 8) × (allNormal (vector .v) ≡ true) ⌝ }
+    ensures { λ r. ⌜ r ≡ feed splitStep 0 s (vector .v) ⌝ }
+{
+    let mut t = s;
+    let mut k: usize = 0;
+    while k < LANES {
+        t = kernels::lanes::put_split(t, k, floats::split_normal(vector.v[k]));
+        k += 1;
+    }
+    t
+}
+
+fn split_subnormals(s: Lanes, vector: Vector) -> Lanes
+    requires { ⌜ SmallLanes (2 ^ 59) s × (length (vector .v) ≡ 8) × (allSubnormal (vector .v) ≡ true) ⌝ }
+    ensures { λ r. ⌜ r ≡ feed splitStep 0 s (vector .v) ⌝ }
+{
+    let mut t = s;
+    let mut k: usize = 0;
+    while k < LANES {
+        t = kernels::lanes::put_split(t, k, floats::split_subnormal_whole(vector.v[k]));
+        k += 1;
+    }
+    t
+}
+
+fn split_mixed(s: Lanes, vector: Vector) -> Lanes
     requires { ⌜ SmallLanes (2 ^ 59) s × (length (vector .v) ≡ 8) ⌝ }
     ensures { λ r. ⌜ r ≡ feed splitStep 0 s (vector .v) ⌝ }
 {
@@ -240,7 +322,21 @@ fn split_vector(s: Lanes, vector: Vector) -> Lanes
     t
 }
 
-// A vector with a square below 2^-29 is split, and with `all` every vector; any other is multiplied as it is.
+// Normal numbers are split without a branch, and so are subnormals: eight at a time. A vector of several kinds is split value by value.
+fn split_vector(s: Lanes, vector: Vector) -> Lanes
+    requires { ⌜ SmallLanes (2 ^ 59) s × (length (vector .v) ≡ 8) ⌝ }
+    ensures { λ r. ⌜ r ≡ feed splitStep 0 s (vector .v) ⌝ }
+{
+    if vector_normal(vector) {
+        return split_normals(s, vector);
+    }
+    if vector_subnormal(vector) {
+        return split_subnormals(s, vector);
+    }
+    split_mixed(s, vector)
+}
+
+// A low vector is split, and with `all` every vector; any other is multiplied as it is.
 pub fn guarded_vector(s: Lanes, vector: Vector, all: bool) -> Lanes
     requires { ⌜ SmallLanes (2 ^ 59) s × (length (s .m) ≡ 8) × (length (vector .v) ≡ 8) ⌝ }
     ensures { λ r. ⌜ r ≡ guarded all s (vector .v) ⌝ }

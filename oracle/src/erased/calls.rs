@@ -37,6 +37,13 @@ pub struct Acc {
     pub bad: bool,
 }
 
+impl Acc {
+    /// The bits of m, e and the mark, to be compared.
+    pub fn fields(self) -> (u64, i64, bool) {
+        (self.m.to_bits(), self.e, self.bad)
+    }
+}
+
 impl Layout {
     /// The layout of total 0, as the rule has it. No range of it is accepted, so its plan is never walked.
     pub fn without_elements() -> Layout {

@@ -1,8 +1,8 @@
 //! Ours: random lines of `first`, over the layouts of `reduce`, over ones of a few values and over long runs.
 //!
 //! The engine tests many values of a piece at a time, by their products and by the least of them, and looks at each
-//! only where that fails. So the values are drawn on both sides of what such a test lets through, with a bad rate among
-//! them or without.
+//! only where that fails. So the values are drawn on both sides of what such a test lets through, with a bad rate or
+//! without, and with subnormals, which are not bad.
 
 use super::accumulator::{near_an_end, plain};
 use super::axes::Axes;
@@ -14,8 +14,10 @@ use super::Dice;
 /// So many values are tested at a time.
 const CHUNK: u64 = 2048;
 
-/// The exponents of the least and the greatest normal numbers, and those at which a square leaves them, or just not.
-const ENDS: [i64; 6] = [rates::LEAST, -512, -511, 511, 512, rates::MOST];
+/// The exponents of the least and the greatest normal numbers and of the subnormal ones, and those at which a square
+/// leaves the normal numbers or becomes zero, or just not.
+const ENDS: [i64; 10] =
+    [rates::LEAST_SUBNORMAL, rates::LEAST - 1, rates::LEAST, -538, -537, -512, -511, 511, 512, rates::MOST];
 
 pub fn line(dice: &mut Dice) -> String {
     drawn(dice).text()
@@ -32,13 +34,18 @@ pub fn drawn(dice: &mut Dice) -> Call {
         bring_to_an_end(dice, &mut call);
     }
     if dice.once_in(2) {
-        call.spoil_some(dice, false);
+        call.put_some(dice, false, rates::bad_of_any_pattern);
+    }
+    match dice.below(6) {
+        0 => call.put(dice, rates::subnormal),
+        1 => call.put_some(dice, true, rates::subnormal),
+        _ => {}
     }
     match dice.below(8) {
         0..=2 => {}
         3..=5 => spoil_one(dice, &mut call),
-        6 => call.spoil(dice, rates::bad_of_any_pattern),
-        _ => call.spoil_some(dice, true),
+        6 => call.put(dice, rates::bad_of_any_pattern),
+        _ => call.put_some(dice, true, rates::bad_of_any_pattern),
     }
     call
 }
@@ -68,7 +75,7 @@ fn bring_to_an_end(dice: &mut Dice, call: &mut Call) {
     for value in &mut call.values {
         if dice.once_in(some) {
             let significand = dice.of(&[near_an_end, plain])(dice);
-            *value = rates::rate(significand, e) + minus.sign(dice);
+            *value = rates::rate_or_subnormal(significand, e) + minus.sign(dice);
         }
     }
 }

@@ -6,12 +6,9 @@
 
 use super::accumulator::{near_an_end, plain, short, ONE};
 use super::axes::Axes;
-use super::rates::{self, between, Minus};
+use super::rates::{self, between, Minus, LEAST_SUBNORMAL};
 use super::reduce::{self, Call, MOST_VALUES};
 use super::Dice;
-
-/// The exponent of the least subnormal number.
-const LEAST_SUBNORMAL: i64 = -1074;
 
 /// Where a line leads its product: its exponent after each value, from and to. Within these no product is zero or
 /// infinite.
@@ -36,13 +33,16 @@ pub fn drawn(dice: &mut Dice) -> Call {
     let axes = if dice.once_in(3) { few(dice) } else { reduce::drawn_axes(dice) };
     let mut call = Call::over(dice, axes, &["ordered", "figure"], MOST_VALUES);
     if dice.once_in(2) {
-        call.spoil_some(dice, false);
+        call.put_some(dice, false, rates::bad_of_any_pattern);
     }
     if !dice.once_in(5) {
         lead(dice, &mut call);
     }
+    if dice.once_in(8) {
+        call.put(dice, rates::subnormal);
+    }
     if dice.once_in(4) {
-        call.spoil(dice, rates::bad_of_any_pattern);
+        call.put(dice, rates::bad_of_any_pattern);
     }
     call
 }
@@ -77,7 +77,7 @@ fn lead(dice: &mut Dice, call: &mut Call) {
 /// How a line's product is led.
 struct Way {
     stretches: &'static [(i64, i64)],
-    /// The least exponent of a value: in half of the lines none is subnormal.
+    /// The least exponent of a value: in half of the lines none is subnormal by this.
     least: i64,
     significand: fn(&mut Dice) -> u64,
     minus: Minus,

@@ -26,7 +26,8 @@ pub fn drawn(dice: &mut Dice) -> (Call, Ranges, Buffers) {
     let total = call.axes.total(dice);
     let mut list = drawn_list(dice, &call, total);
     for _ in 0..dice.of(&[0, 0, 1, 2]) {
-        spoil_one(dice, &mut call, &list);
+        let other = dice.of(&[rates::bad, rates::bad, rates::subnormal]);
+        put_into_one(dice, &mut call, &list, other);
     }
     if dice.once_in(6) {
         put_faulty(dice, &mut list, total);
@@ -57,11 +58,11 @@ fn drawn_call(dice: &mut Dice) -> Call {
     Call::over(dice, axes, &["ranges"], MOST_VALUES)
 }
 
-/// One of the ranges gets a bad rate, or the elements beside it do.
-fn spoil_one(dice: &mut Dice, call: &mut Call, list: &List) {
+/// One of the ranges gets another rate, or the elements beside it do.
+fn put_into_one(dice: &mut Dice, call: &mut Call, list: &List, other: fn(&mut Dice) -> u64) {
     if !list.is_empty() {
         (call.range.start, call.range.end) = dice.of(list);
-        call.spoil(dice, rates::bad);
+        call.put(dice, other);
     }
 }
 

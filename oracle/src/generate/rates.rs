@@ -1,4 +1,5 @@
-//! Ours: random rates, as bits. A line of rates is of one kind, or of all of them by turns.
+//! Ours: random rates, as bits. A line of rates is of one kind, or of all of them by turns. Most lines have no
+//! subnormal, since only these are compared with the source.
 
 use super::accumulator::{near_an_end, plain, short, with_zeros, ONE, SIGN};
 use super::Dice;
@@ -8,10 +9,16 @@ const BLOCK: i64 = 120;
 pub const LEAST: i64 = -1022;
 pub const MOST: i64 = 1023;
 
+/// The exponent of the least subnormal number.
+pub const LEAST_SUBNORMAL: i64 = -1074;
+
 const INFINITE: u64 = 2047 << 52;
 const NAN: u64 = INFINITE + ONE / 2;
 
-const KINDS: [fn(&mut Dice) -> u64; 15] = [
+/// Draws a rate without its sign.
+type Kind = fn(&mut Dice) -> u64;
+
+const NORMAL_KINDS: [Kind; 15] = [
     keep,
     keep,
     near_one,
@@ -29,13 +36,17 @@ const KINDS: [fn(&mut Dice) -> u64; 15] = [
     tiny_or_huge,
 ];
 
+/// Kinds of lines in which all rates are subnormal, or about half of them, or a few.
+const SUBNORMAL_KINDS: [Kind; 4] = [subnormal_size, about_the_least, among_keep_rates, seldom_among_common];
+
 /// So many rates, none of them bad. In some lines a few are negative, in others half of them.
 pub fn drawn(dice: &mut Dice, count: u64) -> Vec<u64> {
-    let kind = KINDS.get(dice.below(KINDS.len() as u64 + 2) as usize).copied();
+    let kinds: &[Kind] = if dice.once_in(6) { &SUBNORMAL_KINDS } else { &NORMAL_KINDS };
+    let kind = kinds.get(dice.below(kinds.len() as u64 + 2) as usize).copied();
     let minus = Minus::drawn(dice);
     let mut rates = Vec::new();
     for _ in 0..count {
-        let draw = kind.unwrap_or_else(|| dice.of(&KINDS));
+        let draw = kind.unwrap_or_else(|| dice.of(kinds));
         let size = draw(dice);
         rates.push(size + minus.sign(dice));
     }
@@ -59,17 +70,20 @@ impl Minus {
     }
 }
 
-/// A zero, a subnormal, an infinity or the NaN, which has one pattern here: the Rust keeps a NaN's own fraction and
-/// sign, and the engine has none of these.
+/// A zero, an infinity or the NaN, which has one pattern here: the Rust keeps a NaN's own fraction and sign, and the
+/// engine has none of these.
 pub fn bad(dice: &mut Dice) -> u64 {
-    let size = match dice.below(7) {
+    let size = match dice.below(5) {
         0 | 1 => 0,
-        2 => dice.of(&[1, 2, ONE / 2, ONE - 1]),
-        3 => 1 + dice.below(ONE - 1),
-        4 => INFINITE,
+        2 => INFINITE,
         _ => return NAN,
     };
     size + dice.of(&[0, SIGN])
+}
+
+/// A subnormal of either sign.
+pub fn subnormal(dice: &mut Dice) -> u64 {
+    subnormal_size(dice) + dice.of(&[0, SIGN])
 }
 
 /// A bad rate, a NaN with any pattern: for calls whose answers hold nothing of the pattern.
@@ -81,9 +95,12 @@ pub fn bad_of_any_pattern(dice: &mut Dice) -> u64 {
 }
 
 /// The same rate with another exponent, as near to the wanted one as a normal number can have, and what is still
-/// wanted then.
+/// wanted then. A subnormal stays as it is.
 pub fn moved(rate: u64, wanted: i64) -> (u64, i64) {
     let field = (rate >> 52 & 2047) as i64;
+    if field == 0 {
+        return (rate, wanted);
+    }
     let new = (field + wanted).clamp(1, 2046);
     (rate & !(2047 << 52) | (new as u64) << 52, wanted - (new - field))
 }
@@ -192,4 +209,44 @@ fn tiny_or_huge(dice: &mut Dice) -> u64 {
     let e = dice.of(&[LEAST + near, MOST - near]);
     let significand = if dice.once_in(2) { near_an_end(dice) } else { plain(dice) };
     rate(significand, e)
+}
+
+/// A subnormal. How many digits it has is drawn first, so that every shift to the leading place is alike frequent: any
+/// fraction of so many digits, or the least or the greatest.
+fn subnormal_size(dice: &mut Dice) -> u64 {
+    let least = 1 << dice.below(52);
+    match dice.below(6) {
+        0 => least,
+        1 => 2 * least - 1,
+        2 => dice.of(&[1, 2, 3, ONE / 2 - 1, ONE / 2, ONE - 1]),
+        _ => least + dice.below(least),
+    }
+}
+
+/// The least normal numbers and the greatest subnormal ones, and now and then the least of these.
+fn about_the_least(dice: &mut Dice) -> u64 {
+    match dice.below(8) {
+        0 => 1 + dice.below(4),
+        1 => ONE / 2 - 2 + dice.below(4),
+        2 => rate(plain(dice), between(dice, LEAST, LEAST + 1)),
+        3 => ONE / 2 + dice.below(ONE / 2),
+        _ => ONE - 3 + dice.below(6),
+    }
+}
+
+fn among_keep_rates(dice: &mut Dice) -> u64 {
+    if dice.once_in(30) {
+        subnormal_size(dice)
+    } else {
+        keep(dice)
+    }
+}
+
+/// So seldom that most blocks of 64 have none; beside it rates that bring its product back among the doubles.
+fn seldom_among_common(dice: &mut Dice) -> u64 {
+    match dice.below(200) {
+        0 => subnormal_size(dice),
+        1 => rate(plain(dice), between(dice, 900, MOST)),
+        _ => common(dice),
+    }
 }

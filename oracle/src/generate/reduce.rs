@@ -152,8 +152,11 @@ impl Call {
     pub fn drawn(dice: &mut Dice) -> Call {
         let axes = drawn_axes(dice);
         let mut call = Call::over(dice, axes, &["reduce", "reduce", "reduce", "product"], MOST_VALUES);
+        if dice.once_in(8) {
+            call.put(dice, rates::subnormal);
+        }
         if dice.once_in(7) {
-            call.spoil(dice, rates::bad);
+            call.put(dice, rates::bad);
         } else if dice.once_in(if call.word == "product" { 2 } else { 20 }) {
             call.aim(dice);
         }
@@ -204,18 +207,18 @@ impl Call {
         Some((self.range.start..self.range.end).map(|element| self.place(element)).collect())
     }
 
-    /// Mostly one rate becomes bad, now and then two or three.
-    pub fn spoil(&mut self, dice: &mut Dice, bad: fn(&mut Dice) -> u64) {
+    /// Mostly one rate becomes another, as a bad one or a subnormal, now and then two or three.
+    pub fn put(&mut self, dice: &mut Dice, other: fn(&mut Dice) -> u64) {
         let Some(run) = self.run() else { return };
         for _ in 0..dice.of(&[1, 1, 1, 1, 2, 3]) {
             let place = self.place(self.spot(dice, run));
-            self.values[place] = bad(dice);
+            self.values[place] = other(dice);
         }
     }
 
-    /// Some of the values that the range visits become bad, or some of those that it does not, which must not be seen
-    /// in the answer.
-    pub fn spoil_some(&mut self, dice: &mut Dice, visited: bool) {
+    /// Some of the values that the range visits become others, or some of those that it does not, which must not be
+    /// seen in the answer.
+    pub fn put_some(&mut self, dice: &mut Dice, visited: bool, other: fn(&mut Dice) -> u64) {
         let Some(places) = self.visited() else { return };
         let mut seen = vec![false; self.values.len()];
         for place in places {
@@ -224,7 +227,7 @@ impl Call {
         let some = dice.of(&[1, 4, 20]);
         for (place, value) in self.values.iter_mut().enumerate() {
             if seen[place] == visited && dice.once_in(some) {
-                *value = rates::bad_of_any_pattern(dice);
+                *value = other(dice);
             }
         }
     }

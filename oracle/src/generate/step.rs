@@ -83,8 +83,11 @@ fn drawn_call(dice: &mut Dice) -> Call {
     if dice.once_in(3) {
         sway(dice, &mut call);
     }
+    if dice.once_in(4) {
+        call.put(dice, rates::subnormal);
+    }
     if dice.once_in(6) {
-        call.spoil(dice, rates::bad);
+        call.put(dice, rates::bad);
     }
     let total = call.axes.total(dice);
     // As far as the layout goes, if its runs are so short that a few of them are soon worked.

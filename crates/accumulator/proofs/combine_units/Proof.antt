@@ -14,8 +14,8 @@ returns c =
     let s = c .before .before .before in
     sym (combined-bad (s .args .lhs) (s .args .rhs) (c .if1 .taken))
 
-split-f64-requires : tie.Need-split-f64-requires
-split-f64-requires c κs = search needs
+split-fields-requires : tie.Need-split-fields-requires
+split-fields-requires c κs = search needs
 
 add-e : tie.Need-add-e
 add-e c =
@@ -23,10 +23,10 @@ add-e c =
     sum-fits (s .args .lhs .e) (s .args .rhs .e) (s .pre .0) (s .pre .1)
 
 -- what was split
-abbrev after : tie.After-struct-told3 → tie.After-split-f64
+abbrev after : tie.After-struct-told3 → tie.After-split-fields
 after c = c .before .before .before .before .before .before
 
-split-e : (c : tie.After-struct-told3) → SFits w64 (after c .split-f64 .result .e)
+split-e : (c : tie.After-struct-told3) → SFits w64 (after c .split-fields .result .e)
 split-e c = record { sfits = c .struct-told3 .given .1 .0 .1 }
 
 add-raised : tie.Need-add-raised
@@ -34,8 +34,8 @@ add-raised c =
     let p = after c in
     let k = p .before .before .before .before in
     let s = k .before .before in
-    split-fits (s .args .lhs) (s .args .rhs) (k .before .struct-known .given .0) (k .struct-known2 .given .0) (s .pre .2) (s .pre .3) (p .split-f64 .result)
-    (p .split-f64 .ensures) (s .pre .0) (s .pre .1) (split-e c)
+    split-fits (s .args .lhs) (s .args .rhs) (k .before .struct-known .given .0) (k .struct-known2 .given .0) (s .pre .2) (s .pre .3) (p .split-fields .result)
+    (p .split-fields .ensures) (s .pre .0) (s .pre .1) (split-e c)
 
 returns-2 : tie.Need-returns-2
 returns-2 c =
@@ -43,8 +43,8 @@ returns-2 c =
     let e1 = p .before .before .before in
     let k = e1 .before in
     let s = k .before .before in
-    code-split (s .args .lhs) (s .args .rhs) (k .before .struct-known .given .0) (k .struct-known2 .given .0) (s .pre .2) (s .pre .3) (p .split-f64 .result)
-    (p .split-f64 .ensures) (s .pre .0) (s .pre .1) (split-e c) (e1 .if1 .left)
+    code-split (s .args .lhs) (s .args .rhs) (k .before .struct-known .given .0) (k .struct-known2 .given .0) (s .pre .2) (s .pre .3) (p .split-fields .result)
+    (p .split-fields .ensures) (s .pre .0) (s .pre .1) (split-e c) (e1 .if1 .left)
 
 pub combine-units-spec : {M : Type 1} → statement M
-combine-units-spec = tie.close (tie.spec returns split-f64-requires add-e add-raised returns-2)
+combine-units-spec = tie.close (tie.spec returns split-fields-requires add-e add-raised returns-2)

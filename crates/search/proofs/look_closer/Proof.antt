@@ -14,9 +14,7 @@ use mir.Facts.{toZ-ofZ}
 use mir.Syntax.{w64}
 use borrow.Author.Needs.{needs}
 use Rattle.integers.proofs.Places.{place-first, place-next}
-use Rattle.floats.specs.declared.Split.{Split}
 use Rattle.floats.specs.Splitting.{isBad}
-use Rattle.floats.proofs.Splitting.{split-bad}
 use Rattle.kernels.specs.InnerStrided.{PlacesInside}
 use Rattle.vectors.proofs.Vectorwise.{place-fits, place-natural, place-below}
 use Rattle.offsets.specs.InnerLists.{steps}
@@ -84,15 +82,15 @@ mul-x c = omega (arith, below c, entry (c .before) .good .0 .1)
 shared-slice-read-x : tie.Need-shared-slice-read-x Inv-loop μ-loop
 shared-slice-read-x c = below (c .before)
 
-split-f64-requires : tie.Need-split-f64-requires Inv-loop μ-loop
-split-f64-requires c κs = search needs
+is-bad-requires : tie.Need-is-bad-requires Inv-loop μ-loop
+is-bad-requires c κs = search needs
 
 -- whether the value is bad
-looked : (c : tie.After-split-f64 Inv-loop μ-loop) → let t = c .before .before .before in
-    c .split-f64 .result .bad ≡ isBad (valueAt (values t) (first t +ℤ apart t *ℤ pos (t .loop .i)))
+looked : (c : tie.After-is-bad Inv-loop μ-loop) → let t = c .before .before .before in
+    c .is-bad .result ≡ isBad (valueAt (values t) (first t +ℤ apart t *ℤ pos (t .loop .i)))
 looked c =
     let i = c .before .before in
-    ap (λ (q : Split). q .bad) (c .split-f64 .ensures) ∙ split-bad _ ∙ ap (λ (z : ℤ). isBad (valueAt (values (i .before)) z)) (here i)
+    c .is-bad .ensures ∙ ap (λ (z : ℤ). isBad (valueAt (values (i .before)) z)) (here i)
 
 add-number : tie.Need-add-number Inv-loop μ-loop
 add-number c = let q = c .before .before .before in let t = q .before in omega (arith, entry t .pre .0, q .loop-test .taken)
@@ -174,7 +172,7 @@ look-closer-spec =
     cast-index
     mul-x
     shared-slice-read-x
-    split-f64-requires
+    is-bad-requires
     add-number
     returns
     add-i

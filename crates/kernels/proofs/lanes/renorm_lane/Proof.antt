@@ -1,18 +1,18 @@
 -- `kernels::lanes::renorm_lane` meets its contract. Assumes nothing.
 use borrow.Author.Needs.{needs}
 use Rattle.kernels.specs.Blocks.{mOf}
-use Rattle.kernels.proofs.Stepwise.{added-fits, renorm-one}
+use Rattle.kernels.proofs.Stepwise.{added-fits, split-near, renorm-one}
 use Rattle.kernels.proofs.lanes.renorm_lane.Statement.{statement}
 use Rattle.kernels.proofs.lanes.renorm_lane.Tie as tie
 
-mul-split-f64 : tie.Need-mul-split-f64
-mul-split-f64 c = search needs
+mul-split-fields : tie.Need-mul-split-fields
+mul-split-fields c = search needs
 
-element-copy-out-split-f64 : tie.Need-element-copy-out-split-f64
-element-copy-out-split-f64 c = search needs
+element-copy-out-split-fields : tie.Need-element-copy-out-split-fields
+element-copy-out-split-fields c = search needs
 
-split-f64-requires : tie.Need-split-f64-requires
-split-f64-requires c κs = search needs
+split-fields-requires : tie.Need-split-fields-requires
+split-fields-requires c κs = search needs
 
 mul-t : tie.Need-mul-t
 mul-t c = search needs
@@ -30,7 +30,7 @@ add-t : tie.Need-add-t
 add-t c =
     let p = c .before .before .before in
     let s = p .before .before in
-    added-fits (s .args .s) (s .pre .1) (mOf (s .args .s) (s .args .k)) (p .split-f64 .result) (p .split-f64 .ensures) (s .args .k)
+    added-fits (s .args .s) (s .pre .1) (p .split-fields .result) (split-near (mOf (s .args .s) (s .args .k)) (p .split-fields .result) (p .split-fields .ensures (s .pre .2))) (s .args .k)
 
 mul-t15 : tie.Need-mul-t15
 mul-t15 c = search needs
@@ -42,15 +42,15 @@ returns : tie.Need-returns
 returns c =
     let p = c .before .before .before in
     let s = p .before .before in
-    renorm-one (s .args .s) (s .pre .1) (s .args .k) (p .split-f64 .result) (p .split-f64 .ensures)
+    renorm-one (s .args .s) (s .pre .1) (s .args .k) (p .split-fields .result) (p .split-fields .ensures (s .pre .2))
 
 pub renorm-lane-spec : {M : Type 1} → statement M
 renorm-lane-spec =
     tie.close
     (tie.spec
-    mul-split-f64
-    element-copy-out-split-f64
-    split-f64-requires
+    mul-split-fields
+    element-copy-out-split-fields
+    split-fields-requires
     mul-t
     element-write-t
     mul-t-2

@@ -1,12 +1,17 @@
 -- `kernels::lanes::stable_renorm` meets its contract. The loop's invariant: k lanes are brought back. Assumes nothing.
 use Prim.Native.Nat.{_+_, _-_, _*_, _^_}
-use mathlib.Core.Path.{refl, sym, subst}
+use mathlib.Core.Path.{_≡_, refl, sym, ap, _∙_, subst}
+use mathlib.Core.Bool.{false}
+use native.Mathlib.Nat.{le-refl}
 use native.Mathlib.Omega.{arith}
+use Rattle.floats.specs.InnerKinds.{isSubnormal}
+use Rattle.floats.proofs.Splitting.{farthest}
+use Rattle.kernels.specs.declared.lanes.Lanes.{Lanes}
 use Rattle.kernels.specs.Lanes.{inOrder}
-use Rattle.kernels.specs.Blocks.{renormLane, renorm}
+use Rattle.kernels.specs.Blocks.{mOf, renormLane, renorm}
 use Rattle.kernels.specs.InnerLanes.{SmallLanes}
 use Rattle.kernels.proofs.Feeding.{Worked, worked-none, worked-more, worked-all}
-use Rattle.kernels.proofs.LaneSizes.{lanes-le, renormed-small}
+use Rattle.kernels.proofs.LaneSizes.{lanes-le, renormed-left, renormed-small}
 use Rattle.kernels.proofs.lanes.stable_renorm.Statement.{statement}
 use Rattle.kernels.proofs.lanes.stable_renorm.Tie as tie
 
@@ -25,8 +30,10 @@ renorm-lane-requires c κs =
     let s = t .before in (
       c .loop-test .taken,
       subst (SmallLanes (2 ^ 61)) (sym (t .loop .inv .is))
-          (lanes-le (2 ^ 60 + 1024 * t .loop .k) (2 ^ 61) (inOrder renormLane (t .loop .k) (s .args .s)) (omega arith)
-          (renormed-small (2 ^ 60) (t .loop .k) (s .args .s) (s .pre))),
+          (lanes-le (2 ^ 60 + farthest * t .loop .k) (2 ^ 61) (inOrder renormLane (t .loop .k) (s .args .s)) (omega arith)
+          (renormed-small (2 ^ 60) (t .loop .k) (s .args .s) (s .pre .0))),
+      subst (λ (u : Lanes). isSubnormal (mOf u (t .loop .k)) ≡ false) (sym (t .loop .inv .is))
+          (ap isSubnormal (renormed-left (t .loop .k) (t .loop .k) (s .args .s) (le-refl (t .loop .k))) ∙ s .pre .1 (t .loop .k) (c .loop-test .taken)),
     )
 
 add-k : tie.Need-add-k Inv-loop μ-loop

@@ -17,7 +17,7 @@ use Rattle.integers.specs.Integers.{eqZ}
 use Rattle.kernels.specs.Pieces.{worked}
 use Rattle.kernels.specs.InnerStrided.{strided, PlacesInside}
 use Rattle.kernels.specs.InnerStepped.{Sound}
-use Rattle.kernels.proofs.Sizes.{combined-size}
+use Rattle.kernels.proofs.Sizes.{inPiece, inList, combined-size}
 use Rattle.kernels.proofs.Bounded.{combined-sound, worked-sound}
 use Rattle.kernels.proofs.Striding.{strided-values}
 use Rattle.reduction.specs.InnerStrips.{runAcc, strip}
@@ -30,7 +30,7 @@ abbrev Inv-loop : tie.InvT-loop
 Inv-loop values first step stride len count least a₀ hold₀ back₀ at₀ j₀ a hold back at j =
     (j ≤ count)
     × (j < count → toZ w64 at ≡ toZ w64 first +ℤ toZ w64 step *ℤ pos j)
-    × (natAbs (a .e) ≤ 2 ^ 60 + 1034 * (j * len))
+    × (natAbs (a .e) ≤ 2 ^ 60 + inList * (j * len))
     × Sound a
     × (strip values (toZ w64 step) (toZ w64 stride) len (count - j) (toZ w64 first +ℤ toZ w64 step *ℤ pos j) a
     ≡ strip values (toZ w64 step) (toZ w64 stride) len count (toZ w64 first) a₀)
@@ -95,11 +95,11 @@ run-is c =
     (strided (s .args .values .now) z (toZ w64 (ofZ w64 (s .args .stride))) (s .args .len)))
     (t .loop .inv .1 (r .before .loop-test .taken))
 
-near : (c : tie.After-struct-told Inv-loop μ-loop) → natAbs (product c .e) ≤ 1033 * c .before .before .before .before .before .before .args .len
+near : (c : tie.After-struct-told Inv-loop μ-loop) → natAbs (product c .e) ≤ inPiece * c .before .before .before .before .before .before .args .len
 near c =
     let k = c .before .before .before .before .before in
     let s = k .before in
-    subst (λ (a : StableProductFloatAcc). natAbs (a .e) ≤ 1033 * s .args .len) (sym (run-is c))
+    subst (λ (a : StableProductFloatAcc). natAbs (a .e) ≤ inPiece * s .args .len) (sym (run-is c))
     (strided-near _ (k .shared-slice-known .given) _ _ (s .args .len) (s .pre .0))
 
 run-sound : (c : tie.After-struct-told Inv-loop μ-loop) → Sound (product c)
@@ -148,7 +148,7 @@ add-at c =
 
 -- the run is in
 more : (c : tie.After-combine-units Inv-loop μ-loop) → let t = c .before .before .before .before in let s = t .before .before .before in
-    (natAbs (c .combine-units .result .e) ≤ 2 ^ 60 + 1034 * ((t .loop .j + 1) * s .args .len))
+    (natAbs (c .combine-units .result .e) ≤ 2 ^ 60 + inList * ((t .loop .j + 1) * s .args .len))
     × Sound (c .combine-units .result)
     × (strip (s .args .values .now) (toZ w64 (ofZ w64 (s .args .step))) (toZ w64 (ofZ w64 (s .args .stride))) (s .args .len)
     (s .args .count - (t .loop .j + 1)) (toZ w64 (ofZ w64 (s .args .first)) +ℤ toZ w64 (ofZ w64 (s .args .step)) *ℤ pos (t .loop .j + 1))
@@ -160,7 +160,7 @@ more c =
     let s = t .before .before .before in
     let b = product (c .before) in
     let e = c .combine-units .ensures in (
-      subst (λ (a : StableProductFloatAcc). natAbs (a .e) ≤ 2 ^ 60 + 1034 * ((t .loop .j + 1) * s .args .len)) (sym e)
+      subst (λ (a : StableProductFloatAcc). natAbs (a .e) ≤ 2 ^ 60 + inList * ((t .loop .j + 1) * s .args .len)) (sym e)
           (le-trans (combined-size (t .loop .a) b) (omega (arith, t .loop .inv .2, near (c .before), s .pre .0))),
       subst Sound (sym e) (combined-sound (t .loop .a) b (t .loop .inv .3) (run-sound (c .before))),
       strip-next (s .args .values .now) _ _ (s .args .len) (s .args .count) (t .loop .j) (toZ w64 (ofZ w64 (s .args .first))) (t .loop .a)

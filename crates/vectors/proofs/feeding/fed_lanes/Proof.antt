@@ -4,7 +4,7 @@ use mathlib.Core.Path.{_≡_, refl, sym, ap, _∙_, subst}
 use mathlib.Core.List.{[]}
 use mathlib.Core.Logic.{_⊎_, inl, inr}
 use native.Mathlib.Omega.{arith}
-use lib.ListN.{length}
+use lib.ListN.{length, replicate}
 use lib.IntN.{ℤ, pos, _+ℤ_, _*ℤ_}
 use lib.Dec.{lit≤}
 use mir.Val.{toZ, ofZ}
@@ -17,6 +17,8 @@ use Rattle.kernels.specs.InnerStrided.{strided, PlacesInside}
 use Rattle.kernels.specs.Blocks.{startLanes}
 use Rattle.kernels.specs.InnerLanes.{SmallLanes, LanesAfter}
 use Rattle.kernels.proofs.LaneSizes.{lanes-le}
+use Rattle.floats.specs.Factor.{unit}
+use Rattle.kernels.proofs.Blocking.{represent-start}
 use Rattle.kernels.proofs.Striding.{inside-part}
 use Rattle.vectors.specs.InnerVectors.{EightApart}
 use Rattle.vectors.specs.InnerSteps.{patience}
@@ -102,7 +104,12 @@ next-step-requires c κs =
     (small t, fed-eight _ (t .loop .s) (t .loop .inv .2), λ l. eight-is t (omega arith), inside-here c)
 
 stable-renorm-requires : tie.Need-stable-renorm-requires Inv-loop μ-loop
-stable-renorm-requires c κs = lanes-le (2 ^ 59) (2 ^ 60) (c .next-step .result .lanes) (lit≤ tt) (c .next-step .ensures .0 .small)
+stable-renorm-requires c κs =
+    let r = c .next-step .ensures .0 in
+    let t = c .before .before in (
+      lanes-le (2 ^ 59) (2 ^ 60) (c .next-step .result .lanes) (lit≤ tt) (r .small),
+      r .whole _ (t .loop .inv .2 .represent (replicate 8 (unit 52)) represent-start),
+    )
 
 next-pace-requires : tie.Need-next-pace-requires Inv-loop μ-loop
 next-pace-requires c κs = search needs

@@ -10,10 +10,12 @@ use mir.Syntax.{w64}
 use borrow.Author.Needs.{needs}
 use Rattle.laws.proofs.Tests.{and-both}
 use Rattle.integers.proofs.Places.{place-first}
+use Rattle.kernels.specs.declared.lanes.Lanes.{Lanes}
 use Rattle.kernels.specs.Lanes.{feed, every}
 use Rattle.kernels.specs.InnerStrided.{strided}
 use Rattle.kernels.specs.Blocks.{renorm}
-use Rattle.kernels.specs.InnerLanes.{LanesAfter}
+use Rattle.floats.specs.Factor.{Factor}
+use Rattle.kernels.specs.InnerLanes.{NoneSubnormal, LanesRepresent, zeros, LanesAfter}
 use Rattle.kernels.proofs.Striding.{length-strided, strided-values}
 use Rattle.kernels.proofs.LaneSizes.{lanes-le}
 use Rattle.vectors.specs.declared.vector.Waiting.{Waiting}
@@ -74,19 +76,22 @@ returns c =
     let s = entry w in
     let y = s .args .y in
     let Y = s .pre .2 in
-    let b = and-both _ _ (t .if1 .taken) in (
+    let b = and-both _ _ (t .if1 .taken) in
+    let r = subst (λ (u : Waiting).
+    let kept : Lanes = record { m = u .m; e = s .args .s .e; bad = s .args .s .bad } in
+    LanesAfter (s .args .s) (piece s) (renorm kept) × ((fs : List Factor) → LanesRepresent zeros (s .args .s) fs → NoneSubnormal kept)) (sym (waited w))
+    (tried-fed (y .signs) (y .depth) (y .most) (Y .some) (shallow _ _ (Y .room) (Y .vectors)) (Y .room) (s .args .s) (piece s)
+    (strided-values (s .args .values .now) (w .before .before .shared-slice-known .given) (s .args .start) (s .args .stride) (s .args .len))
+    (subst (λ (n : ℕ). n ≤ 8 * y .most) (sym (length-strided (s .args .values .now) (s .args .start) (s .args .stride) (s .args .len))) (s .pre .3))
+    (ap (λ (u : Waiting). every (notBelow (leastOf (y .signs) (y .depth))) (u .least)) (sym (waited w))
+    ∙ ap (λ (z : Float). every (notBelow z) (w .wait-values .result .lanes .least)) (sym (l .least-of .ensures))
+    ∙ sym (p .before .none-below .ensures)
+    ∙ b .0)
+    (ap (λ (u : Waiting). every notPast (u .m)) (sym (waited w)) ∙ sym (p .none-past .ensures) ∙ b .1)) in (
       record {
-        fed =
-            subst (λ (u : Waiting). LanesAfter (s .args .s) (piece s) (renorm (record { m = u .m; e = s .args .s .e; bad = s .args .s .bad }))) (sym (waited w))
-            (tried-fed (y .signs) (y .depth) (y .most) (Y .some) (shallow _ _ (Y .room) (Y .vectors)) (Y .room) (s .args .s) (piece s)
-            (strided-values (s .args .values .now) (w .before .before .shared-slice-known .given) (s .args .start) (s .args .stride) (s .args .len))
-            (subst (λ (n : ℕ). n ≤ 8 * y .most) (sym (length-strided (s .args .values .now) (s .args .start) (s .args .stride) (s .args .len))) (s .pre .3))
-            (ap (λ (u : Waiting). every (notBelow (leastOf (y .signs) (y .depth))) (u .least)) (sym (waited w))
-            ∙ ap (λ (z : Float). every (notBelow z) (w .wait-values .result .lanes .least)) (sym (l .least-of .ensures))
-            ∙ sym (p .before .none-below .ensures)
-            ∙ b .0)
-            (ap (λ (u : Waiting). every notPast (u .m)) (sym (waited w)) ∙ sym (p .none-past .ensures) ∙ b .1));
+        fed = r .0;
         small = record { at = λ k. lanes-le (2 ^ 56) (2 ^ 59) (s .args .s) (lit≤ tt) (s .pre .0) .at k };
+        whole = r .1;
       },
       (
         inl refl,

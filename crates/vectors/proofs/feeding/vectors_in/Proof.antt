@@ -10,6 +10,7 @@ use lib.Dec.{lit≤}
 use mir.Val.{toZ, ofZ}
 use mir.ValLaws.{toZ-ofZ}
 use mir.Syntax.{w64}
+use Rattle.floats.proofs.Splitting.{farthest}
 use Rattle.kernels.specs.declared.lanes.Lanes.{Lanes}
 use Rattle.kernels.specs.Lanes.{every}
 use Rattle.kernels.specs.InnerStrided.{strided, PlacesInside}
@@ -96,7 +97,7 @@ guarded-vector-requires : tie.Need-guarded-vector-requires Inv-loop μ-loop
 guarded-vector-requires c κs =
     let t = c .before .before in
     let R = t .loop .inv .1 in (
-      lanes-le (2 ^ 56 + 8192 * t .loop .i) (2 ^ 59) (held t) (omega (arith, entry t .pre .2, left (c .before))) (R .small),
+      lanes-le (2 ^ 56 + 8 * farthest * t .loop .i) (2 ^ 59) (held t) (omega (arith, entry t .pre .2, left (c .before))) (R .small),
       R .long,
       ap length (c .some-vector .ensures) ∙ vector-long _,
     )

@@ -15,9 +15,7 @@ use mir.Syntax.{w64}
 use mir.ValLaws.{toZ-ofZ}
 use borrow.Author.Needs.{needs}
 use Rattle.integers.proofs.Places.{place-first, place-next}
-use Rattle.floats.specs.declared.Split.{Split}
 use Rattle.floats.specs.Splitting.{isBad}
-use Rattle.floats.proofs.Splitting.{split-bad}
 use Rattle.kernels.specs.Lanes.{feed, laneOf}
 use Rattle.kernels.specs.InnerStrided.{strided, PlacesInside}
 use Rattle.kernels.specs.InnerStepped.{lower, firstBad}
@@ -74,27 +72,27 @@ cast-index c =
       record { fits = omega (arith, below c, entry t .good .0 .0) },
     )
 
-mul-split-f64 : tie.Need-mul-split-f64 Inv-loop μ-loop
-mul-split-f64 c = omega (arith, below c, entry (c .before) .good .0 .1)
+mul-is-bad : tie.Need-mul-is-bad Inv-loop μ-loop
+mul-is-bad c = omega (arith, below c, entry (c .before) .good .0 .1)
 
-shared-slice-read-split-f64 : tie.Need-shared-slice-read-split-f64 Inv-loop μ-loop
-shared-slice-read-split-f64 c = below (c .before)
+shared-slice-read-is-bad : tie.Need-shared-slice-read-is-bad Inv-loop μ-loop
+shared-slice-read-is-bad c = below (c .before)
 
-split-f64-requires : tie.Need-split-f64-requires Inv-loop μ-loop
-split-f64-requires c κs = search needs
+is-bad-requires : tie.Need-is-bad-requires Inv-loop μ-loop
+is-bad-requires c κs = search needs
 
 min-usize-requires : tie.Need-min-usize-requires Inv-loop μ-loop
 min-usize-requires c κs = search needs
 
 -- whether the value is bad
-looked : (c : tie.After-split-f64 Inv-loop μ-loop) → let t = c .before .before .before in
-    c .split-f64 .result .bad ≡ isBad (getD (values t) (natAbs (start t +ℤ apart t *ℤ pos (t .loop .i))) nan)
+looked : (c : tie.After-is-bad Inv-loop μ-loop) → let t = c .before .before .before in
+    c .is-bad .result ≡ isBad (getD (values t) (natAbs (start t +ℤ apart t *ℤ pos (t .loop .i))) nan)
 looked c =
     let i = c .before .before in
-    ap (λ (q : Split). q .bad) (c .split-f64 .ensures) ∙ split-bad _ ∙ ap (λ (z : ℤ). isBad (getD (values (i .before)) (natAbs z) nan)) (here i)
+    c .is-bad .ensures ∙ ap (λ (z : ℤ). isBad (getD (values (i .before)) (natAbs z) nan)) (here i)
 
 -- the lower of two lanes, if it is
-after : (c : tie.After-split-f64 Inv-loop μ-loop) (b : Bool) (k : ℕ) → c .split-f64 .result .bad ≡ b → let t = c .before .before .before in
+after : (c : tie.After-is-bad Inv-loop μ-loop) (b : Bool) (k : ℕ) → c .is-bad .result ≡ b → let t = c .before .before .before in
     k ≡ lower (t .loop .first) (laneOf (t .loop .i)) b → k ≡ firstBad (strided (values t) (start t) (apart t) (t .loop .i + 1))
 after c b k e q =
     let t = c .before .before .before in
@@ -169,9 +167,9 @@ first-bad-spec =
     μ-loop
     loop-holds
     cast-index
-    mul-split-f64
-    shared-slice-read-split-f64
-    split-f64-requires
+    mul-is-bad
+    shared-slice-read-is-bad
+    is-bad-requires
     min-usize-requires
     returns
     add-i

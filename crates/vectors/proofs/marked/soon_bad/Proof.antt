@@ -15,9 +15,7 @@ use mir.ValLaws.{toZ-ofZ}
 use borrow.Author.Needs.{needs}
 use Rattle.integers.specs.InnerPlaces.{PlacesFit}
 use Rattle.integers.proofs.Places.{place-first, place-sum, fit-eighths}
-use Rattle.floats.specs.declared.Split.{Split}
 use Rattle.floats.specs.Splitting.{isBad}
-use Rattle.floats.proofs.Splitting.{split-bad}
 use Rattle.kernels.specs.InnerStrided.{PlacesInside}
 use Rattle.vectors.proofs.Vectorwise.{place-natural, place-below, fits-from}
 use Rattle.vectors.proofs.Parting.{first-none}
@@ -72,14 +70,14 @@ cast-index c =
       record { fits = omega (arith, below c, entry t .good .0 .0) },
     )
 
-mul-split-f64 : tie.Need-mul-split-f64 Inv-loop μ-loop
-mul-split-f64 c = omega (arith, below c, entry (c .before) .good .0 .1)
+mul-is-bad : tie.Need-mul-is-bad Inv-loop μ-loop
+mul-is-bad c = omega (arith, below c, entry (c .before) .good .0 .1)
 
-shared-slice-read-split-f64 : tie.Need-shared-slice-read-split-f64 Inv-loop μ-loop
-shared-slice-read-split-f64 c = below (c .before)
+shared-slice-read-is-bad : tie.Need-shared-slice-read-is-bad Inv-loop μ-loop
+shared-slice-read-is-bad c = below (c .before)
 
-split-f64-requires : tie.Need-split-f64-requires Inv-loop μ-loop
-split-f64-requires c κs = search needs
+is-bad-requires : tie.Need-is-bad-requires Inv-loop μ-loop
+is-bad-requires c κs = search needs
 
 returns : tie.Need-returns Inv-loop μ-loop
 returns c q =
@@ -89,8 +87,7 @@ returns c q =
     let s = entry t in
     let e = first-none (values t) (start t) (apart t) (t .loop .i) (s .args .len) (within p)
     (ap (λ (z : ℤ). isBad (getD (values t) (natAbs z) nan)) (sym (here p))
-    ∙ sym (split-bad _)
-    ∙ ap (λ (r : Split). r .bad) (sym (f .split-f64 .ensures))
+    ∙ sym (f .is-bad .ensures)
     ∙ c .if1 .taken) in
     simp (toZ-ofZ w64 (s .args .start) (s .fits .start), toZ-ofZ w64 (s .args .stride) (s .fits .stride)) at e
 
@@ -150,9 +147,9 @@ soon-bad-spec =
     μ-loop
     loop-holds
     cast-index
-    mul-split-f64
-    shared-slice-read-split-f64
-    split-f64-requires
+    mul-is-bad
+    shared-slice-read-is-bad
+    is-bad-requires
     returns
     add-i
     sub-next-place

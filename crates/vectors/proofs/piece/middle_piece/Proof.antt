@@ -11,8 +11,8 @@ use mir.ValLaws.{toZ-ofZ}
 use mir.Syntax.{w64}
 use borrow.Author.Needs.{needs}
 use Rattle.laws.proofs.Tests.{and-both}
-use Rattle.floats.specs.declared.Split.{Split}
 use Rattle.floats.specs.Splitting.{split}
+use Rattle.floats.specs.InnerKinds.{isSubnormal}
 use Rattle.kernels.specs.declared.lanes.Lanes.{Lanes}
 use Rattle.kernels.specs.Lanes.{feed}
 use Rattle.kernels.specs.InnerStrided.{strided}
@@ -64,8 +64,8 @@ short-least-requires c κs = search needs
 chain-requires : tie.Need-chain-requires
 chain-requires c κs = ap (λ (w : Waiting). length (w .m)) (waited (c .before .before .before)) ∙ wait-m-long _ 0 (startWaiting (replicate 8 one)) _
 
-split-f64-requires : tie.Need-split-f64-requires
-split-f64-requires c κs = search needs
+split-fields-requires : tie.Need-split-fields-requires
+split-fields-requires c κs = search needs
 
 not-past-requires : tie.Need-not-past-requires
 not-past-requires c κs = search needs
@@ -85,14 +85,15 @@ returns-2 c ok =
     let e = w .before .before .before in
     let s = entry w in
     let t = and-both (p .not-past .result) (b .none-below .result) ok in
-    let fits : SFits w64 (f .split-f64 .result .e) = record { sfits = c .struct-told .given .1 .0 .1 } in
-    ap (λ (z : ℤ). record { m = f .split-f64 .result .m; e = z; bad = false }) (toZ-ofZ w64 (f .split-f64 .result .e) fits)
-    ∙ ap (λ (z : Split). record { m = z .m; e = z .e; bad = false }) (f .split-f64 .ensures ∙ ap split (h .chain .ensures))
+    let fits : SFits w64 (f .split-fields .result .e) = record { sfits = c .struct-told .given .1 .0 .1 } in
+    ap (λ (z : ℤ). record { m = f .split-fields .result .m; e = z; bad = false }) (toZ-ofZ w64 (f .split-fields .result .e) fits)
     ∙ short-product true (piece s)
     (strided-values (s .args .values .now) (e .before .shared-slice-known .given) (s .args .start) (s .args .stride) (s .args .len)) (l .short-least .result)
     (subst (λ (n : ℕ). ShortLeast true n (l .short-least .result))
     (sym (length-strided (s .args .values .now) (s .args .start) (s .args .stride) (s .args .len))) (l .short-least .ensures (e .if1 .left)))
-    (w .wait-values .result .lanes) (waited w) (sym (b .none-below .ensures) ∙ t .1) (ap notPast (sym (h .chain .ensures)) ∙ sym (p .not-past .ensures) ∙ t .0)
+    (w .wait-values .result .lanes) (waited w) (f .split-fields .result)
+    (subst (λ (y : Float). isSubnormal y ≡ false → f .split-fields .result ≡ split y) (h .chain .ensures) (f .split-fields .ensures))
+    (sym (b .none-below .ensures) ∙ t .1) (ap notPast (sym (h .chain .ensures)) ∙ sym (p .not-past .ensures) ∙ t .0)
 
 pub middle-piece-spec : {M : Type 1} → statement M
 middle-piece-spec =
@@ -104,7 +105,7 @@ middle-piece-spec =
     wait-values-requires
     short-least-requires
     chain-requires
-    split-f64-requires
+    split-fields-requires
     not-past-requires
     none-below-requires
     returns-2)

@@ -13,8 +13,8 @@ use mir.ValLaws.{toZ-ofZ}
 use mir.Syntax.{w64}
 use borrow.Author.Needs.{needs}
 use Rattle.laws.proofs.Tests.{and-both}
-use Rattle.floats.specs.declared.Split.{Split}
 use Rattle.floats.specs.Splitting.{split}
+use Rattle.floats.specs.InnerKinds.{isSubnormal}
 use Rattle.kernels.specs.Lanes.{feed}
 use Rattle.kernels.specs.InnerStrided.{strided}
 use Rattle.kernels.proofs.Striding.{length-strided, strided-values}
@@ -62,8 +62,8 @@ waited c =
 chain-requires : tie.Need-chain-requires
 chain-requires c κs = ap (λ (w : Waiting). length (w .m)) (waited (c .before)) ∙ wait-m-long _ 0 (startWaiting (replicate 8 one)) _
 
-split-f64-requires : tie.Need-split-f64-requires
-split-f64-requires c κs = search needs
+split-fields-requires : tie.Need-split-fields-requires
+split-fields-requires c κs = search needs
 
 none-below-requires : tie.Need-none-below-requires
 none-below-requires c κs =
@@ -81,13 +81,14 @@ returns c ok =
     let w = h .before .before in
     let s = entry w in
     let t = and-both (b .none-below .result) (p .not-past .result) ok in
-    let fits : SFits w64 (f .split-f64 .result .e) = record { sfits = c .struct-told .given .1 .0 .1 } in
-    ap (λ (z : ℤ). record { m = f .split-f64 .result .m; e = z; bad = false }) (toZ-ofZ w64 (f .split-f64 .result .e) fits)
-    ∙ ap (λ (z : Split). record { m = z .m; e = z .e; bad = false }) (f .split-f64 .ensures ∙ ap split (h .chain .ensures))
+    let fits : SFits w64 (f .split-fields .result .e) = record { sfits = c .struct-told .given .1 .0 .1 } in
+    ap (λ (z : ℤ). record { m = f .split-fields .result .m; e = z; bad = false }) (toZ-ofZ w64 (f .split-fields .result .e) fits)
     ∙ short-product false (piece s) (strided-values (s .args .values .now) (w .before .before .shared-slice-known .given) (s .args .start) (s .args .stride) (s .args .len))
     (s .args .least)
     (subst (λ (n : ℕ). ShortLeast false n (s .args .least)) (sym (length-strided (s .args .values .now) (s .args .start) (s .args .stride) (s .args .len))) (s .pre .1))
-    (w .short-lanes .result) (waited w) (sym (b .none-below .ensures) ∙ t .0) (ap notPast (sym (h .chain .ensures)) ∙ sym (p .not-past .ensures) ∙ t .1)
+    (w .short-lanes .result) (waited w) (f .split-fields .result)
+    (subst (λ (y : Float). isSubnormal y ≡ false → f .split-fields .result ≡ split y) (h .chain .ensures) (f .split-fields .ensures))
+    (sym (b .none-below .ensures) ∙ t .0) (ap notPast (sym (h .chain .ensures)) ∙ sym (p .not-past .ensures) ∙ t .1)
 
 pub short-piece-spec : {M : Type 1} → statement M
-short-piece-spec = tie.close (tie.spec far-stride-requires short-lanes-requires chain-requires split-f64-requires none-below-requires not-past-requires returns)
+short-piece-spec = tie.close (tie.spec far-stride-requires short-lanes-requires chain-requires split-fields-requires none-below-requires not-past-requires returns)

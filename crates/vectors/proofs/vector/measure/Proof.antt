@@ -1,5 +1,5 @@
 -- `vectors::vector::measure` meets its contract. Assumes nothing.
-use mathlib.Core.Path.{_≡_, sym, ap, _∙_}
+use mathlib.Core.Path.{sym, ap, _∙_}
 use mathlib.Core.Bool.{Bool}
 use Rattle.floats.proofs.Product.{mul-binary64}
 use Rattle.vectors.specs.InnerWaiting.{measure}

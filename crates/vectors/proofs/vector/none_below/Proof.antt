@@ -1,9 +1,8 @@
 -- `vectors::vector::none_below` meets its contract. The loop's invariant: k lanes are tested. Assumes nothing.
 use Prim.Native.Nat.{_-_}
-use mathlib.Core.Path.{refl, ap}
-use mathlib.Core.Bool.{Bool, true, _&&_}
+use mathlib.Core.Path.{refl}
+use mathlib.Core.Bool.{true}
 use native.Mathlib.Omega.{arith}
-use lib.ListN.{getD}
 use lib.Ieee.{nan}
 use Rattle.kernels.proofs.Feeding.{Worked, worked-none, worked-more, over, tested, worked-tested}
 use Rattle.vectors.specs.InnerWaiting.{notBelow}

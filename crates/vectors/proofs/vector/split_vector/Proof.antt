@@ -1,68 +1,48 @@
--- `vectors::vector::split_vector` meets its contract. The loop's invariant: k values are in. Assumes nothing.
-use Prim.Native.Nat.{_+_, _-_, _*_, _^_}
-use mathlib.Core.Path.{refl, sym, subst}
-use native.Mathlib.Omega.{arith}
-use lib.ListN.{getD}
-use lib.Ieee.{nan}
-use Rattle.kernels.proofs.Feeding.{Worked, worked-none, worked-more, over, worked-fed}
-use Rattle.kernels.specs.Blocks.{splitStep}
-use Rattle.kernels.specs.InnerLanes.{SmallLanes}
-use Rattle.kernels.proofs.LaneSizes.{lanes-le, step-small}
+-- `vectors::vector::split_vector` meets its contract: each of the three ways is the same. Assumes nothing.
+use mathlib.Core.Path.{_∙_, sym}
+use borrow.Author.Needs.{needs}
 use Rattle.vectors.proofs.vector.split_vector.Statement.{statement}
 use Rattle.vectors.proofs.vector.split_vector.Tie as tie
 
-abbrev Inv-loop : tie.InvT-loop
-Inv-loop vector t₀ k₀ t k =
-    Worked (over splitStep (vector .v) nan) 8 t₀ t k × SmallLanes (2 ^ 59 + 1024 * k) t
+vector-normal-requires : tie.Need-vector-normal-requires
+vector-normal-requires c κs = search needs
 
-abbrev μ-loop : tie.MeasureT-loop
-μ-loop vector t₀ k₀ t k = 8 - k
+split-normals-requires : tie.Need-split-normals-requires
+split-normals-requires c κs =
+    let q = c .before in
+    let s = q .before in
+    (s .pre .0, s .pre .1, sym (q .vector-normal .ensures) ∙ c .if1 .taken)
 
-loop-holds : tie.Need-loop-holds Inv-loop μ-loop
-loop-holds c = (worked-none refl, lanes-le (2 ^ 59) (2 ^ 59 + 1024 * 0) (c .args .s) (omega arith) (c .pre .0))
+returns : tie.Need-returns
+returns c = c .split-normals .ensures
 
-mul-split-step : tie.Need-mul-split-step Inv-loop μ-loop
-mul-split-step c = omega arith
+vector-subnormal-requires : tie.Need-vector-subnormal-requires
+vector-subnormal-requires c κs = search needs
 
-element-copy-out-split-step : tie.Need-element-copy-out-split-step Inv-loop μ-loop
-element-copy-out-split-step c = omega arith
+split-subnormals-requires : tie.Need-split-subnormals-requires
+split-subnormals-requires c κs =
+    let q = c .before in
+    let s = q .before .before .before in
+    (s .pre .0, s .pre .1, sym (q .vector-subnormal .ensures) ∙ c .if2 .taken)
 
-split-step-requires : tie.Need-split-step-requires Inv-loop μ-loop
-split-step-requires c κs = let t = c .before .before in lanes-le (2 ^ 59 + 1024 * t .loop .k) (2 ^ 60) (t .loop .t) (omega arith) (t .loop .inv .1)
+returns-2 : tie.Need-returns-2
+returns-2 c = c .split-subnormals .ensures
 
-add-k : tie.Need-add-k Inv-loop μ-loop
-add-k c = omega arith
+split-mixed-requires : tie.Need-split-mixed-requires
+split-mixed-requires c κs = search needs
 
-loop-less : tie.Need-loop-less Inv-loop μ-loop
-loop-less c = omega arith
-
-loop-again : tie.Need-loop-again Inv-loop μ-loop
-loop-again c =
-    let t = c .before .before .before in
-    let k = t .loop .k in
-    let x = getD (t .before .args .t2 .v) k nan in (
-      worked-more (t .loop .inv .0) (c .before .before .loop-test .taken) (c .split-step .ensures),
-      subst (SmallLanes (2 ^ 59 + 1024 * (k + 1))) (sym (c .split-step .ensures))
-          (lanes-le (2 ^ 59 + 1024 * k + 1024) (2 ^ 59 + 1024 * (k + 1)) (splitStep k (t .loop .t) x) (omega arith)
-          (step-small (2 ^ 59 + 1024 * k) (t .loop .t) (t .loop .inv .1) k x)),
-    )
-
-returns : tie.Need-returns Inv-loop μ-loop
-returns c =
-    let t = c .before in
-    worked-fed splitStep nan (t .before .args .t2 .v) (t .before .pre .1) (t .loop .inv .0) (c .loop-test .left)
+returns-3 : tie.Need-returns-3
+returns-3 c = c .split-mixed .ensures
 
 pub split-vector-spec : {M : Type 1} → statement M
 split-vector-spec =
     tie.close
     (tie.spec
-    Inv-loop
-    μ-loop
-    loop-holds
-    mul-split-step
-    element-copy-out-split-step
-    split-step-requires
-    add-k
-    loop-less
-    loop-again
-    returns)
+    vector-normal-requires
+    split-normals-requires
+    returns
+    vector-subnormal-requires
+    split-subnormals-requires
+    returns-2
+    split-mixed-requires
+    returns-3)
