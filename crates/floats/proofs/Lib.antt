@@ -14,6 +14,7 @@ pub mod Fields
 pub mod PatternFactor
 pub mod Masks
 pub mod Splitting
+pub mod Ordinary
 pub mod Moving
 pub mod Wholes
 pub mod Cases

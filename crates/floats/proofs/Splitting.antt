@@ -2,7 +2,7 @@
 -- Assumes nothing.
 use mathlib.Core.Path.{_≡_, refl, sym, ap, _∙_, subst}
 use mathlib.Core.Bool.{Bool, true, false, not, cond, _&&_, _||_, true≢false}
-use Prim.Native.Nat.{ℕ, zero, suc, _+_, _-_, _*_, _/_, _%_, _^_, _≤_, _<_}
+use Prim.Native.Nat.{ℕ, suc, _+_, _-_, _*_, _/_, _%_, _^_, _≤_, _<_}
 use native.Mathlib.Nat.{lt-of-lt-of-le}
 use native.Mathlib.Omega.{arith}
 use lib.IntN.{ℤ, pos, negsuc, natAbs, _-ℤ_}
@@ -16,15 +16,14 @@ use lib.Ieee.Bits.{toBits-lt, ofBits-toBits}
 use mir.Syntax.{w64}
 use mir.Val.{SFits, toZ, ofZ}
 use mir.ValLaws.{toZ-pos, toZ-ofZ}
-use borrow.Author.Tests.{eq-eqb, ne-eqb, eqb-false, not-true, not-false}
-use Rattle.laws.proofs.Tests.{and-both}
+use borrow.Author.Tests.{eq-eqb, ne-eqb, not-false}
 use Rattle.floats.specs.declared.Split.{Split}
 use Rattle.floats.specs.Rounding.{delivered}
 use Rattle.floats.specs.Factor.{Factor, Normalised, NormalExponent, floatOf}
 use Rattle.floats.specs.Fields.{signField, expField, fraction, pattern, ofParts, valueOf, movedPlaces, factorOf}
 use Rattle.floats.specs.Magnitude.{inUnit, factorAt, withExponent}
 use Rattle.floats.specs.Splitting.{bitsOf, isBad, rateFactor, split}
-use Rattle.floats.specs.InnerKinds.{isSubnormal, isNormal}
+use Rattle.floats.specs.InnerKinds.{isSubnormal}
 use Rattle.floats.proofs.PatternFactor.{NormalField, factor-subnormal, factor-other, subnormal-good, normal-good, high-normal, factor-size}
 use Rattle.floats.proofs.Fields.{value-is, pattern-value, exp-is, field-lt}
 use Rattle.floats.proofs.PatternFactor.{factor-normal, factor-range, float-of-factor, factor-of-float, float-normal, normal-other, normal-good}
@@ -130,7 +129,7 @@ module _ (c : ℕ) (s : Bool) (T' : ℕ) where
 
 module _ (b : ℕ) where
   -- the exponent field, as the code has it
-  abbrev raw : ℕ
+  abbrev pub raw : ℕ
   raw = bitAnd b 0x7ff0000000000000 / 2 ^ 52
 
   pub raw-is : raw ≡ expField 11 52 b
@@ -160,7 +159,7 @@ module _ (b : ℕ) where
 
   module _ (B : b < 2 ^ (11 + 52) * 2) where
     -- the pattern of m, as the code has it
-    abbrev set : ℕ
+    abbrev pub set : ℕ
     set = bitOr (bitAnd b 0x800fffffffffffff) 0x3ff0000000000000
 
     set-is : set ≡ pattern 11 52 (signField 11 52 b) 1023 (fraction 52 b)
@@ -249,36 +248,6 @@ unfolding isNan isSubnormal toBits
 subnormal-number nan h = absurd (true≢false (sym h))
 subnormal-number (inf s) h = tt
 subnormal-number (fin s m e) h = tt
-
--- ---- a normal number, by a test of its field
-pub normal-of : (x : Float) → isNormal x ≡ true → Normal x
-unfolding isNormal
-normal-of x h = go (expField 11 52 (bitsOf x)) refl h
-  where
-    go : (y : ℕ) → expField 11 52 (bitsOf x) ≡ y → (not (eqb y 0) && not (eqb y 2047)) ≡ true → Normal x
-    go zero e h = absurd (true≢false (sym h))
-    go (suc y) e h =
-        record { less-one = y; field-is = e; not-last = eqb-false (suc y) 2047 (not-true (eqb (suc y) 2047) (and-both (not (eqb (suc y) 0)) (not (eqb (suc y) 2047)) h .1)) }
-
-pub is-normal : (x : Float) → Normal x → isNormal x ≡ true
-unfolding isNormal
-is-normal x n =
-    ap (λ (y : ℕ). not (eqb y 0) && not (eqb y 2047)) (n .field-is)
-    ∙ ap (λ (q : Bool). not q && not (eqb (suc (n .less-one)) 2047)) (ne-eqb (suc (n .less-one)) 0 (λ (e : suc (n .less-one) ≡ 0). omega arith))
-    ∙ ap not (ne-eqb (suc (n .less-one)) 2047 (n .not-last))
-
-pub normal-number : (x : Float) → isNormal x ≡ true → T (not (isNan x))
-unfolding isNan isNormal toBits
-normal-number nan h = absurd (true≢false (sym h))
-normal-number (inf s) h = tt
-normal-number (fin s m e) h = tt
-
-pub normal-split : (x : Float) (f : T (fits binary64 x)) → isNormal x ≡ true
-    → _≡_ {A = Split} (record { m = ofBits binary64 (set (bitsOf x) (bits-lt x f)); e = toZ w64 (ofZ w64 (toZ w64 (raw (bitsOf x)) -ℤ pos 1023)); bad = false })
-    (split x)
-unfolding isSubnormal isBad
-normal-split x f h =
-    let n = normal-of x h in split-is x f false (normal-other 11 52 (bitsOf x) n) (sym (normal-good 11 52 (bitsOf x) n))
 
 -- what does not differ from itself is no NaN
 pub number-is : (x : Float) → ne x x ≡ false → T (not (isNan x))

@@ -17,13 +17,14 @@ use Rattle.floats.specs.declared.Split.{Split}
 use Rattle.floats.specs.Fields.{signField, fraction, pattern, subnormalBits, movedPlaces}
 use Rattle.floats.specs.Magnitude.{inUnit, withExponent}
 use Rattle.floats.specs.Splitting.{bitsOf, split, rateFactor}
-use Rattle.floats.specs.InnerKinds.{isSubnormal, isNormal}
+use Rattle.floats.specs.InnerKinds.{isSubnormal, isOrdinary}
 use Rattle.floats.proofs.Bridge.{round-to}
 use Rattle.floats.proofs.Magnitude.{moved-normal}
 use Rattle.floats.proofs.Fields.{fraction-lt, pattern-lt}
 use Rattle.floats.proofs.PatternFactor.{subnormal-some, bits-of-float, float-normal}
 use Rattle.floats.proofs.Subnormal.{moved-few, moved-least, moved-most}
-use Rattle.floats.proofs.Splitting.{bits-lt, unit-number, unit-value, is-normal, float-rate, split-m, split-unit, split-e, subnormal-split}
+use Rattle.floats.proofs.Ordinary.{normal-ordinary}
+use Rattle.floats.proofs.Splitting.{bits-lt, unit-number, unit-value, float-rate, split-m, split-unit, split-e, subnormal-split}
 use Rattle.floats.proofs.Moving.{subnormal-bits, low, led-small, low-fraction, sign-left}
 
 module _ (n : ℕ) (some : 0 < n) (small : n < 2 ^ 52) where
@@ -55,9 +56,9 @@ module _ (n : ℕ) (some : 0 < n) (small : n < 2 ^ 52) where
   R : NormalExponent 11 g
   R = record { place = 52 - k + 1022; above = refl; below = omega arith }
 
-  pub whole-normal : isNormal (ofInt binary64 (pos n)) ≡ true
-  whole-normal =
-      ap isNormal whole-is ∙ is-normal (floatOf 11 52 g) (float-normal binary64 11 52 refl refl (lit< tt) g G R)
+  pub whole-ordinary : isOrdinary (ofInt binary64 (pos n)) ≡ true
+  whole-ordinary =
+      ap isOrdinary whole-is ∙ normal-ordinary (floatOf 11 52 g) (float-normal binary64 11 52 refl refl (lit< tt) g G R)
 
   whole-rate : rateFactor (ofInt binary64 (pos n)) ≡ g
   whole-rate = ap rateFactor whole-is ∙ float-rate g G R
@@ -95,8 +96,8 @@ module _ (x : Float) (f : T (fits binary64 x)) (h : isSubnormal x ≡ true) wher
   unfolding inFloat
   low-exact = subst (λ (n : ℕ). T (leb n (2 ^ 53))) (sym (low-fraction b S)) (le→leb T' (2 ^ 53) (le-of-lt (lt-of-lt-of-le (fraction-lt 52 b) (lit≤ tt))))
 
-  pub low-normal : isNormal (ofInt binary64 (pos (low (bitsOf x)))) ≡ true
-  low-normal = ap (λ (n : ℕ). isNormal (ofInt binary64 (pos n))) (low-fraction b S) ∙ whole-normal T' some (fraction-lt 52 b)
+  pub low-ordinary : isOrdinary (ofInt binary64 (pos (low (bitsOf x)))) ≡ true
+  low-ordinary = ap (λ (n : ℕ). isOrdinary (ofInt binary64 (pos n))) (low-fraction b S) ∙ whole-ordinary T' some (fraction-lt 52 b)
 
   module _ (p : Split) (e : p ≡ split (ofInt binary64 (pos (low (bitsOf x))))) where
     p-is : p ≡ split (ofInt binary64 (pos (fraction 52 (bitsOf x))))

@@ -4,7 +4,7 @@ ghost use mathlib.Core.Bool.{true, false};
 ghost use lib.Dec.{T};
 ghost use lib.Ieee.{binary64, fits};
 ghost use Rattle.floats.specs.Splitting.{isBad, split};
-ghost use Rattle.floats.specs.InnerKinds.{isSubnormal, isNormal};
+ghost use Rattle.floats.specs.InnerKinds.{isSubnormal, isOrdinary};
 
 const EXP: u64 = 0x7ff0_0000_0000_0000;
 
@@ -41,9 +41,9 @@ fn split_subnormal(value: f64) -> Split
     }
 }
 
-// A normal number, without a branch.
-pub fn split_normal(value: f64) -> Split
-    requires { ⌜ (T (fits binary64 value) → isNormal value ≡ true) ⌝ }
+// A zero or a normal number, without a branch.
+pub fn split_ordinary(value: f64) -> Split
+    requires { ⌜ (T (fits binary64 value) → isOrdinary value ≡ true) ⌝ }
     ensures { λ r. ⌜ r ≡ split value ⌝ }
 {
     let bits = f64::to_bits(value);
@@ -52,7 +52,7 @@ pub fn split_normal(value: f64) -> Split
     Split {
         m: unit,
         e: field as i64 - 1023,
-        bad: false,
+        bad: value == 0.0,
     }
 }
 
@@ -63,7 +63,7 @@ pub fn split_subnormal_whole(value: f64) -> Split
 {
     let bits = f64::to_bits(value);
     let fraction = bits & SIZE;
-    let p = split_normal(fraction as f64);
+    let p = split_ordinary(fraction as f64);
     let m = f64::from_bits((bits - fraction) + f64::to_bits(p.m));
     Split {
         m,

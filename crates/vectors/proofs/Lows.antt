@@ -1,24 +1,25 @@
 -- The tests of a vector: if its least magnitude is not below 2^-(k + 1), no magnitude is, or a value is an infinity or a NaN. Assumes nothing.
 use Prim.Native.Nat.{ℕ, zero, suc, _<_}
 use mathlib.Core.Path.{_≡_, sym, subst}
-use mathlib.Core.Bool.{Bool, true, false, cond}
+use mathlib.Core.Bool.{Bool, true, false, not, cond, true≢false}
 use mathlib.Core.List.{List, [], _∷_}
 use mathlib.Core.Logic.{_⊎_, inl, inr}
 use native.Mathlib.Omega.{arith}
 use lib.ListN.{length, getD}
 use lib.Dec.{lit≤}
-use lib.Ieee.{Float, nan, isNan, lt}
-use Rattle.floats.specs.InnerKinds.{isNormal, isSubnormal}
+use lib.Ieee.{Float, nan, isNan, lt, eq}
+use Rattle.floats.specs.InnerKinds.{isSubnormal, ZERO, isOrdinary}
 use Rattle.floats.proofs.Overflow.{isLost}
-use Rattle.floats.proofs.Splitting.{is-normal, high-rate}
+use Rattle.floats.proofs.Splitting.{high-rate}
+use Rattle.floats.proofs.Ordinary.{normal-ordinary, zero-ordinary}
 use Rattle.laws.proofs.Tests.{and-both}
 use Rattle.kernels.specs.Lanes.{every}
 use Rattle.laws.specs.Lists.{Each, none, more}
 use Rattle.kernels.proofs.Feeding.{each-map, each-both}
 use Rattle.kernels.proofs.Least.{Reached, least-lesser}
 use Rattle.kernels.proofs.Blocking.{Value}
-use Rattle.vectors.specs.InnerWaiting.{magnitude, magnitudeAt, lesser, leastOf, notBelow, notPast, leastMagnitude, notLow, allNormal, belowNormal, allSubnormal}
-use Rattle.vectors.proofs.Magnitudes.{magnitude-nan, magnitude-least, magnitude-subnormal, below-lost}
+use Rattle.vectors.specs.InnerWaiting.{one, magnitude, magnitudeAt, lesser, leastOf, notBelow, notPast, leastMagnitude, notLow, noneLow, allOrdinary, belowNormal, allSubnormal}
+use Rattle.vectors.proofs.Magnitudes.{but, magnitude-nan, magnitude-least, magnitude-subnormal, below-lost}
 use Rattle.vectors.proofs.Waiting.{Guarded, every-at, past-lost}
 
 -- a lane's value is an infinity or a NaN
@@ -35,11 +36,19 @@ record Node (k : ℕ) (vector : List Float) (y : Float) (Q : Type 0) : Type 0 wh
   low : Above k y ≡ true → Q ⊎ Hit vector
   hid : isNan y ≡ true → Hit vector
 
-abbrev From : ℕ → List Float → ℕ → Type 0
-From k vector j = Above k (magnitudeAt vector j) ≡ true
+abbrev From : Bool → ℕ → List Float → ℕ → Type 0
+From over k vector j = Above k (magnitudeAt over vector j) ≡ true
 
-leaf : (k : ℕ) (vector : List Float) (j : ℕ) → j < 8 → Node k vector (magnitudeAt vector j) (From k vector j)
-leaf k vector j h = record { low = λ e. inl e; hid = λ e. record { lane = j; below = h; lost = magnitude-nan (getD vector j nan) e } }
+leaf : (over : Bool) (k : ℕ) (vector : List Float) (j : ℕ) → j < 8 → Node k vector (magnitudeAt over vector j) (From over k vector j)
+unfolding isNan
+leaf over k vector j h = record { low = λ e. inl e; hid = λ e. record { lane = j; below = h; lost = go (but (λ (y : Float). isNan y ≡ true) over x e) } }
+  where
+    x : Float
+    x = getD vector j nan
+
+    go : ((eq x ZERO ≡ true) × (false ≡ true)) ⊎ (isNan (magnitude x) ≡ true) → isLost x ≡ true
+    go (inl z) = absurd (true≢false (sym (z .1)))
+    go (inr n) = magnitude-nan x n
 
 both-nodes : (k : ℕ) (vector : List Float) (x y : Float) (P Q : Type 0) → Node k vector x P → Node k vector y Q → Node k vector (lesser x y) (P × Q)
 both-nodes k vector x y P Q A B = record { low = λ e. let r = least-lesser k x y e in join (r .1) (B .low (r .0)); hid = pick (lt x y) }
@@ -73,31 +82,34 @@ each-from P [] f = none
 each-from P (x ∷ l) f = more (f 0 (omega arith)) (each-from P l (λ k h. f (suc k) (omega arith)))
 
 -- each magnitude, lane by lane
-vector-from : (k : ℕ) (vector : List Float) → notBelow (leastOf false (suc k)) (leastMagnitude vector) ≡ true
-    → ((j : ℕ) → j < 8 → notBelow (leastOf false (suc k)) (magnitudeAt vector j) ≡ true) ⊎ Hit vector
-unfolding leastMagnitude
-vector-from k vector e = go (top .low e)
-  where
-    pairs : (i j : ℕ) → i < 8 → j < 8 → Node k vector (lesser (magnitudeAt vector i) (magnitudeAt vector j)) (From k vector i × From k vector j)
-    pairs i j a b = both-nodes k vector (magnitudeAt vector i) (magnitudeAt vector j) (From k vector i) (From k vector j) (leaf k vector i a) (leaf k vector j b)
+module _ (over : Bool) (k : ℕ) (vector : List Float) where
+  abbrev At : ℕ → Type 0
+  At = From over k vector
 
-    top : Node k vector (leastMagnitude vector)
-        (((From k vector 0 × From k vector 4) × (From k vector 2 × From k vector 6)) × ((From k vector 1 × From k vector 5) × (From k vector 3 × From k vector 7)))
-    top =
-        both-nodes k vector _ _ _ _
-        (both-nodes k vector _ _ _ _ (pairs 0 4 (omega arith) (omega arith)) (pairs 2 6 (omega arith) (omega arith)))
-        (both-nodes k vector _ _ _ _ (pairs 1 5 (omega arith) (omega arith)) (pairs 3 7 (omega arith) (omega arith)))
+  abbrev Pairs : Type 0
+  Pairs = ((At 0 × At 4) × (At 2 × At 6)) × ((At 1 × At 5) × (At 3 × At 7))
 
-    go : (((From k vector 0 × From k vector 4) × (From k vector 2 × From k vector 6)) × ((From k vector 1 × From k vector 5) × (From k vector 3 × From k vector 7)))
-        ⊎ Hit vector → ((j : ℕ) → j < 8 → From k vector j) ⊎ Hit vector
-    go (inr h) = inr h
-    go (inl p) =
-        inl (eight-of (From k vector) (p .0 .0 .0) (p .1 .0 .0) (p .0 .1 .0) (p .1 .1 .0) (p .0 .0 .1) (p .1 .0 .1) (p .0 .1 .1) (p .1 .1 .1))
+  pairs : (i j : ℕ) → i < 8 → j < 8 → Node k vector (lesser (magnitudeAt over vector i) (magnitudeAt over vector j)) (At i × At j)
+  pairs i j a b = both-nodes k vector (magnitudeAt over vector i) (magnitudeAt over vector j) (At i) (At j) (leaf over k vector i a) (leaf over k vector j b)
+
+  vector-from : notBelow (leastOf false (suc k)) (leastMagnitude over vector) ≡ true → ((j : ℕ) → j < 8 → At j) ⊎ Hit vector
+  unfolding leastMagnitude
+  vector-from e = go (top .low e)
+    where
+      top : Node k vector (leastMagnitude over vector) Pairs
+      top =
+          both-nodes k vector _ _ _ _
+          (both-nodes k vector _ _ _ _ (pairs 0 4 (omega arith) (omega arith)) (pairs 2 6 (omega arith) (omega arith)))
+          (both-nodes k vector _ _ _ _ (pairs 1 5 (omega arith) (omega arith)) (pairs 3 7 (omega arith) (omega arith)))
+
+      go : Pairs ⊎ Hit vector → ((j : ℕ) → j < 8 → At j) ⊎ Hit vector
+      go (inr h) = inr h
+      go (inl p) = inl (eight-of At (p .0 .0 .0) (p .1 .0 .0) (p .0 .1 .0) (p .1 .1 .0) (p .0 .0 .1) (p .1 .0 .1) (p .0 .1 .1) (p .1 .1 .1))
 
 pub vector-low : (vector : List Float) → length vector ≡ 8 → Each Value vector → notLow vector ≡ true → Each (Guarded 14) vector ⊎ Hit vector
-vector-low vector eight v e = go (vector-from 14 vector e)
+vector-low vector eight v e = go (vector-from false 14 vector e)
   where
-    go : ((j : ℕ) → j < 8 → From 14 vector j) ⊎ Hit vector → Each (Guarded 14) vector ⊎ Hit vector
+    go : ((j : ℕ) → j < 8 → From false 14 vector j) ⊎ Hit vector → Each (Guarded 14) vector ⊎ Hit vector
     go (inr h) = inr h
     go (inl p) =
         inl
@@ -112,26 +124,36 @@ module _ (vector : List Float) (eight : length vector ≡ 8) where
   at : (p : Float → Bool) → every p vector ≡ true → (j : ℕ) → j < 8 → p (getD vector j nan) ≡ true
   at p e j h = every-at p vector j nan (subst (λ (n : ℕ). j < n) (sym eight) h) e
 
-  pub lane-normal : allNormal vector ≡ true → (j : ℕ) → j < 8 → Value (getD vector j nan) → isNormal (getD vector j nan) ≡ true
-  lane-normal e j h v = go (vector-from 1020 vector (b .0))
+  pub lane-ordinary : allOrdinary vector ≡ true → (j : ℕ) → j < 8 → Value (getD vector j nan) → isOrdinary (getD vector j nan) ≡ true
+  lane-ordinary e j h v = go (vector-from over 1020 vector (b .0))
     where
-      b : (notBelow (leastOf false 1021) (leastMagnitude vector) ≡ true) × (every notPast vector ≡ true)
-      b = and-both (notBelow (leastOf false 1021) (leastMagnitude vector)) (every notPast vector) e
+      over : Bool
+      over = not (notBelow (leastOf false 1074) (leastMagnitude false vector))
 
-      here : Reached 1020 (getD vector j nan) → isNormal (getD vector j nan) ≡ true
-      here (inl l) = absurd (past-lost (getD vector j nan) (at notPast (b .1) j h) l)
-      here (inr q) = is-normal (getD vector j nan) (high-rate 1020 (getD vector j nan) (lit≤ tt) (q .0) (q .1))
+      b : (noneLow vector ≡ true) × (every notPast vector ≡ true)
+      b = and-both (noneLow vector) (every notPast vector) e
 
-      go : ((i : ℕ) → i < 8 → From 1020 vector i) ⊎ Hit vector → isNormal (getD vector j nan) ≡ true
+      x : Float
+      x = getD vector j nan
+
+      here : Reached 1020 x → isOrdinary x ≡ true
+      here (inl l) = absurd (past-lost x (at notPast (b .1) j h) l)
+      here (inr q) = normal-ordinary x (high-rate 1020 x (lit≤ tt) (q .0) (q .1))
+
+      each : ((eq x ZERO ≡ true) × (Above 1020 one ≡ true)) ⊎ (Above 1020 (magnitude x) ≡ true) → isOrdinary x ≡ true
+      each (inl z) = zero-ordinary x (z .0)
+      each (inr a) = here (magnitude-least 1020 (lit≤ tt) x v a)
+
+      go : ((i : ℕ) → i < 8 → From over 1020 vector i) ⊎ Hit vector → isOrdinary x ≡ true
       go (inr k) = absurd (past-lost (getD vector (k .lane) nan) (at notPast (b .1) (k .lane) (k .below)) (k .lost))
-      go (inl p) = here (magnitude-least 1020 (lit≤ tt) (getD vector j nan) v (p j h))
+      go (inl p) = each (but (λ (y : Float). Above 1020 y ≡ true) over x (p j h))
 
   pub lane-subnormal : allSubnormal vector ≡ true → (j : ℕ) → j < 8 → Value (getD vector j nan) → isSubnormal (getD vector j nan) ≡ true
-  lane-subnormal e j h v = go (vector-from 1073 vector (b .0))
+  lane-subnormal e j h v = go (vector-from false 1073 vector (b .0))
     where
-      b : (notBelow (leastOf false 1074) (leastMagnitude vector) ≡ true) × (every belowNormal vector ≡ true)
-      b = and-both (notBelow (leastOf false 1074) (leastMagnitude vector)) (every belowNormal vector) e
+      b : (notBelow (leastOf false 1074) (leastMagnitude false vector) ≡ true) × (every belowNormal vector ≡ true)
+      b = and-both (notBelow (leastOf false 1074) (leastMagnitude false vector)) (every belowNormal vector) e
 
-      go : ((i : ℕ) → i < 8 → From 1073 vector i) ⊎ Hit vector → isSubnormal (getD vector j nan) ≡ true
+      go : ((i : ℕ) → i < 8 → From false 1073 vector i) ⊎ Hit vector → isSubnormal (getD vector j nan) ≡ true
       go (inr k) = absurd (below-lost (getD vector (k .lane) nan) (at belowNormal (b .1) (k .lane) (k .below)) (k .lost))
       go (inl p) = magnitude-subnormal (getD vector j nan) v (p j h) (at belowNormal (b .1) j h)

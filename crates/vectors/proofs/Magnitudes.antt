@@ -1,20 +1,20 @@
 -- What a magnitude says of its value, by comparisons. Assumes nothing.
 use Prim.Native.Nat.{ℕ, suc, _+_, _*_, _^_, _≤_, _<_}
 use mathlib.Core.Path.{_≡_, refl, sym}
-use mathlib.Core.Bool.{Bool, true, false, cond, true≢false}
+use mathlib.Core.Bool.{Bool, true, false, cond, _&&_, true≢false}
 use mathlib.Core.Logic.{_⊎_, inl, inr}
 use native.Mathlib.Nat.{lt-of-lt-of-le, le-of-eq, one-mul, mul-pos}
 use lib.IntN.{negsuc}
 use native.Mathlib.Omega.{arith}
 use lib.Dec.{T, leb, ltb}
-use lib.Ieee.{Float, nan, inf, fin, binary64, up, down, fits, isNan, lt, neg}
+use lib.Ieee.{Float, nan, inf, fin, binary64, up, down, fits, isNan, lt, eq, neg}
 use lib.Ieee.Fits.{down-pos}
 use lib.Ieee.Positive.{first-pos}
 use borrow.Author.Tests.{leb-true, lt-leb, ltb-true, ltb-false}
-use Rattle.floats.specs.InnerKinds.{isSubnormal}
+use Rattle.floats.specs.InnerKinds.{isSubnormal, ZERO}
 use Rattle.floats.proofs.Overflow.{isLost}
 use Rattle.kernels.proofs.Least.{reaches, Reached, either-reaches, reached, low-subnormal}
-use Rattle.vectors.specs.InnerWaiting.{magnitude, leastOf, notBelow, belowNormal}
+use Rattle.vectors.specs.InnerWaiting.{one, magnitude, magnitudeBut, leastOf, notBelow, belowNormal}
 
 -- it is x or -x
 either : (P : Float → Type 0) (x : Float) → P (magnitude x) → P x ⊎ P (neg x)
@@ -33,6 +33,15 @@ magnitude-nan (fin s m e) h = no (either (λ (y : Float). isNan y ≡ true) (fin
     no : (false ≡ true) ⊎ (false ≡ true) → isLost (fin s m e) ≡ true
     no (inl q) = absurd (true≢false (sym q))
     no (inr q) = absurd (true≢false (sym q))
+
+-- 1.0 for a zero that is passed over, or its own magnitude
+pub but : (P : Float → Type 0) (over : Bool) (x : Float) → P (magnitudeBut over x) → ((eq x ZERO ≡ true) × P one) ⊎ P (magnitude x)
+but P over x = go over (eq x ZERO) refl
+  where
+    go : (a b : Bool) → eq x ZERO ≡ b → P (cond (a && b) one (magnitude x)) → ((eq x ZERO ≡ true) × P one) ⊎ P (magnitude x)
+    go true true e h = inl (e, h)
+    go true false e h = inr h
+    go false b e h = inr h
 
 -- from 2^-(k + 1) on
 magnitude-reaches : (k : ℕ) (x : Float) → notBelow (leastOf false (suc k)) (magnitude x) ≡ true → (isLost x ≡ true) ⊎ (reaches (suc k) x ≡ true)

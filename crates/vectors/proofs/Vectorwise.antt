@@ -9,13 +9,14 @@ use lib.ListN.{length, getD, set}
 use lib.IntN.{ℤ, pos, natAbs, _+ℤ_, _*ℤ_}
 use lib.Dec.{T}
 use lib.Signed.{nonNeg, _≤ℤ_, _<ℤ_}
-use lib.Ieee.{Float, nan, lt, le, neg, mul, binary64, ofBits}
+use lib.Ieee.{Float, nan, lt, le, eq, neg, mul, binary64, ofBits}
 use mir.Val.{SFits}
 use mir.Syntax.{w64}
 use Rattle.integers.specs.InnerPlaces.{PlacesFit}
 use Rattle.integers.proofs.Difference.{ints, atoms}
 use Rattle.integers.proofs.Places.{fit-later}
 use Rattle.floats.specs.Product.{productOf}
+use Rattle.floats.specs.InnerKinds.{ZERO}
 use Rattle.floats.proofs.Product.{mul-binary64}
 use Rattle.kernels.specs.declared.lanes.Lanes.{Lanes}
 use Rattle.kernels.specs.Lanes.{feed}
@@ -24,8 +25,8 @@ use Rattle.kernels.specs.InnerStrided.{strided, PlacesInside}
 use Rattle.kernels.proofs.Feeding.{feed-append}
 use Rattle.kernels.proofs.Striding.{length-strided, first-natural, first-below, strided-append, inside-part}
 use Rattle.vectors.specs.declared.vector.Waiting.{Waiting}
-use Rattle.vectors.specs.InnerWaiting.{vectorOf, put, lesser, measure, waitStep, leastOf, notBelow, MOST, notPast, guarded}
-use Rattle.vectors.specs.InnerWaiting.{magnitude, magnitudeAt, leastMagnitude, notLow, LOWEST}
+use Rattle.vectors.specs.InnerWaiting.{one, vectorOf, put, lesser, measure, waitStep, leastOf, notBelow, MOST, notPast, guarded}
+use Rattle.vectors.specs.InnerWaiting.{magnitude, magnitudeBut, magnitudeAt, leastMagnitude, notLow, LOWEST}
 
 module _ (len : ℕ) (s t : ℤ) (n : ℕ) (h : PlacesInside len s t n) (a : ℕ) (l : a < n) (m : len < 2 ^ 63) where
   -- a place, in i64
@@ -71,19 +72,26 @@ magnitude-minus x h = sym (ap (λ (t : Bool). cond t (neg x) x) h)
 pub magnitude-plus : (x : Float) → lt x (neg x) ≡ false → x ≡ magnitude x
 magnitude-plus x h = sym (ap (λ (t : Bool). cond t (neg x) x) h)
 
-pub lesser-magnitudes : (x y a b r : Float) → a ≡ magnitude x → b ≡ magnitude y → r ≡ lesser a b → r ≡ lesser (magnitude x) (magnitude y)
-lesser-magnitudes x y a b r p q e = e ∙ ap (λ (z : Float). lesser z b) p ∙ ap (lesser (magnitude x)) q
+pub magnitude-over : (over : Bool) (x : Float) → (over && eq x ZERO) ≡ true → one ≡ magnitudeBut over x
+magnitude-over over x h = sym (ap (λ (t : Bool). cond t one (magnitude x)) h)
+
+pub magnitude-own : (over : Bool) (x r : Float) → (over && eq x ZERO) ≡ false → r ≡ magnitude x → r ≡ magnitudeBut over x
+magnitude-own over x r h e = e ∙ sym (ap (λ (t : Bool). cond t one (magnitude x)) h)
+
+pub lessers : (x y a b r : Float) → a ≡ x → b ≡ y → r ≡ lesser a b → r ≡ lesser x y
+lessers x y a b r p q e = e ∙ ap (λ (z : Float). lesser z b) p ∙ ap (lesser x) q
 
 -- two and two of a vector
-pub least-tree : (vector : List Float) (a b c d p q r : Float) → a ≡ lesser (magnitudeAt vector 0) (magnitudeAt vector 4)
-    → b ≡ lesser (magnitudeAt vector 1) (magnitudeAt vector 5) → c ≡ lesser (magnitudeAt vector 2) (magnitudeAt vector 6)
-    → d ≡ lesser (magnitudeAt vector 3) (magnitudeAt vector 7) → p ≡ lesser a c → q ≡ lesser b d → r ≡ lesser p q → r ≡ leastMagnitude vector
-unfolding leastMagnitude
-least-tree vector a b c d p q r A B C D P Q R =
-    R
-    ∙ ap (λ (z : Float). lesser z q) (P ∙ ap (λ (z : Float). lesser z c) A ∙ ap (lesser (lesser (magnitudeAt vector 0) (magnitudeAt vector 4))) C)
-    ∙ ap (lesser (lesser (lesser (magnitudeAt vector 0) (magnitudeAt vector 4)) (lesser (magnitudeAt vector 2) (magnitudeAt vector 6))))
-    (Q ∙ ap (λ (z : Float). lesser z d) B ∙ ap (lesser (lesser (magnitudeAt vector 1) (magnitudeAt vector 5))) D)
+module _ (over : Bool) (vector : List Float) where
+  abbrev at : ℕ → Float
+  at = magnitudeAt over vector
+
+  pub least-tree : (a b c d p q r : Float) → a ≡ lesser (at 0) (at 4) → b ≡ lesser (at 1) (at 5) → c ≡ lesser (at 2) (at 6) → d ≡ lesser (at 3) (at 7)
+      → p ≡ lesser a c → q ≡ lesser b d → r ≡ lesser p q → r ≡ leastMagnitude over vector
+  unfolding leastMagnitude
+  least-tree a b c d p q r A B C D P Q R =
+      lessers (lesser (lesser (at 0) (at 4)) (lesser (at 2) (at 6))) (lesser (lesser (at 1) (at 5)) (lesser (at 3) (at 7))) p q r
+      (lessers (lesser (at 0) (at 4)) (lesser (at 2) (at 6)) a c p A C P) (lessers (lesser (at 1) (at 5)) (lesser (at 3) (at 7)) b d q B D Q) R
 
 -- the constants of the code
 least-is : ofBits binary64 4539628424389459968 ≡ leastOf false 15

@@ -1,12 +1,13 @@
 -- Inner: lanes that wait: values are multiplied in unsplit, eight at a time, and a test at the end says whether the lanes are what split values give.
 use Prim.Native.Nat.{ℕ, zero, suc, _+_, _-_, _%_}
-use mathlib.Core.Bool.{Bool, true, false, not, cond, _&&_}
+use mathlib.Core.Bool.{Bool, false, not, cond, _&&_}
 use mathlib.Core.List.{List, _++_}
 use lib.ListN.{length, getD, set, replicate}
 use lib.IntN.{ℤ, pos, negsuc, _+ℤ_}
-use lib.Ieee.{Float, nan, fin, lt, le, neg}
+use lib.Ieee.{Float, nan, fin, lt, le, eq, neg}
 use Rattle.floats.specs.Product.{productOf}
 use Rattle.floats.specs.Splitting.{split}
+use Rattle.floats.specs.InnerKinds.{ZERO}
 use Rattle.accumulator.specs.declared.StableProductFloatAcc.{StableProductFloatAcc}
 use Rattle.kernels.specs.declared.lanes.Lanes.{Lanes}
 use Rattle.kernels.specs.Lanes.{feed, laneOf, inOrder, every}
@@ -68,24 +69,31 @@ exponentsOf s = inOrder (λ (k : ℕ) (e : ℤ). e +ℤ eOf s k) 8 (pos 0)
 abbrev pub magnitude : Float → Float
 magnitude x = cond (lt x (neg x)) (neg x) x
 
+-- the same, with 1.0 for a zero where zeros are passed over
+abbrev pub magnitudeBut : Bool → Float → Float
+magnitudeBut over x = cond (over && eq x ZERO) one (magnitude x)
+
 -- of value k of a vector
-abbrev pub magnitudeAt : List Float → ℕ → Float
-magnitudeAt vector k = magnitude (getD vector k nan)
+abbrev pub magnitudeAt : Bool → List Float → ℕ → Float
+magnitudeAt over vector k = magnitudeBut over (getD vector k nan)
 
 -- the least magnitude of a vector of eight, lane beside lane
-unfoldable pub leastMagnitude : List Float → Float
-leastMagnitude vector =
-    lesser
-    (lesser (lesser (magnitudeAt vector 0) (magnitudeAt vector 4)) (lesser (magnitudeAt vector 2) (magnitudeAt vector 6)))
-    (lesser (lesser (magnitudeAt vector 1) (magnitudeAt vector 5)) (lesser (magnitudeAt vector 3) (magnitudeAt vector 7)))
+unfoldable pub leastMagnitude : Bool → List Float → Float
+leastMagnitude over vector =
+    let at = magnitudeAt over vector in
+    lesser (lesser (lesser (at 0) (at 4)) (lesser (at 2) (at 6))) (lesser (lesser (at 1) (at 5)) (lesser (at 3) (at 7)))
 
 -- no magnitude is below 2^-15, or one is a NaN
 abbrev pub notLow : List Float → Bool
-notLow vector = notBelow (leastOf false 15) (leastMagnitude vector)
+notLow vector = notBelow (leastOf false 15) (leastMagnitude false vector)
 
--- every value is a normal number, of a magnitude from 2^-1021 to 2^1000
-abbrev pub allNormal : List Float → Bool
-allNormal vector = notBelow (leastOf false 1021) (leastMagnitude vector) && every notPast vector
+-- no magnitude but 0 is below 2^-1021, or one is a NaN: zeros are passed over where the least is not positive
+abbrev pub noneLow : List Float → Bool
+noneLow vector = notBelow (leastOf false 1021) (leastMagnitude (not (notBelow (leastOf false 1074) (leastMagnitude false vector))) vector)
+
+-- every value is a zero or a normal number, of a magnitude from 2^-1021 to 2^1000
+abbrev pub allOrdinary : List Float → Bool
+allOrdinary vector = noneLow vector && every notPast vector
 
 -- a magnitude below the least normal number, 2^-1022
 abbrev pub LOWEST : Float
@@ -96,7 +104,7 @@ belowNormal x = lt (magnitude x) LOWEST
 
 -- every value is subnormal: such a magnitude, from 2^-1074 on
 abbrev pub allSubnormal : List Float → Bool
-allSubnormal vector = notBelow (leastOf false 1074) (leastMagnitude vector) && every belowNormal vector
+allSubnormal vector = notBelow (leastOf false 1074) (leastMagnitude false vector) && every belowNormal vector
 
 -- a vector multiplied unsplit if it is not low and not all are split, else split
 unfoldable pub guarded : Bool → Lanes → List Float → Lanes

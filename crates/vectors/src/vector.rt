@@ -11,7 +11,7 @@ ghost use Rattle.kernels.specs.InnerLanes.{window, SmallLanes};
 ghost use Rattle.kernels.specs.InnerStrided.{strided, PlacesInside};
 ghost use Rattle.kernels.specs.Blocks.{unsplitStep, splitStep};
 ghost use Rattle.vectors.specs.InnerWaiting.{vectorOf, lesser, measure, waitStep, leastOf, notBelow, notPast, chained};
-ghost use Rattle.vectors.specs.InnerWaiting.{magnitude, leastMagnitude, notLow, allNormal, belowNormal, allSubnormal, guarded};
+ghost use Rattle.vectors.specs.InnerWaiting.{magnitude, magnitudeBut, leastMagnitude, notLow, noneLow, allOrdinary, belowNormal, allSubnormal, guarded};
 use accumulator::StableProductFloatAcc;
 use kernels::lanes::Lanes;
 
@@ -203,21 +203,31 @@ fn magnitude(x: f64) -> f64
     if x < -x { -x } else { x }
 }
 
-fn lesser_magnitude(x: f64, y: f64) -> f64
-    ensures { λ r. ⌜ r ≡ lesser (magnitude x) (magnitude y) ⌝ }
+// 1.0 for a zero where zeros are passed over.
+fn magnitude_but(x: f64, over: bool) -> f64
+    ensures { λ r. ⌜ r ≡ magnitudeBut over x ⌝ }
 {
-    lesser(magnitude(x), magnitude(y))
+    if over & (x == 0.0) {
+        return 1.0;
+    }
+    magnitude(x)
+}
+
+fn lesser_magnitude(x: f64, y: f64, over: bool) -> f64
+    ensures { λ r. ⌜ r ≡ lesser (magnitudeBut over x) (magnitudeBut over y) ⌝ }
+{
+    lesser(magnitude_but(x, over), magnitude_but(y, over))
 }
 
 // The least magnitude of eight values, lane beside lane. Where one of two is a NaN, the second counts.
-fn least_magnitude(vector: Vector) -> f64
+fn least_magnitude(vector: Vector, over: bool) -> f64
     requires { ⌜ length (vector .v) ≡ 8 ⌝ }
-    ensures { λ r. ⌜ r ≡ leastMagnitude (vector .v) ⌝ }
+    ensures { λ r. ⌜ r ≡ leastMagnitude over (vector .v) ⌝ }
 {
-    let a = lesser_magnitude(vector.v[0], vector.v[4]);
-    let b = lesser_magnitude(vector.v[1], vector.v[5]);
-    let c = lesser_magnitude(vector.v[2], vector.v[6]);
-    let d = lesser_magnitude(vector.v[3], vector.v[7]);
+    let a = lesser_magnitude(vector.v[0], vector.v[4], over);
+    let b = lesser_magnitude(vector.v[1], vector.v[5], over);
+    let c = lesser_magnitude(vector.v[2], vector.v[6], over);
+    let d = lesser_magnitude(vector.v[3], vector.v[7], over);
     lesser(lesser(a, c), lesser(b, d))
 }
 
@@ -226,15 +236,26 @@ fn vector_not_low(vector: Vector) -> bool
     requires { ⌜ length (vector .v) ≡ 8 ⌝ }
     ensures { λ r. ⌜ r ≡ notLow (vector .v) ⌝ }
 {
-    LEAST <= least_magnitude(vector)
+    LEAST <= least_magnitude(vector, false)
 }
 
-// If so, all are normal numbers.
-fn vector_normal(vector: Vector) -> bool
+// If so, no magnitude but 0 is below 2^-1021, or one is a NaN. Zeros are passed over only if there may be one, since it takes longer.
+fn vector_high(vector: Vector) -> bool
     requires { ⌜ length (vector .v) ≡ 8 ⌝ }
-    ensures { λ r. ⌜ r ≡ allNormal (vector .v) ⌝ }
+    ensures { λ r. ⌜ r ≡ noneLow (vector .v) ⌝ }
 {
-    if TWICE_LOWEST <= least_magnitude(vector) {
+    if LEAST_POSITIVE <= least_magnitude(vector, false) {
+        return TWICE_LOWEST <= least_magnitude(vector, false);
+    }
+    TWICE_LOWEST <= least_magnitude(vector, true)
+}
+
+// If so, all are zeros or normal numbers.
+fn vector_ordinary(vector: Vector) -> bool
+    requires { ⌜ length (vector .v) ≡ 8 ⌝ }
+    ensures { λ r. ⌜ r ≡ allOrdinary (vector .v) ⌝ }
+{
+    if vector_high(vector) {
         return none_past(vector);
     }
     false
@@ -264,7 +285,7 @@ fn vector_subnormal(vector: Vector) -> bool
     requires { ⌜ length (vector .v) ≡ 8 ⌝ }
     ensures { λ r. ⌜ r ≡ allSubnormal (vector .v) ⌝ }
 {
-    if LEAST_POSITIVE <= least_magnitude(vector) {
+    if LEAST_POSITIVE <= least_magnitude(vector, false) {
         return none_normal(vector);
     }
     false
@@ -283,14 +304,14 @@ fn unsplit_vector(s: Lanes, vector: Vector) -> Lanes
     t
 }
 
-fn split_normals(s: Lanes, vector: Vector) -> Lanes
-    requires { ⌜ SmallLanes (2 ^ 59) s × (length (vector .v) ≡ 8) × (allNormal (vector .v) ≡ true) ⌝ }
+fn split_ordinaries(s: Lanes, vector: Vector) -> Lanes
+    requires { ⌜ SmallLanes (2 ^ 59) s × (length (vector .v) ≡ 8) × (allOrdinary (vector .v) ≡ true) ⌝ }
     ensures { λ r. ⌜ r ≡ feed splitStep 0 s (vector .v) ⌝ }
 {
     let mut t = s;
     let mut k: usize = 0;
     while k < LANES {
-        t = kernels::lanes::put_split(t, k, floats::split_normal(vector.v[k]));
+        t = kernels::lanes::put_split(t, k, floats::split_ordinary(vector.v[k]));
         k += 1;
     }
     t
@@ -322,13 +343,13 @@ fn split_mixed(s: Lanes, vector: Vector) -> Lanes
     t
 }
 
-// Normal numbers are split without a branch, and so are subnormals: eight at a time. A vector of several kinds is split value by value.
+// Zeros and normal numbers are split without a branch, and so are subnormals: eight at a time. Any other vector is split value by value.
 fn split_vector(s: Lanes, vector: Vector) -> Lanes
     requires { ⌜ SmallLanes (2 ^ 59) s × (length (vector .v) ≡ 8) ⌝ }
     ensures { λ r. ⌜ r ≡ feed splitStep 0 s (vector .v) ⌝ }
 {
-    if vector_normal(vector) {
-        return split_normals(s, vector);
+    if vector_ordinary(vector) {
+        return split_ordinaries(s, vector);
     }
     if vector_subnormal(vector) {
         return split_subnormals(s, vector);

@@ -57,7 +57,8 @@ returns c =
     let e = d .before .before .before in
     let b = e .before .before .before in
     let a = b .before .before .before in
-    least-tree (a .before .before .before .args .t1 .v) (a .lesser-magnitude .result) (b .lesser-magnitude2 .result) (e .lesser-magnitude3 .result)
+    let s = a .before .before .before .args in
+    least-tree (s .over) (s .t1 .v) (a .lesser-magnitude .result) (b .lesser-magnitude2 .result) (e .lesser-magnitude3 .result)
     (d .lesser-magnitude4 .result) (p .lesser .result) (q .lesser2 .result) (c .lesser3 .result)
     (a .lesser-magnitude .ensures) (b .lesser-magnitude2 .ensures) (e .lesser-magnitude3 .ensures) (d .lesser-magnitude4 .ensures) (p .lesser .ensures)
     (q .lesser2 .ensures) (c .lesser3 .ensures)

@@ -4,17 +4,17 @@ use borrow.Author.Needs.{needs}
 use Rattle.vectors.proofs.vector.split_vector.Statement.{statement}
 use Rattle.vectors.proofs.vector.split_vector.Tie as tie
 
-vector-normal-requires : tie.Need-vector-normal-requires
-vector-normal-requires c κs = search needs
+vector-ordinary-requires : tie.Need-vector-ordinary-requires
+vector-ordinary-requires c κs = search needs
 
-split-normals-requires : tie.Need-split-normals-requires
-split-normals-requires c κs =
+split-ordinaries-requires : tie.Need-split-ordinaries-requires
+split-ordinaries-requires c κs =
     let q = c .before in
     let s = q .before in
-    (s .pre .0, s .pre .1, sym (q .vector-normal .ensures) ∙ c .if1 .taken)
+    (s .pre .0, s .pre .1, sym (q .vector-ordinary .ensures) ∙ c .if1 .taken)
 
 returns : tie.Need-returns
-returns c = c .split-normals .ensures
+returns c = c .split-ordinaries .ensures
 
 vector-subnormal-requires : tie.Need-vector-subnormal-requires
 vector-subnormal-requires c κs = search needs
@@ -38,8 +38,8 @@ pub split-vector-spec : {M : Type 1} → statement M
 split-vector-spec =
     tie.close
     (tie.spec
-    vector-normal-requires
-    split-normals-requires
+    vector-ordinary-requires
+    split-ordinaries-requires
     returns
     vector-subnormal-requires
     split-subnormals-requires
