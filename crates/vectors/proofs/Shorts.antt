@@ -51,20 +51,63 @@ front : {P : Float → Type 0} (xs ys : List Float) → Each P (xs ++ ys) → Ea
 front [] ys e = none
 front (x ∷ xs) ys (more p ps) = more p (front xs ys ps)
 
--- ---- a piece whose values lie from 2^-(k + 1) on, in n vectors
+-- ---- lanes ms of values ys, which lie from 2^-(k + 1) on, in n vectors: those of a piece xs, and 1.0 behind them
+module _ (k n : ℕ) (room : 8 * (suc k * n) ≤ 1022) (xs ys : List Float) (v : Each Value xs) (short : length ys ≤ 8 * n)
+    (plain : plainAfter (replicate 8 (unit 52)) ys ≡ lanes 52 (map rateFactor xs)) (back : Each GoodRate ys → Each GoodRate xs) (ms : List Float) (q : Split)
+    (fields : isSubnormal (chained ms) ≡ false → q ≡ split (chained ms)) where
+  -- the product, brought back by its fields, is the piece's
+  abbrev Brought : Type 0
+  Brought = _≡_ {A = StableProductFloatAcc} (record { m = q .m; e = q .e; bad = false }) (contiguous xs)
+
+  abbrev p : Float
+  p = chained ms
+
+  no-exponent : (j : ℕ) → getD (startLanes .e) j (pos 0) ≡ pos 0
+  no-exponent j = replicate-either (λ (z : ℤ). z ≡ pos 0) 8 j (pos 0) (pos 0) refl refl
+
+  shallow : (j : ℕ) → depth (suc k) (0 + length ys) j ≤ suc k * n
+  shallow j = mul-le-mul-left (suc k) (let h = short in let l : turns j (0 + length ys) ≤ n = omega arith in l)
+
+  pub short-lanes : Out (suc k) (0 + length ys) ms (startLanes .e) (plainAfter (replicate 8 (unit 52)) ys) → Each GoodRate ys ⊎ LostLane ms
+      → notPast (chained ms) ≡ true → _≡_ {A = StableProductFloatAcc} (record { m = q .m; e = q .e; bad = false }) (contiguous xs)
+  unfolding pieceProduct
+  short-lanes out good m = go out good
+    where
+      deep : ℕ
+      deep = suc k * n * 8
+
+      fs : List Factor
+      fs = plainAfter (replicate 8 (unit 52)) ys
+
+      lost : isLost p ≡ true → Brought
+      lost e = absurd (past-lost p m e)
+
+      stood : Each GoodRate ys → Waits deep p (pos 0) (pieceProduct 52 (map rateFactor xs)) → Brought
+      stood R W =
+          ap (λ (z : Split). record { m = z .m; e = z .e; bad = false }) (fields (waits-other deep p (pos 0) (pieceProduct 52 (map rateFactor xs)) W))
+          ∙ ap (λ (z : ℤ). record { m = split p .m; e = z; bad = false }) (sym (+ℤ-idl (split p .e)))
+          ∙ represents-acc (split p .m) (pos 0 +ℤ split p .e) (pieceProduct 52 (map rateFactor xs))
+          (waits-split deep p (pos 0) (pieceProduct 52 (map rateFactor xs)) W)
+          ∙ ap (λ (c : Bool). record { m = accOf (pieceProduct 52 (map rateFactor xs)) .m; e = pieceProduct 52 (map rateFactor xs) .exp; bad = c })
+          (sym (rates-good (back R)))
+          ∙ sym (contiguous-is v)
+
+      chained-up : Each GoodRate ys → Waits deep p (pos 0) (inOrder (times-in fs) 8 (unit 52)) ⊎ (isLost p ≡ true) → Brought
+      chained-up R (inl W) = stood R (subst (λ (gs : List Factor). Waits deep p (pos 0) (inOrder (times-in gs) 8 (unit 52))) plain W)
+      chained-up R (inr e) = lost e
+
+      go : Out (suc k) (0 + length ys) ms (startLanes .e) fs → Each GoodRate ys ⊎ LostLane ms → Brought
+      go (inr l) g = lost (chain-lost ms l)
+      go (inl o) (inr l) = lost (chain-lost ms l)
+      go (inl o) (inl R) =
+          chained-up R
+          (chain-waits (suc k * n) room ms fs (startLanes .e) no-exponent
+          (lanes-widen Waits waits-more (depth (suc k) (0 + length ys)) (λ (j : ℕ). suc k * n) (λ j i. shallow j) o))
+
+-- ---- a piece by the test of its least
 module _ (signs : Bool) (k n : ℕ) (few : k ≤ 510) (room : 8 * (suc k * n) ≤ 1022) (xs : List Float) (v : Each Value xs) (short : length xs ≤ 8 * n) (q : Split)
     (fields : isSubnormal (chained (feed (waitStep signs) 0 (startWaiting (replicate 8 one)) (padded xs) .m)) ≡ false
     → q ≡ split (chained (feed (waitStep signs) 0 (startWaiting (replicate 8 one)) (padded xs) .m))) where
-  abbrev lanes-of : List Float
-  lanes-of = feed (waitStep signs) 0 (startWaiting (replicate 8 one)) (padded xs) .m
-
-  abbrev p : Float
-  p = chained lanes-of
-
-  -- the product, brought back by its fields, is the piece's
-  abbrev ShortLanes : Type 0
-  ShortLanes = _≡_ {A = StableProductFloatAcc} (record { m = q .m; e = q .e; bad = false }) (contiguous xs)
-
   padded-long : length (padded xs) ≤ 8 * n
   padded-long = simp (length-append, length-replicate) (omega arith)
 
@@ -74,58 +117,22 @@ module _ (signs : Bool) (k n : ℕ) (few : k ≤ 510) (room : 8 * (suc k * n) �
       go : (m : ℕ) → 8 * m ≤ 1022 → m ≤ 1022
       go m h = omega arith
 
-  fs : List Factor
-  fs = plainAfter (replicate 8 (unit 52)) (padded xs)
-
-  fs-is : fs ≡ lanes 52 (map rateFactor xs)
-  unfolding fs lanes
+  fs-is : plainAfter (replicate 8 (unit 52)) (padded xs) ≡ lanes 52 (map rateFactor xs)
+  unfolding lanes
   fs-is = ones-after (replicate 8 (unit 52)) xs (7 - (length xs + 7) % 8) (fed-normal 0 (replicate 8 (unit 52)) xs (units-normal 52) .at)
 
-  no-exponent : (j : ℕ) → getD (startLanes .e) j (pos 0) ≡ pos 0
-  no-exponent j = replicate-either (λ (z : ℤ). z ≡ pos 0) 8 j (pos 0) (pos 0) refl refl
-
-  shallow : (j : ℕ) → depth (suc k) (0 + length (padded xs)) j ≤ suc k * n
-  shallow j = mul-le-mul-left (suc k) (let h = padded-long in let l : turns j (0 + length (padded xs)) ≤ n = omega arith in l)
-
   pub short-contiguous : every (notBelow (leastOf signs (suc k))) (feed (waitStep signs) 0 (startWaiting (replicate 8 one)) (padded xs) .least) ≡ true
-      → notPast p ≡ true → ShortLanes
-  unfolding fs pieceProduct
-  short-contiguous b m =
-      go (outcome signs k n few lane-room startLanes (startWaiting (replicate 8 one)) (padded xs) values padded-long refl refl b (replicate 8 (unit 52))
+      → notPast (chained (feed (waitStep signs) 0 (startWaiting (replicate 8 one)) (padded xs) .m)) ≡ true
+      → _≡_ {A = StableProductFloatAcc} (record { m = q .m; e = q .e; bad = false }) (contiguous xs)
+  short-contiguous b =
+      short-lanes k n room xs (padded xs) v padded-long fs-is (front xs (replicate (7 - (length xs + 7) % 8) one))
+      (feed (waitStep signs) 0 (startWaiting (replicate 8 one)) (padded xs) .m) q fields
+      (outcome signs k n few lane-room startLanes (startWaiting (replicate 8 one)) (padded xs) values padded-long refl refl b (replicate 8 (unit 52))
       represent-start)
       (outcome-good signs k n few lane-room startLanes (startWaiting (replicate 8 one)) (padded xs) values padded-long refl refl b refl)
     where
-      deep : ℕ
-      deep = suc k * n * 8
-
       values : Each Value (padded xs)
       values = padded-values xs (7 - (length xs + 7) % 8) v
-
-      lost : isLost p ≡ true → ShortLanes
-      lost e = absurd (past-lost p m e)
-
-      stood : Each GoodRate (padded xs) → Waits deep p (pos 0) (pieceProduct 52 (map rateFactor xs)) → ShortLanes
-      stood R W =
-          ap (λ (z : Split). record { m = z .m; e = z .e; bad = false }) (fields (waits-other deep p (pos 0) (pieceProduct 52 (map rateFactor xs)) W))
-          ∙ ap (λ (z : ℤ). record { m = split p .m; e = z; bad = false }) (sym (+ℤ-idl (split p .e)))
-          ∙ represents-acc (split p .m) (pos 0 +ℤ split p .e) (pieceProduct 52 (map rateFactor xs))
-          (waits-split deep p (pos 0) (pieceProduct 52 (map rateFactor xs)) W)
-          ∙ ap (λ (c : Bool). record { m = accOf (pieceProduct 52 (map rateFactor xs)) .m; e = pieceProduct 52 (map rateFactor xs) .exp; bad = c })
-          (sym (rates-good (front xs (replicate (7 - (length xs + 7) % 8) one) R)))
-          ∙ sym (contiguous-is v)
-
-      chained-up : Each GoodRate (padded xs) → Waits deep p (pos 0) (inOrder (times-in fs) 8 (unit 52)) ⊎ (isLost p ≡ true)
-          → ShortLanes
-      chained-up R (inl W) = stood R (subst (λ (gs : List Factor). Waits deep p (pos 0) (inOrder (times-in gs) 8 (unit 52))) fs-is W)
-      chained-up R (inr e) = lost e
-
-      go : Out (suc k) (0 + length (padded xs)) lanes-of (startLanes .e) fs → Each GoodRate (padded xs) ⊎ LostLane lanes-of → ShortLanes
-      go (inr l) g = lost (chain-lost lanes-of l)
-      go (inl q) (inr l) = lost (chain-lost lanes-of l)
-      go (inl q) (inl R) =
-          chained-up R
-          (chain-waits (suc k * n) room lanes-of fs (startLanes .e) no-exponent
-          (lanes-widen Waits waits-more (depth (suc k) (0 + length (padded xs))) (λ (j : ℕ). suc k * n) (λ j i. shallow j) q))
 
 -- ---- by the number of values
 module _ (signs : Bool) (xs : List Float) (v : Each Value xs) (least : Float) (L : ShortLeast signs (length xs) least) (w : Waiting)

@@ -59,7 +59,7 @@ pub fn short_least(len: usize, signs: bool) -> f64
 }
 
 // The vectors of a piece of at most 64 values, in lanes that wait by their values. These are loops of their own, so that they can stand inside that of a strip.
-fn short_beside(values: &[f64], start: i64, vectors: usize) -> Waited
+pub fn short_beside(values: &[f64], start: i64, vectors: usize) -> Waited
     requires { ⌜ PlacesInside (length (now values)) start (pos 1) (8 * vectors) ⌝ }
     ensures { λ r. ⌜ r .lanes ≡ feed (waitStep false) 0 (startWaiting (replicate 8 one)) (strided (now (values .entry)) start (pos 1) (8 * vectors)) ⌝ }
     ensures at { λ r. ⌜ r .at ≡ lastVector start (pos 1) (8 * vectors) ⌝ }
