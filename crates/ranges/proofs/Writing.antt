@@ -1,17 +1,14 @@
 -- The products of many ranges, written into a buffer one after another.
 -- Assumes nothing.
 use Prim.Native.Nat.{ℕ, _+_, _≤_, _<_}
-use mathlib.Core.Path.{_≡_, refl, sym, _∙_, ap}
+use mathlib.Core.Path.{_≡_, sym, _∙_, ap}
 use mathlib.Core.List.{List, map}
-use native.Mathlib.Omega.{arith}
-use native.Mathlib.Numerals.{add-one}
-use native.Mathlib.Nat.{zero-add}
 use lib.ListN.{length, getD, set, length-map, List·getD-map}
-use lib.Seq.{paste, paste-suc, length-paste}
+use lib.Seq.{paste}
 use lib.IntN.{ℤ}
 use lib.Ieee.{Float}
 use Rattle.refusals.specs.Refusals.{bufferAfter}
-use Rattle.refusals.proofs.Buffers.{buffer-pasted}
+use Rattle.refusals.proofs.Buffers.{pasted-more, pasted-length, pasted-all}
 use Rattle.layout.specs.declared.traversal.FullTraversal.{FullTraversal}
 use Rattle.accumulator.specs.declared.StableProductFloatAcc.{StableProductFloatAcc}
 use Rattle.kernels.specs.Pieces.{joinedPieces}
@@ -60,17 +57,15 @@ module _ (l : FullTraversal) (base : ℤ) (values : List Float) (starts ends : L
     wrote i = paste out 0 all i
 
     module _ (same : length starts ≡ length ends) (room : length starts ≤ length out) where
+      fits : length all ≤ length out
+      fits = rw (length-all same) room
+
       pub wrote-more : (i : ℕ) → i < length starts → (r : List X) → r ≡ wrote i → (x : X)
           → x ≡ f (productOver l base values (getD starts i 0, getD ends i 0)) → set r i x ≡ wrote (i + 1)
-      wrote-more i h r e x q =
-          ap (λ (o : List X). set o i x) e
-          ∙ ap (set (wrote i) i) (q ∙ sym (product-at same i h x))
-          ∙ ap (λ (n : ℕ). set (wrote i) n (getD all i x)) (sym (zero-add i))
-          ∙ paste-suc out 0 all i x (rw (zero-add i) (omega arith)) (rw (length-all same) h)
-          ∙ ap wrote (sym (add-one i))
+      wrote-more i h r e x q = pasted-more all out fits i (rw (length-all same) h) r e x (q ∙ sym (product-at same i h x))
 
       pub length-wrote : (i : ℕ) → i ≤ length starts → (r : List X) → r ≡ wrote i → length r ≡ length out
-      length-wrote i h r e = ap length e ∙ length-paste out 0 all i (rw (zero-add i) (omega arith)) (rw (length-all same) h)
+      length-wrote i h r e = pasted-length all out fits i (rw (length-all same) h) r e
 
       pub wrote-all : (i : ℕ) → i ≡ length starts → (r : List X) → r ≡ wrote i → r ≡ bufferAfter 0 all out
-      wrote-all i h r e = e ∙ ap wrote (h ∙ sym (length-all same)) ∙ buffer-pasted 0 all out refl
+      wrote-all i h r e = pasted-all all out fits i (h ∙ sym (length-all same)) r e
