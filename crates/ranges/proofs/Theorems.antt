@@ -33,7 +33,7 @@ use Rattle.ranges.proofs.Writing.{acc-m, acc-e, acc-byte, length-all, p
 use Rattle.ranges.proofs.Codes.{each-head, each-tail, Accepted, accepted, range-accepted}
 
 -- ---- the byte of a mark
-byte-one : (b : Bool) → eqb (badByte b) 1 ≡ b
+pub byte-one : (b : Bool) → eqb (badByte b) 1 ≡ b
 byte-one true = refl
 byte-one false = refl
 
@@ -41,7 +41,7 @@ one-byte : (b : Bool) → eqb 1 (badByte b) ≡ b
 one-byte true = refl
 one-byte false = refl
 
-byte-few : (b : Bool) → badByte b ≤ 1
+pub byte-few : (b : Bool) → badByte b ≤ 1
 byte-few true = omega arith
 byte-few false = omega arith
 

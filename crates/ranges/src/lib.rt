@@ -71,7 +71,8 @@ fn place_code(total: u64, sizes: &[u64], strides: &[i64], base: i64, length: u64
     refusals::ELEMENT_OUTSIDE
 }
 
-fn bad_byte(bad: bool) -> u8
+// The mark of an answer.
+pub fn bad_byte(bad: bool) -> u8
     ensures { λ r. ⌜ r ≡ badByte bad ⌝ }
 {
     if bad { 1 } else { 0 }

@@ -1,4 +1,4 @@
--- Rules R0 to R16: a name for each refusal's number, as in src/lib, and which of several is given.
+-- Rules R0 to R17: a name for each refusal's number, as in src/lib, and which of several is given.
 use Prim.Native.Nat.{ℕ}
 use mathlib.Core.Bool.{Bool, cond}
 use mathlib.Core.List.{List, [], _∷_, _++_}
@@ -52,6 +52,9 @@ NOT_A_PIECE = 15
 
 abbrev pub ANSWER_BUFFER_TOO_SHORT : ℕ
 ANSWER_BUFFER_TOO_SHORT = 16
+
+abbrev pub NO_WINDOW : ℕ
+NO_WINDOW = 17
 
 -- a refusal: its number, and whether its condition holds
 abbrev pub Refusal : Type 0

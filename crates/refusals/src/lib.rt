@@ -48,3 +48,6 @@ pub const NOT_A_PIECE: u32 = 15;
 
 // the lists of starts and ends differ in length, or a buffer is too short for the answers
 pub const ANSWER_BUFFER_TOO_SHORT: u32 = 16;
+
+// a window of no rate, or of more than there are
+pub const NO_WINDOW: u32 = 17;

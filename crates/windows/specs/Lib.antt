@@ -1,0 +1,4 @@
+-- A moving stretch of days. Definitions only.
+pub mod Windows
+pub mod Theorems
+pub mod InnerEight
