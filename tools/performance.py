@@ -4,10 +4,12 @@
     bench/run > build/table.txt && bench/run rare > build/rare.txt && bench/run growth > build/growth.txt &&
         bench/run figures > build/figures.txt && bench/run search > build/search.txt &&
         bench/run steps > build/steps.txt && bench/run ranges > build/ranges.txt &&
+        bench/run windows > build/windows.txt && bench/run window-growth > build/window_growth.txt &&
         bench/run threads > build/threads.txt && bench/run jobs > build/jobs.txt &&
-        python3 tools/growth.py build/growth.txt docs/growth.svg && python3 tools/performance.py
+        python3 tools/growth.py build/growth.txt docs/growth.svg &&
+        python3 tools/growth.py build/window_growth.txt docs/window_growth.svg && python3 tools/performance.py
 
-It reads those nine files and what tools/stack_frames.py says of the static libraries. With names behind it, as
+It reads those eleven files and what tools/stack_frames.py says of the static libraries. With names behind it, as
 `performance.py figures`, it puts in those alone, and reads no other file.
 """
 
@@ -57,7 +59,7 @@ def power(n):
 
 def grown(lines):
     """Nanoseconds a call at the powers of ten."""
-    heading, kinds = growth.read(lines)
+    heading, [(_, kinds)] = growth.read(lines)
     out = [f"{heading}. Nanoseconds a call, the Rust / the engine.", ""]
     out += ["| values | " + " | ".join(name for name, _ in kinds) + " |", "|---:|" + "---:|" * len(kinds)]
     for points in zip(*(points for _, points in kinds)):
@@ -65,6 +67,18 @@ def grown(lines):
         if power(n):
             pairs = [f"{rust * n:,.0f} / {engine * n:,.0f}" for _, rust, engine in points]
             out.append(f"| {n:,.0f} | " + " | ".join(pairs) + " |")
+    return "\n".join(out)
+
+
+def windows_grown(lines):
+    """Nanoseconds a window, at each width and at each number of windows."""
+    heading, forms = growth.read(lines)
+    out = [f"{heading}. Nanoseconds a window."]
+    for form, kinds in forms:
+        for name, points in kinds:
+            heads = [f"{form.across}, {name}", *(who for who, _ in form.curves)]
+            out += ["", f"| {' | '.join(heads)} |", "|" + "---:|" * len(heads)]
+            out += [f"| {n:,.0f} | " + " | ".join(f"{time:,.1f}" for time in times) + " |" for n, *times in points]
     return "\n".join(out)
 
 
@@ -89,14 +103,17 @@ PLACES = {
     "search": lambda: built("search.txt"),
     "steps": lambda: built("steps.txt"),
     "ranges": lambda: built("ranges.txt"),
+    "windows": lambda: built("windows.txt"),
     "threads": lambda: built("threads.txt"),
     "jobs": lambda: built("jobs.txt"),
     "growth": lambda: grown(built("growth.txt").splitlines()),
+    "window-growth": lambda: windows_grown(built("window_growth.txt").splitlines()),
     "stack": lambda: stack("probe"),
     "figure-stack": lambda: stack("figure_probe"),
     "search-stack": lambda: stack("search_probe"),
     "step-stack": lambda: stack("step_probe"),
     "ranges-stack": lambda: stack("ranges_probe"),
+    "windows-stack": lambda: stack("windows_probe"),
     "join-stack": lambda: stack("join_probe"),
     "job-stack": lambda: stack("job_probe"),
 }

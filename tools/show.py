@@ -19,6 +19,8 @@ REFUSALS = os.path.join(os.path.dirname(os.path.abspath(__file__)), "..", "crate
 FEW = 4
 FEW_RANGES = 16
 JOB_WORDS = 16
+# The answers that begin with a code, 0 or a refusal.
+WITH_CODE = ("compile", "list", "job", "write", "ranges", "windows")
 # The calls over a range that multiply bad rates as IEEE 754 does.
 WITH_BAD_RATES = ("ordered", "figure")
 # The kinds of a job's words, by their number.
@@ -98,6 +100,12 @@ def take_lists(words, count):
     return lists, words
 
 
+def shown_buffers(words):
+    """How long the places for several accumulators are."""
+    lengths = ", ".join(str(len(buffer)) for buffer in take_lists(words, 3)[0])
+    return f"buffers of {lengths} for m, e, bad"
+
+
 def shown_ranges(words):
     """A layout and a base, the ranges, or both lists where they are no pairs, the values, and how long the buffers are."""
     layout, (base, *rest) = shown_layout(words)
@@ -107,9 +115,13 @@ def shown_ranges(words):
     text += f" .. and {len(pairs) - FEW_RANGES} more" if len(pairs) > FEW_RANGES else ""
     if len(starts) != len(ends):
         text = f"{len(starts)} starts and {len(ends)} ends"
-    buffers = take_lists(rest, 4)[0][1:]
-    lengths = ", ".join(str(len(buffer)) for buffer in buffers)
-    return f"{layout}, base {base}, {text}, {shown_values(rest)}, buffers of {lengths} for m, e, bad"
+    return f"{layout}, base {base}, {text}, {shown_values(rest)}, {shown_buffers(take_list(rest)[1])}"
+
+
+def shown_windows(words):
+    """The values, the width, and how long the buffers are."""
+    width, *rest = take_list(words)[1]
+    return f"{shown_values(words)}, each {width} in a row (ends not included), {shown_buffers(rest)}"
 
 
 def shown_case(words, refusals):
@@ -128,6 +140,8 @@ def shown_case(words, refusals):
         return "step: " + shown_step(words[1:])
     if call == "ranges":
         return "ranges: " + shown_ranges(words[1:])
+    if call == "windows":
+        return "windows: " + shown_windows(words[1:])
     if call in OVER_VALUES:
         layout, rest = shown_range(words[1:])
         return f"{call}: {layout}, {shown_values(rest)}"
@@ -215,9 +229,17 @@ def shown_bad(case, element, offset):
     return f"the first bad rate is element {element}, at offset {offset}: {what}"
 
 
+def reduced_ranges(case):
+    """The starts and the ends of the ranges, or of the windows, that a case asks for."""
+    if case[0] == "ranges":
+        return take_lists(shown_layout(case[1:])[1][1:], 2)[0]
+    values, (width, *_) = take_list(case[1:])
+    return range(len(values) - int(width) + 1), range(int(width), len(values) + 1)
+
+
 def shown_accs(case, words):
     """Each range with its accumulator; what the buffers have behind them is not the call's."""
-    (starts, ends), _ = take_lists(shown_layout(case[1:])[1][1:], 2)
+    starts, ends = reduced_ranges(case)
     accs = zip(*take_lists(words, 3)[0])
     text = "; ".join(f"{start} to {end}: {shown_acc(acc)}" for start, end, acc in zip(starts, ends, accs))
     return text or "accepted, with nothing to write"
@@ -232,7 +254,7 @@ def shown_job(words):
 
 def shown_answer(case, words, refusals):
     kind, call = words[0], case[0]
-    if kind == "refused" or (kind in ("compile", "list", "job", "write", "ranges") and words[1] != "0"):
+    if kind == "refused" or (kind in WITH_CODE and words[1] != "0"):
         return shown_refusal(words[1], refusals)
     if kind == "job":
         return shown_job(words[2:])
@@ -242,7 +264,7 @@ def shown_answer(case, words, refusals):
         return f"{words[2]} elements, runs of {words[3]} by {words[4]}, {shown_axes(words[5:])}"
     if kind == "list":
         return shown_offsets(case, words[2:])
-    if kind == "ranges":
+    if kind in ("ranges", "windows"):
         return shown_accs(case, words[2:])
     if kind == "bad":
         return shown_bad(case, *words[1:])

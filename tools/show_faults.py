@@ -28,6 +28,7 @@ ANSWERS = {
     "write": ("write",),
     "step": ("done", "more", "refused"),
     "ranges": ("ranges",),
+    "windows": ("windows",),
 }
 # The calls over a range with its values, or over several. Behind these `step` and `ranges` have more.
 OVER_VALUES = ("reduce", "product", "ordered", "figure", "first", "step", "ranges")
@@ -190,6 +191,17 @@ def check_bytes_given(words):
     words.items("byte", ITEMS, lambda what: words.number(what, BYTE))
 
 
+def check_values(words):
+    words.items("value", ITEMS, words.float)
+
+
+def check_buffers(words):
+    """Places for several accumulators."""
+    words.items("m place", ITEMS, words.float)
+    words.items("e place", ITEMS, lambda what: words.number(what, I64))
+    words.items("bad place", ITEMS, lambda what: words.number(what, BYTE))
+
+
 def check_range(call, words):
     """A range by its two numbers, or several by two lists."""
     if call == "ranges":
@@ -213,15 +225,19 @@ def check_layout(call, words):
     if call == "write":
         check_bytes_given(words)
     if call in OVER_VALUES:
-        words.items("value", ITEMS, words.float)
+        check_values(words)
     if call == "step":
         words.number("the next element number", U64)
         check_accumulator(words)
         words.number("the count of pieces", U64)
     if call == "ranges":
-        words.items("m place", ITEMS, words.float)
-        words.items("e place", ITEMS, lambda what: words.number(what, I64))
-        words.items("bad place", ITEMS, lambda what: words.number(what, BYTE))
+        check_buffers(words)
+
+
+def check_windows(words):
+    check_values(words)
+    words.number("the width of the windows", U64)
+    check_buffers(words)
 
 
 def check_call(call, words):
@@ -233,6 +249,8 @@ def check_call(call, words):
         check_finish(words)
     elif call == "read":
         check_bytes_given(words)
+    elif call == "windows":
+        check_windows(words)
     else:
         check_layout(call, words)
     words.end()

@@ -5,7 +5,7 @@ The format has no comments, so this file says what each group is for: here layou
 in stored_products.py reductions, products and finishes, in stored_figures.py ordered products and figures,
 in stored_search.py first bad rates, in stored_jobs.py layouts sent as words, in stored_steps.py reductions in steps,
 in stored_ranges.py several ranges in one call, in stored_order.py axes of one |stride|, forwards and backwards,
-in stored_subnormal.py subnormal rates.
+in stored_subnormal.py subnormal rates, in stored_windows.py each w rates in a row.
 The answers are the oracle's: crates/replay/stdout.
 """
 
@@ -20,6 +20,7 @@ import stored_ranges
 import stored_search
 import stored_steps
 import stored_subnormal
+import stored_windows
 from case_lines import BAD, GAPS, INFINITE, LEAST, LIMIT, MANY, MOST, ONE, OUT, PLAN, SIGN, THREE_HALVES, TWO
 from case_lines import WRONG_FLOATS, WRONG_MARKS, WRONG_SIGNED
 from case_lines import between_good_lines, compile_, join, list_, marks, needed, patterns_of_m, spoiled, unit
@@ -585,6 +586,7 @@ def main():
         *stored_ranges.GROUPS,
         *stored_order.GROUPS,
         *stored_subnormal.GROUPS,
+        *stored_windows.GROUPS,
     ]:
         group()
     # The last line has no newline, and counts all the same.

@@ -13,6 +13,8 @@ pub const NO_AIM: f64 = f64::INFINITY;
 /// What a time is given for.
 pub enum Unit {
     Value,
+    /// One of the turns, which are all gone through in one time.
+    Turn,
     Call,
 }
 
@@ -51,6 +53,7 @@ impl Table {
         let (times, ratios) = self.measure(&row.job, LEAST);
         let times = times.map(|time| match self.unit {
             Unit::Value => format!("{:.3}", time / row.job.count() as f64),
+            Unit::Turn => format!("{:.2}", time / row.job.turns() as f64),
             Unit::Call => grouped(time.round() as u64),
         });
         let cells: Vec<String> = times.into_iter().chain(ratios.iter().map(|ratio| format!("{ratio:.3}"))).collect();

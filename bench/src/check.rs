@@ -1,13 +1,13 @@
 //! Every case of both tables, of growth, and of short calls with several axes: those that take longer than the Rust.
-//! And every case of the calls that hand out a number, of the search, of reductions by steps, of lists of ranges, and of
-//! jobs of sixteen axes: those that take longer than aimed at.
+//! And every case of the calls that hand out a number, of the search, of reductions by steps, of lists of ranges, of
+//! windows, and of jobs of sixteen axes: those that take longer than aimed at.
 //!
 //! A busy machine makes a case look slow now and then, so one that does is timed again, and its best ratio counts.
 
 use crate::job::Job;
 use crate::rates::Rates;
 use crate::table::Row;
-use crate::{beside, figures, growth, rare, search, sent, stepping, table, timing, workers};
+use crate::{beside, figures, growth, moving, rare, search, sent, stepping, table, timing, workers};
 use std::time::Duration;
 
 const LEAST: Duration = Duration::from_millis(100);
@@ -46,9 +46,9 @@ pub fn print() -> bool {
     for (name, axes) in layouts() {
         SHORT.into_iter().for_each(|count| seen.time(&format!("{name}, {count} values"), &short(&axes, count)));
     }
-    eprintln!("figures, the first bad rate, reductions by steps, and lists of ranges ..");
+    eprintln!("figures, the first bad rate, reductions by steps, lists of ranges, and windows ..");
     let tables = figures::TABLES.iter().chain(&search::TABLES).chain(&stepping::TABLES).chain(&workers::TABLES);
-    for table in tables {
+    for table in tables.chain(&moving::TABLES) {
         (table.rows)().iter().for_each(|row| seen.beside(table, row));
     }
     eprintln!("jobs of sixteen axes ..");
@@ -56,7 +56,7 @@ pub fn print() -> bool {
         seen.aims(&case.name, case.difference(), &sent::AIMS, || case.ratios(LEAST));
     }
     println!("{} of {} cases take longer than the Rust", seen.slower, seen.cases);
-    let kinds = "figures, of searches, of steps, of ranges and of jobs";
+    let kinds = "figures, of searches, of steps, of ranges, of windows and of jobs";
     println!("{} of {} ratios of {kinds} are past their aim", seen.missed, seen.ratios);
     seen.same && seen.slower == 0 && seen.missed == 0
 }

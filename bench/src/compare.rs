@@ -2,7 +2,8 @@
 //! refusal, the accumulator, and every place of a buffer. The offsets of each range are listed and compared too, and
 //! its ordered product, its figure and its first bad rate; then these for calls that are drawn for them. Jobs are read
 //! and written. Steps of a few pieces are asked, by themselves and in callers' loops, and lists of ranges, whose answers
-//! are joined and finished. Now and then comes a long piece. At the end a host with threads is asked.
+//! are joined and finished, and windows. Now and then comes a long piece, and a long slice for windows. At the end a host
+//! with threads is asked.
 //!
 //! The oracle's accumulators are the Rust's where no subnormal is visited, and else those of its own rule; how often
 //! each was asked is told.
@@ -22,6 +23,7 @@ use crate::step_answers;
 use crate::subnormal;
 use crate::tally::Tally;
 use crate::threads;
+use crate::window_answers;
 use std::collections::BTreeMap;
 
 /// What an answer's place holds before a call.
@@ -30,7 +32,7 @@ const BEFORE: Place = Place { m: -0.1, e: i64::MIN, bad: 1 };
 /// A piece of so many values at stride 1 has a block.
 const BLOCK: u64 = 64;
 
-/// After one call in so many comes a long piece.
+/// After one call in so many come a long piece and a long slice.
 const LONG: u64 = 100;
 
 /// What is told apart in the counts.
@@ -67,6 +69,7 @@ struct Seen {
     jobs: Tally,
     steps: Tally,
     ranges: Tally,
+    windows: Tally,
 }
 
 /// Whether all answers were the same.
@@ -111,9 +114,11 @@ impl Seen {
         self.steps.print();
         println!("{count} lists of ranges, the joins of what they give, and the finished numbers: all answers are the same");
         self.ranges.print();
+        println!("{count} slices with their windows, and {longer} long ones: all answers are the same");
+        self.windows.print();
     }
 
-    /// A call of each kind, and a long piece if it is time for one. What differs is the error.
+    /// A call of each kind, and long ones if it is time for them. What differs is the error.
     fn ask(&mut self, dice: &mut Dice, long: bool) -> Result<(), String> {
         self.reduction(dice)?;
         self.numbers_alone(dice)?;
@@ -121,8 +126,10 @@ impl Seen {
         sent_answers::ask(&mut self.jobs, dice)?;
         step_answers::ask(&mut self.steps, dice)?;
         range_answers::ask(&mut self.ranges, dice)?;
+        window_answers::ask(&mut self.windows, dice)?;
         if long {
             long_piece(dice)?;
+            window_answers::ask_long(&mut self.windows, dice)?;
         }
         Ok(())
     }

@@ -9,8 +9,9 @@
 
 use crate::erased::calls::{Acc, Answer, Layout, Plan};
 use crate::probe::{self, BadPlace, Bits, Numbered, Place, Places, Reduced, StepPlace};
-use crate::searches;
 use crate::rules;
+use crate::searches;
+use crate::window_probe;
 use std::hint::black_box;
 
 pub struct Job {
@@ -37,10 +38,9 @@ impl Job {
         let sizes: Vec<u64> = axes.iter().map(|axis| axis.0).collect();
         let strides: Vec<i64> = axes.iter().map(|axis| axis.1).collect();
         let layout = rules::compile(&sizes, &strides).expect("a timed layout compiles");
-        for &base in &bases {
-            let range = rules::Range { base, start: 0, end: count, length: values.len() as u64 };
-            assert!(rules::range(&sizes, &strides, &range).is_ok(), "a timed call is accepted");
-        }
+        let length = values.len() as u64;
+        let inside = |&base| rules::inside(&layout, &sizes, &strides, base, length).is_ok();
+        assert!(rules::within(layout.total, 0, count).is_ok() && bases.iter().all(inside), "a timed call is accepted");
         let (dims, steps) = rules::forward_first(&sizes, &strides);
         let dims = dims.into_iter().map(|size| size as usize).collect();
         let steps = steps.into_iter().map(|stride| stride as isize).collect();
@@ -178,6 +178,12 @@ impl Job {
         let probe::Range { sizes, strides, base, .. } = self.range(0);
         let ranges = probe::Ranges { sizes, strides, base, starts: black_box(starts), ends: black_box(ends) };
         probe::ranges_into(&ranges, black_box(&self.values), places)
+    }
+
+    /// Each `count` values in a row, wherever the bases lie.
+    #[inline(never)]
+    pub fn windows(&self, places: &mut Places) -> u32 {
+        window_probe::windows_into(black_box(&self.values), black_box(self.count), places)
     }
 
     /// The oracle's accumulator.

@@ -65,14 +65,20 @@ fn spoiled(dice: &mut Dice) -> f64 {
 const RATES: [Rate; 12] =
     [keep, keep, signed, signed, low, lower, large, wild, spoiled, spoiled, subnormal, seldom_subnormal];
 
-/// A call on one piece, at any stride but 0.
-pub fn drawn(dice: &mut Dice) -> Job {
+/// Several stretches, one behind another.
+pub fn stretches(dice: &mut Dice) -> Vec<f64> {
     let mut values = Vec::new();
     for _ in 0..1 + dice.below(STRETCHES) {
         let rate = dice.of(&RATES);
         let count = 1 + dice.below(STRETCH);
         values.extend((0..count).map(|_| rate(dice)));
     }
+    values
+}
+
+/// A call on one piece, at any stride but 0.
+pub fn drawn(dice: &mut Dice) -> Job {
+    let values = stretches(dice);
     let stride: i64 = dice.of(&[1, 1, 1, -1, 2, 3]);
     let count = (values.len() as u64).div_ceil(stride.unsigned_abs());
     let base = if stride < 0 { values.len() as i64 - 1 } else { 0 };

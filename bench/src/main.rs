@@ -2,8 +2,9 @@
 //!
 //! `bench table` prints a row for each kind of call, `bench rare` a row for those seldom met, `bench figures` the calls
 //! that hand out a number, `bench search` the search for the first bad rate, `bench jobs` reading and writing jobs,
-//! `bench steps` the reduction a few pieces at a time, `bench ranges` a list of ranges in one call, `bench threads` a host
-//! with threads, `bench growth` the time against the number of values, `bench check` the cases that take longer than the
+//! `bench steps` the reduction a few pieces at a time, `bench ranges` a list of ranges in one call, `bench windows` each w
+//! values in a row, `bench threads` a host with threads, `bench growth` the time against the number of values, `bench
+//! window-growth` that of windows against w and against their number, `bench check` the cases that take longer than the
 //! Rust, or than aimed at, `bench compare COUNT SEED` the answers to random calls, by kind. Each ends with 1 if two answers
 //! differ, and `bench check` if a case takes longer.
 //!
@@ -27,6 +28,7 @@ mod oracle {
     pub mod simd;
     pub mod steps;
     pub mod subnormal;
+    pub mod windows;
 }
 
 mod beside;
@@ -36,7 +38,9 @@ mod figures;
 mod growth;
 mod job;
 mod long;
+mod moving;
 mod numbers;
+mod places;
 mod plain;
 mod probe;
 mod range_answers;
@@ -52,17 +56,20 @@ mod table;
 mod tally;
 mod threads;
 mod timing;
+mod window_answers;
+mod window_growth;
+mod window_probe;
 mod workers;
 
 // The oracle's files name each other from the root of the crate.
 pub use oracle::complex::{Complex32, Complex64};
 pub use oracle::error::{Result, StridedError};
-use oracle::{erased, generate, inline, jobs, ranges, rules, simd, steps, subnormal};
+use oracle::{erased, generate, inline, jobs, ranges, rules, simd, steps, subnormal, windows};
 
 fn usage() -> ! {
     eprintln!(
-        "usage: bench table | rare | figures | search | jobs | steps | ranges | threads | growth | check, \
-         or bench compare COUNT SEED"
+        "usage: bench table | rare | figures | search | jobs | steps | ranges | windows | threads | growth | \
+         window-growth | check, or bench compare COUNT SEED"
     );
     std::process::exit(2);
 }
@@ -78,8 +85,10 @@ fn main() {
         ["jobs"] => sent::print(),
         ["steps"] => stepping::print(),
         ["ranges"] => beside::print(&workers::TABLES),
+        ["windows"] => beside::print(&moving::TABLES),
         ["threads"] => threads::print(),
         ["growth"] => growth::print(),
+        ["window-growth"] => window_growth::print(),
         ["check"] => check::print(),
         ["compare", count, seed] => match (count.parse(), seed.parse()) {
             (Ok(count), Ok(seed)) => compare::run(count, seed),

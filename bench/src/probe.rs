@@ -1,5 +1,5 @@
-//! The engine's calls (crates/probe). Nothing checks these declarations against the library, so they all stand here.
-//! A slice passes as a pointer and then a length, and a bool in memory is a byte.
+//! The engine's calls (crates/probe). Nothing checks these declarations against the library, so they all stand here, but
+//! that of windows (`window_probe.rs`). A slice passes as a pointer and then a length, and a bool in memory is a byte.
 
 use crate::generate::reduce::Call;
 use crate::ranges;
@@ -179,7 +179,7 @@ pub struct Ranges<'a> {
     pub ends: &'a [u64],
 }
 
-/// Places for the accumulators of a list of ranges: that of range i goes into place i of each. A mark that is written is
+/// Places for the accumulators of ranges, or of windows: the i-th goes into place i of each. A mark that is written is
 /// read as the byte it is, which must be 0 or 1.
 pub struct Places<'a> {
     pub ms: &'a mut [f64],

@@ -6,6 +6,7 @@ use crate::erased::calls::Acc;
 use crate::generate::reduce::Call;
 use crate::generate::{ranges as drawn, Dice};
 use crate::job;
+use crate::places::{self, answer, Answer};
 use crate::probe::{self, Bits, Place, Places};
 use crate::ranges::{self, Buffers, Ranges};
 use crate::rules;
@@ -17,13 +18,6 @@ const NUMBER_BEFORE: u64 = 0xa5a5_0123_4567_5a5a;
 
 /// The most exponent of an accumulator within its limits.
 const LIMIT: i64 = 1 << 52;
-
-/// The code, and what the buffers hold after the call.
-type Answer = (u32, Vec<u64>, Vec<i64>, Vec<u8>);
-
-fn answer(code: u32, out: Buffers) -> Answer {
-    (code, out.ms.iter().map(|m| m.to_bits()).collect(), out.es, out.bads)
-}
 
 fn expected(call: &Call, list: &Ranges, values: &[f64], mut out: Buffers) -> Answer {
     let code = ranges::reduce_ranges(&call.axes.sizes, &call.axes.strides, call.range.base, list, values, &mut out);
@@ -52,16 +46,12 @@ pub fn ask(tally: &mut Tally, dice: &mut Dice) -> Result<(), String> {
     if found != expected {
         return Err(differs(format!("the oracle gives {expected:x?}, the engine {found:x?}")));
     }
-    let (code, ms, es, bads) = found;
-    if code != 0 {
-        tally.count(format!("refused {code}"));
+    if found.0 != 0 {
+        tally.count(format!("refused {}", found.0));
         return Ok(());
     }
-    let fields = ms.into_iter().zip(es).zip(bads).take(list.starts.len());
-    let accs: Vec<Place> = fields.map(|((m, e), bad)| Place { m: f64::from_bits(m), e, bad }).collect();
-    let marked = accs.iter().filter(|acc| acc.bad == 1).count();
-    let length = ["no range", "one range", "several ranges"][accs.len().min(2)];
-    tally.count(format!("{length}{}", ["", ", one bad", ", several bad"][marked.min(2)]));
+    let accs = places::accs(found, list.starts.len());
+    places::count(tally, "range", &accs);
     joined(tally, dice, &accs).map_err(differs)
 }
 

@@ -21,7 +21,7 @@ fn run(name: &str, stride: i64, values: Vec<f64>) -> Row {
 }
 
 fn contiguous() -> Vec<Row> {
-    let all = |scale: f64| KEEP.draw(COUNT).into_iter().map(|rate| rate * scale).collect();
+    let all = |scale: f64| KEEP.scaled(COUNT, scale);
     let one = |other| KEEP.with_one_a_block(COUNT, other);
     vec![
         run("contiguous, 1e5, one rate a block a millionth", 1, one(|rate| rate * 1e-6)),

@@ -42,6 +42,11 @@ impl Rates {
         (0..count).map(|_| self.one(&mut dice)).collect()
     }
 
+    /// So many, each of them times `scale`.
+    pub fn scaled(self, count: usize, scale: f64) -> Vec<f64> {
+        self.draw(count).into_iter().map(|rate| rate * scale).collect()
+    }
+
     /// One rate in each block of 64, at a place that varies, becomes `other` of it.
     pub fn with_one_a_block(self, count: usize, other: fn(f64) -> f64) -> Vec<f64> {
         let mut values = self.draw(count);

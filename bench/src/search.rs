@@ -56,7 +56,7 @@ fn call_of(count: i64, which: &str, rates: Rates, spoil: fn(&mut [f64])) -> Row 
 
 fn good() -> Vec<Row> {
     let (keep, spread, both) = (Rates::Keep, Rates::Spread, Rates::Signed);
-    let scaled = |scale: f64| keep.draw(100_000).into_iter().map(|rate| rate * scale).collect();
+    let scaled = |scale: f64| keep.scaled(100_000, scale);
     let mut out = vec![
         line("contiguous, 1e5", keep, 1, keep.draw(100_000)),
         line("contiguous, 1e7", keep, 1, keep.draw(10_000_000)),

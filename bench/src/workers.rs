@@ -4,6 +4,7 @@
 
 use crate::beside::{Table, Unit};
 use crate::job::Job;
+use crate::places::{self, unwritten};
 use crate::probe::{Place, Places};
 use crate::ranges::{Buffers, Ranges};
 use crate::rates::Rates;
@@ -48,11 +49,6 @@ fn rows() -> Vec<Row> {
     ]
 }
 
-/// What the places hold before a call: no reduction gives such an m.
-fn buffers() -> Buffers {
-    Buffers { ms: vec![f64::NAN; RANGES], es: vec![i64::MIN; RANGES], bads: vec![1; RANGES] }
-}
-
 /// A call for each range. Whether none is refused.
 fn a_call_a_range(job: &Job, list: &Ranges, out: &mut [Place]) -> bool {
     let mut ranges = list.starts.iter().zip(&list.ends).zip(out);
@@ -68,7 +64,7 @@ fn in_calls<const K: usize>(job: &Job, list: &Ranges, out: &mut Buffers) -> bool
 fn times<const K: usize>(job: &Job, least: Duration) -> [f64; 3] {
     let list = cut(job.count(), RANGES);
     let mut places = [Place { m: 0.0, e: 0, bad: 0 }; RANGES];
-    let mut out = buffers();
+    let mut out = unwritten(RANGES);
     timing::by_turns(
         1,
         least,
@@ -85,15 +81,14 @@ fn times<const K: usize>(job: &Job, least: Duration) -> [f64; 3] {
 /// The first range of which the engine has another accumulator than the oracle, by itself or in one call.
 fn difference<const K: usize>(job: &Job) -> Option<String> {
     let list = cut(job.count(), RANGES);
-    let mut places = [Place { m: f64::NAN, e: i64::MIN, bad: 1 }; RANGES];
-    let mut out = buffers();
-    if !a_call_a_range(job, &list, &mut places) || !in_calls::<K>(job, &list, &mut out) {
+    let mut alone = [Place { m: f64::NAN, e: i64::MIN, bad: 1 }; RANGES];
+    let mut out = unwritten(RANGES);
+    if !a_call_a_range(job, &list, &mut alone) || !in_calls::<K>(job, &list, &mut out) {
         return Some(String::from("the engine refuses a call"));
     }
     (0..RANGES).find_map(|at| {
         let expected = job.expected_part(list.starts[at], list.ends[at]);
-        let alone = places[at].bits();
-        let found = Place { m: out.ms[at], e: out.es[at], bad: out.bads[at] }.bits();
+        let (alone, found) = (alone[at].bits(), places::read(&out, at));
         (alone != expected || found != expected).then(|| {
             format!("range {at}: the oracle gives {expected:x?}, the engine {alone:x?}, and in one call {found:x?}")
         })

@@ -6,6 +6,7 @@ use crate::jobs::{self, Job};
 use crate::ranges::{self, Buffers, Ranges};
 use crate::rules::{self, BadRate, Range};
 use crate::steps::{self, Bookmark, StepResult};
+use crate::windows;
 use crate::words::Words;
 use std::io::{Read, Result, Write};
 
@@ -50,6 +51,7 @@ fn answer(line: &[u8]) -> Option<String> {
         b"first" => Some(first_text(over_range(words, rules::first_bad_rate)?)),
         b"step" => step(words),
         b"ranges" => reduce_ranges(words),
+        b"windows" => reduce_windows(words),
         b"join" => join(words),
         b"finish" => finish(words),
         b"read" => read_job(words),
@@ -123,20 +125,33 @@ fn step(mut words: Words) -> Option<String> {
     Some(step_text(steps::step(&sizes, &strides, &range, &values, &from, most)))
 }
 
+fn buffers(words: &mut Words) -> Option<Buffers> {
+    Some(Buffers {
+        ms: words.list(MOST_PLACES, Words::f64)?,
+        es: words.list(MOST_PLACES, Words::i64)?,
+        bads: words.list(MOST_PLACES, Words::byte)?,
+    })
+}
+
 fn reduce_ranges(mut words: Words) -> Option<String> {
     let (sizes, strides) = axes(&mut words)?;
     let base = words.i64()?;
     let starts = words.list(MOST_RANGES, Words::u64)?;
     let ends = words.list(MOST_RANGES, Words::u64)?;
     let values = words.list(MOST_VALUES, Words::f64)?;
-    let mut out = Buffers {
-        ms: words.list(MOST_PLACES, Words::f64)?,
-        es: words.list(MOST_PLACES, Words::i64)?,
-        bads: words.list(MOST_PLACES, Words::byte)?,
-    };
+    let mut out = buffers(&mut words)?;
     words.end()?;
     let code = ranges::reduce_ranges(&sizes, &strides, base, &Ranges { starts, ends }, &values, &mut out);
     Some(format!("ranges {code}{}", out.text()))
+}
+
+fn reduce_windows(mut words: Words) -> Option<String> {
+    let values = words.list(MOST_VALUES, Words::f64)?;
+    let w = words.u64()?;
+    let mut out = buffers(&mut words)?;
+    words.end()?;
+    let code = windows::reduce_windows(&values, w, &mut out);
+    Some(format!("windows {code}{}", out.text()))
 }
 
 fn acc(words: &mut Words) -> Option<Acc> {

@@ -2,7 +2,7 @@
 //!
 //! A kind names what is drawn: `layout` gives lines of `compile` and `list`, `join` of `join`, `reduce` of `reduce`
 //! and `product`, `ordered` of `ordered` and `figure`, `first` of `first`, `finish` of `finish`, `jobs` of `write` and
-//! `read`, `step` of `step`, `ranges` of `ranges`.
+//! `read`, `step` of `step`, `ranges` of `ranges`, `windows` of `windows`.
 
 mod accumulator;
 mod axes;
@@ -16,6 +16,7 @@ pub mod ranges;
 mod rates;
 pub mod reduce;
 pub mod step;
+pub mod windows;
 
 use std::fmt::Display;
 use std::io::{Result, Write};
@@ -34,6 +35,7 @@ pub fn maker(kind: &str) -> Option<Maker> {
         "jobs" => Some(jobs::line),
         "step" => Some(step::lines),
         "ranges" => Some(ranges::line),
+        "windows" => Some(windows::line),
         _ => None,
     }
 }
@@ -61,9 +63,14 @@ pub fn items_text<T: Display>(items: &[T]) -> String {
     text
 }
 
+/// The floats that are given by their bits.
+pub fn floats(bits: &[u64]) -> Vec<f64> {
+    bits.iter().map(|&bits| f64::from_bits(bits)).collect()
+}
+
 /// A list of floats, which are given by their bits.
-pub fn floats_text(floats: &[u64]) -> String {
-    let words: Vec<String> = floats.iter().map(|bits| format!("{bits:016x}")).collect();
+pub fn floats_text(bits: &[u64]) -> String {
+    let words: Vec<String> = bits.iter().map(|bits| format!("{bits:016x}")).collect();
     items_text(&words)
 }
 

@@ -23,6 +23,7 @@ mod rules;
 mod simd;
 mod steps;
 mod subnormal;
+mod windows;
 mod words;
 
 pub use complex::{Complex32, Complex64};

@@ -1,7 +1,7 @@
 //! Ours: the ranges of several workers in one call. The source has no such call. Each range is reduced here by itself
 //! (`rules::product`), over the layout, which is compiled once.
 
-use crate::erased::calls::Layout;
+use crate::erased::calls::{Acc, Layout};
 use crate::generate::{floats_text, items_text};
 use crate::rules;
 
@@ -11,7 +11,7 @@ pub struct Ranges {
     pub ends: Vec<u64>,
 }
 
-/// What a call fills: place i of each has the accumulator of range i. The mark is a byte, 0 or 1.
+/// What a call fills: place i of each has the accumulator of range i, or of window i. The mark is a byte, 0 or 1.
 #[derive(Clone)]
 pub struct Buffers {
     pub ms: Vec<f64>,
@@ -20,6 +20,17 @@ pub struct Buffers {
 }
 
 impl Buffers {
+    /// How many accumulators have a place in each of the three.
+    pub fn places(&self) -> usize {
+        self.ms.len().min(self.es.len()).min(self.bads.len())
+    }
+
+    pub fn put(&mut self, place: usize, acc: Acc) {
+        self.ms[place] = acc.m;
+        self.es[place] = acc.e;
+        self.bads[place] = u8::from(acc.bad);
+    }
+
     /// The three lists as they stand in a line and in its answer.
     pub fn text(&self) -> String {
         let ms: Vec<u64> = self.ms.iter().map(|m| m.to_bits()).collect();
@@ -42,10 +53,7 @@ pub fn reduce_ranges(
     };
     // Without elements no range is accepted, so nothing is reduced then.
     for (place, (&start, &end)) in ranges.starts.iter().zip(&ranges.ends).enumerate() {
-        let acc = rules::product(&layout, base, (start, end), values);
-        out.ms[place] = acc.m;
-        out.es[place] = acc.e;
-        out.bads[place] = u8::from(acc.bad);
+        out.put(place, rules::product(&layout, base, (start, end), values));
     }
     0
 }
@@ -61,8 +69,7 @@ fn accepted(
 ) -> Result<Layout, u32> {
     let layout = rules::compile(sizes, strides)?;
     let count = ranges.starts.len();
-    let shortest = out.ms.len().min(out.es.len()).min(out.bads.len());
-    if ranges.ends.len() != count || shortest < count {
+    if ranges.ends.len() != count || out.places() < count {
         return Err(16);
     }
     for (&start, &end) in ranges.starts.iter().zip(&ranges.ends) {

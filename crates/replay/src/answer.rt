@@ -37,6 +37,9 @@ pub fn answer(line: &[u8], out: &mut [u8]) -> usize
     if check::same(&line[..end], b"read") {
         return crate::job::answer_read(line, end + 1, &mut *out);
     }
+    if check::same(&line[..end], b"windows") {
+        return crate::moving::answer_windows(line, end + 1, &mut *out);
+    }
     answer_axes(&line[..end], line, end + 1, &mut *out)
 }
 

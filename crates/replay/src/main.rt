@@ -1,10 +1,12 @@
 // Answers each line of standard input, a call of the engine, with a line on standard output.
 mod acc;
 mod answer;
+mod buffers;
 mod float;
 mod input;
 mod job;
 mod many;
+mod moving;
 mod product;
 mod range;
 mod step;

@@ -184,8 +184,9 @@ fn uneven(dice: &mut Dice, ranges: &mut Ranges) {
 
 // ---- buffers
 
-/// Mostly a place for each range, and in each buffer by itself a few more; now and then one of the three is short.
-fn drawn_buffers(dice: &mut Dice, count: usize) -> Buffers {
+/// Mostly a place for each of so many accumulators, and in each buffer by itself a few more; now and then one of the
+/// three is short.
+pub fn drawn_buffers(dice: &mut Dice, count: usize) -> Buffers {
     let mut places = [0; 3].map(|_| count + dice.of(&[0, 0, 0, 0, 1, 2, 5]));
     if dice.once_in(20) {
         let short = dice.below(count as u64 + 1) as usize;

@@ -169,7 +169,7 @@ fn too_little(dice: &mut Dice) -> u64 {
     rate(plain(dice), between(dice, -BLOCK - 10, -BLOCK - 9))
 }
 
-fn any_normal(dice: &mut Dice) -> u64 {
+pub fn any_normal(dice: &mut Dice) -> u64 {
     rate(plain(dice), between(dice, LEAST, MOST))
 }
 

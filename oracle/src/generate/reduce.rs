@@ -44,7 +44,7 @@ pub fn drawn_axes(dice: &mut Dice) -> Axes {
 }
 
 /// A length of at most `most`: anything, or one at which lanes or blocks are just full, or by one not.
-fn run_length(dice: &mut Dice, most: u64) -> u64 {
+pub fn run_length(dice: &mut Dice, most: u64) -> u64 {
     let full = dice.of(&[8, 16, 64, 64, 64, 72, 128, 128, 128, 192, 256, 256]);
     let length = if dice.once_in(3) { 1 + dice.below(most.max(1)) } else { full - 1 + dice.below(3) };
     length.clamp(1, most.max(1))
@@ -181,7 +181,7 @@ impl Call {
 
     /// The values themselves.
     pub fn floats(&self) -> Vec<f64> {
-        self.values.iter().map(|&bits| f64::from_bits(bits)).collect()
+        super::floats(&self.values)
     }
 
     /// The length of a run, if the call is accepted.

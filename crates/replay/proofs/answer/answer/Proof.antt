@@ -77,6 +77,27 @@ same-length-3 c = search needs
 returns-3 : tie.Need-returns-3
 returns-3 c = search needs
 
+slice-aggregate-same-7 : tie.Need-slice-aggregate-same-7
+slice-aggregate-same-7 c = counts _ _ (search needs)
+
+slice-aggregate-same-8 : tie.Need-slice-aggregate-same-8
+slice-aggregate-same-8 c = search needs
+
+same-requires-4 : tie.Need-same-requires-4
+same-requires-4 c κs = search needs
+
+add-answer-windows : tie.Need-add-answer-windows
+add-answer-windows c = search needs
+
+answer-windows-requires : tie.Need-answer-windows-requires
+answer-windows-requires c κs = search needs
+
+same-length-4 : tie.Need-same-length-4
+same-length-4 c = search needs
+
+returns-4 : tie.Need-returns-4
+returns-4 c = search needs
+
 slice-aggregate-answer-axes : tie.Need-slice-aggregate-answer-axes
 slice-aggregate-answer-axes c = counts _ _ (search needs)
 
@@ -86,11 +107,11 @@ add-answer-axes c = search needs
 answer-axes-requires : tie.Need-answer-axes-requires
 answer-axes-requires c κs = search needs
 
-same-length-4 : tie.Need-same-length-4
-same-length-4 c = search needs
+same-length-5 : tie.Need-same-length-5
+same-length-5 c = search needs
 
-returns-4 : tie.Need-returns-4
-returns-4 c = search needs
+returns-5 : tie.Need-returns-5
+returns-5 c = search needs
 
 pub answer-spec : {M : Type 1} → statement M
 answer-spec =
@@ -120,8 +141,15 @@ answer-spec =
     answer-read-requires
     same-length-3
     returns-3
+    slice-aggregate-same-7
+    slice-aggregate-same-8
+    same-requires-4
+    add-answer-windows
+    answer-windows-requires
+    same-length-4
+    returns-4
     slice-aggregate-answer-axes
     add-answer-axes
     answer-axes-requires
-    same-length-4
-    returns-4)
+    same-length-5
+    returns-5)
