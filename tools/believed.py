@@ -14,8 +14,8 @@ from pathlib import Path
 ROOT = Path(__file__).resolve().parent.parent
 PAGE = ROOT / "docs" / "PROOFS.md"
 # A new rule raises it by the lines of its definitions, in the commit that adds them.
-MOST_LINES = 1386
-# The exported calls: a file of src and the functions in it (docs/RULES.md, C1 to C13).
+MOST_LINES = 1442
+# The exported calls: a file of src and the functions in it (docs/RULES.md, C1 to C14).
 EXPORTED = {
     "layout/src/traversal.rt": ["compile"],
     "offsets/src/list.rt": ["offset_list"],
@@ -27,6 +27,7 @@ EXPORTED = {
     "figures/src/lib.rt": ["figure"],
     "bookmarks/src/lib.rt": ["reduce_step"],
     "ranges/src/lib.rt": ["reduce_ranges"],
+    "windows/src/lib.rt": ["reduce_windows"],
     "jobs/src/reading.rt": ["read_job"],
     "jobs/src/writing.rt": ["write_job"],
     "probe/src/lib.rt": ["probe_reduce", "probe_list"],
@@ -34,6 +35,7 @@ EXPORTED = {
     "search_probe/src/lib.rt": ["probe_first"],
     "step_probe/src/lib.rt": ["probe_step"],
     "ranges_probe/src/lib.rt": ["probe_ranges"],
+    "windows_probe/src/lib.rt": ["probe_windows"],
     "join_probe/src/lib.rt": ["probe_join", "probe_finish"],
     "job_probe/src/lib.rt": ["probe_read", "probe_write"],
 }

@@ -19,11 +19,13 @@ const KEEP: Rates = Rates::Keep;
 const LOW: f64 = 1e-200;
 
 const AIMS: [(&str, f64); 2] = [("windows / Rust", 0.5), ("windows / a call a window", 0.8)];
+/// Where the eights fail, each window is worked by itself.
+const SELDOM: [(&str, f64); 2] = [("windows / Rust", NO_AIM), ("windows / a call a window", NO_AIM)];
 const NO_AIMS: [(&str, f64); 1] = [("windows / Rust, compiled ahead", NO_AIM)];
 
 pub const TABLES: [Table; 3] = [
     table("windows of w values, over 1e5", "Rust, a call a window", &AIMS, plain, times),
-    table("windows that are seldom met, over 1e5", "Rust, a call a window", &AIMS, seldom_met, times),
+    table("windows that are seldom met, over 1e5", "Rust, a call a window", &SELDOM, seldom_met, times),
     table("windows of w values, over 1e5", "Rust, compiled ahead", &NO_AIMS, plain, times_ahead),
 ];
 

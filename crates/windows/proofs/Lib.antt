@@ -5,6 +5,7 @@ pub mod Writing
 pub mod Codes
 pub mod Calls
 pub mod Theorems
+pub mod Cases
 pub mod Columns
 pub mod Sharing
 pub mod Loops

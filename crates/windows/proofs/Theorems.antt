@@ -88,8 +88,8 @@ module _ (values : List Float) (w : ℕ) (ms : List Float) (es : List ℤ) (bads
         λ b. bad-at ∙ ap badByte (r .1 b),
       )
 
-pub rule-n1 : RuleN1Law
-rule-n1 values w ms es bads short z i h = place-rule values w ms es bads z i h short
+pub rule-N1 : RuleN1Law
+rule-N1 values w ms es bads short z i h = place-rule values w ms es bads z i h short
 
-pub rule-n2 : RuleN2Law
-rule-n2 values w ms es bads v z i h = marked values w ms es bads z i h v
+pub rule-N2 : RuleN2Law
+rule-N2 values w ms es bads v z i h = marked values w ms es bads z i h v

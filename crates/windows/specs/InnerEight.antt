@@ -1,4 +1,4 @@
--- Inner: eight windows side by side, whose lanes begin at fifteen rates in a row.
+-- Inner: eight windows side by side, by lanes that begin at sixteen rates in a row.
 use Prim.Native.Nat.{ℕ, _+_, _≤_, _<_}
 use mathlib.Core.Path.{_≡_}
 use mathlib.Core.Bool.{false}

@@ -85,13 +85,13 @@ pub fn reduce_windows(
         return code;
     }
     let width = w as usize;
-    let last = values.len() - width;
+    let count = values.len() - width + 1;
     let mut eight = Eight {
         ok: false,
         v: [1.0; LANES],
     };
     let mut i: usize = 0;
-    while i <= last {
+    while i < count {
         if i % LANES == 0 {
             eight = crate::eight::eight_at(values, i, width);
         }

@@ -21,7 +21,7 @@ use Rattle.windows.proofs.reduce_windows.Statement.{statement}
 use Rattle.windows.proofs.reduce_windows.Tie as tie
 
 abbrev Inv-loop : tie.InvT-loop
-Inv-loop values w ms₀ es₀ bads₀ code width last eight₀ i₀ ms es bads eight i =
+Inv-loop values w ms₀ es₀ bads₀ code width count eight₀ i₀ ms es bads eight i =
     (i ≤ windowCount (length values) w)
     × (ms ≡ wrote acc-m values w ms₀ i)
     × (es ≡ wrote acc-e values w es₀ i)
@@ -29,7 +29,7 @@ Inv-loop values w ms₀ es₀ bads₀ code width last eight₀ i₀ ms es bads e
     × (0 < i % 8 → eight .ok ≡ true → EightWindows values w (i - i % 8) (eight .v))
 
 abbrev μ-loop : tie.MeasureT-loop
-μ-loop values w ms₀ es₀ bads₀ code width last eight₀ i₀ ms es bads eight i = windowCount (length values) w - i
+μ-loop values w ms₀ es₀ bads₀ code width count eight₀ i₀ ms es bads eight i = windowCount (length values) w - i
 
 windows-code-requires : tie.Need-windows-code-requires Inv-loop μ-loop
 windows-code-requires c κs = search needs
@@ -54,8 +54,11 @@ allowed : (c : tie.Else1 Inv-loop μ-loop) → let s = from-code (c .before) in
     Accepted (length (s .args .values .now)) (s .args .w) (length (s .args .ms .now)) (length (s .args .es .now)) (length (s .args .bads .now))
 allowed c = accepted _ _ _ _ _ (sym (c .before .windows-code .ensures) ∙ c .if1 .left)
 
-sub-last : tie.Need-sub-last Inv-loop μ-loop
-sub-last c = allowed c .fits
+sub-count : tie.Need-sub-count Inv-loop μ-loop
+sub-count c = allowed c .fits
+
+add-count : tie.Need-add-count Inv-loop μ-loop
+add-count c = let s = from-code (c .before) in omega (arith, s .good .0 .1)
 
 loop-holds : tie.Need-loop-holds Inv-loop μ-loop
 loop-holds c = (omega arith, refl, refl, refl, λ h. absurd (omega arith))
@@ -191,7 +194,8 @@ reduce-windows-spec =
     μ-loop
     windows-code-requires
     returns
-    sub-last
+    sub-count
+    add-count
     loop-holds
     eight-at-requires
     window-at-requires
