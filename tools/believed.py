@@ -14,16 +14,14 @@ from pathlib import Path
 ROOT = Path(__file__).resolve().parent.parent
 PAGE = ROOT / "docs" / "PROOFS.md"
 # A new rule raises it by the lines of its definitions, in the commit that adds them.
-MOST_LINES = 1576
-# The exported calls: a file of src and the functions in it (docs/RULES.md, C1 to C16).
+MOST_LINES = 1442
+# The exported calls: a file of src and the functions in it (docs/RULES.md, C1 to C14).
 EXPORTED = {
     "layout/src/traversal.rt": ["compile"],
     "offsets/src/list.rt": ["offset_list"],
     "reduction/src/full.rt": ["reduce"],
-    "reduction32/src/lib.rt": ["reduce32"],
     "accumulator/src/lib.rt": ["join"],
     "finishing/src/lib.rt": ["finish"],
-    "finishing32/src/lib.rt": ["finish32"],
     "ordered/src/lib.rt": ["ordered_product"],
     "search/src/lib.rt": ["first_bad_rate"],
     "figures/src/lib.rt": ["figure"],
@@ -33,7 +31,6 @@ EXPORTED = {
     "jobs/src/reading.rt": ["read_job"],
     "jobs/src/writing.rt": ["write_job"],
     "probe/src/lib.rt": ["probe_reduce", "probe_list"],
-    "probe32/src/lib.rt": ["probe_reduce32", "probe_finish32"],
     "figure_probe/src/lib.rt": ["probe_ordered", "probe_figure"],
     "search_probe/src/lib.rt": ["probe_first"],
     "step_probe/src/lib.rt": ["probe_step"],

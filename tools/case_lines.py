@@ -17,8 +17,6 @@ GAPS = [1507, 753, 376, 125, 31, 15, 7, 3, 1]
 # Words that stand for no number of each kind.
 WRONG_FLOATS = ["", "ff8000000000000", "3ff80000000000000", "3FF8000000000000", "0xf8000000000000", "+ff8000000000000"]
 WRONG_FLOATS += ["1.5", *("3ff800000000000" + byte for byte in "g/:`")]
-WRONG_SINGLES = ["", "fc00000", "3fc000000", "3FC00000", "0xc00000", "+fc00000", "1.5", "3ff8000000000000"]
-WRONG_SINGLES += ["3fc0000" + byte for byte in "g/:`"]
 WRONG_SIGNED = ["", "+1", "-0", "01", "1.0", str(MOST + 1), str(LEAST - 1), "3ff8000000000000"]
 WRONG_UNSIGNED = ["", "+1", "-1", "01", "1.0", str(2**64), "x"]
 WRONG_BYTES = [*WRONG_UNSIGNED, "-0", "00", "256", "1000"]
@@ -36,8 +34,8 @@ def items(numbers):
     return " ".join(str(n) for n in [len(numbers), *numbers])
 
 
-def floats(values, digits=16):
-    return " ".join([str(len(values)), *(f"{value:0{digits}x}" for value in values)])
+def floats(values):
+    return " ".join([str(len(values)), *(f"{value:016x}" for value in values)])
 
 
 def apart(pairs):
@@ -65,9 +63,7 @@ def list_(sizes, strides, base, start, end, length, buffer):
 
 
 def reduce(sizes, strides, base, start, end, values, word="reduce"):
-    """The values are those of the word: f64, or f32 where its name ends so."""
-    digits = 8 if word.endswith("32") else 16
-    say(f"{word} {items(sizes)} {items(strides)} {base} {start} {end} {floats(values, digits)}")
+    say(f"{word} {items(sizes)} {items(strides)} {base} {start} {end} {floats(values)}")
 
 
 def in_words(words, sizes, strides, base, start, end, values):
@@ -81,8 +77,8 @@ def join(left, right):
     say("join " + " ".join(f"{m:016x} {e} {bad}" for m, e, bad in [left, right]))
 
 
-def finish(m, e, bad=0, word="finish"):
-    say(f"{word} acc {m:016x} {e} {bad}")
+def finish(m, e, bad=0):
+    say(f"finish acc {m:016x} {e} {bad}")
 
 
 def unit(significand):

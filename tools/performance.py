@@ -5,12 +5,11 @@
         bench/run figures > build/figures.txt && bench/run search > build/search.txt &&
         bench/run steps > build/steps.txt && bench/run ranges > build/ranges.txt &&
         bench/run windows > build/windows.txt && bench/run window-growth > build/window_growth.txt &&
-        bench/run single > build/single.txt &&
         bench/run threads > build/threads.txt && bench/run jobs > build/jobs.txt &&
         python3 tools/growth.py build/growth.txt docs/growth.svg &&
         python3 tools/growth.py build/window_growth.txt docs/window_growth.svg && python3 tools/performance.py
 
-It reads those twelve files and what tools/stack_frames.py says of the static libraries. With names behind it, as
+It reads those eleven files and what tools/stack_frames.py says of the static libraries. With names behind it, as
 `performance.py figures`, it puts in those alone, and reads no other file.
 """
 
@@ -105,7 +104,6 @@ PLACES = {
     "steps": lambda: built("steps.txt"),
     "ranges": lambda: built("ranges.txt"),
     "windows": lambda: built("windows.txt"),
-    "single": lambda: built("single.txt"),
     "threads": lambda: built("threads.txt"),
     "jobs": lambda: built("jobs.txt"),
     "growth": lambda: grown(built("growth.txt").splitlines()),
@@ -116,7 +114,6 @@ PLACES = {
     "step-stack": lambda: stack("step_probe"),
     "ranges-stack": lambda: stack("ranges_probe"),
     "windows-stack": lambda: stack("windows_probe"),
-    "single-stack": lambda: stack("probe32"),
     "join-stack": lambda: stack("join_probe"),
     "job-stack": lambda: stack("job_probe"),
 }

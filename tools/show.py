@@ -12,7 +12,7 @@ import signal
 import struct
 import sys
 
-from show_faults import ANSWERS, OVER_VALUES, WIDTHS, bits_of, fault_of, shown_line
+from show_faults import ANSWERS, OVER_VALUES, fault_of, shown_line
 
 REFUSALS = os.path.join(os.path.dirname(os.path.abspath(__file__)), "..", "crates", "refusals", "src", "lib.rt")
 # How many of a case's values are shown, how many of its ranges, and how many words of a job.
@@ -58,22 +58,12 @@ def shown_range(words):
 
 
 def float_of(bits):
-    """The value of a float or of an f32, which its number of digits tells."""
-    return struct.unpack(WIDTHS[len(bits)][1], bytes.fromhex(bits))[0]
-
-
-def shown_float(bits):
-    """The shortest decimal that is read as these bits: of an f32 it has at most nine digits."""
-    value = float_of(bits)
-    if len(bits) == 16 or value != value:
-        return repr(value)
-    texts = (f"{value:.{digits}g}" for digits in range(1, 10))
-    return repr(next(float(text) for text in texts if bits_of(text, 8) == bits))
+    return struct.unpack(">d", bytes.fromhex(bits))[0]
 
 
 def shown_values(words):
     values, _ = take_list(words)
-    text = " ".join([f"{len(values)} values", *(shown_float(value) for value in values[:FEW])])
+    text = " ".join([f"{len(values)} values", *(repr(float_of(value)) for value in values[:FEW])])
     return text + (f" .. and {len(values) - FEW} more" if len(values) > FEW else "")
 
 
@@ -157,7 +147,7 @@ def shown_case(words, refusals):
         return f"{call}: {layout}, {shown_values(rest)}"
     if call == "join":
         return f"join: {shown_acc(words[1:4])}; and {shown_acc(words[4:7])}"
-    return f"{call}: " + (shown_acc(words[2:5]) if words[1] == "acc" else shown_refusal(words[2], refusals))
+    return "finish: " + (shown_acc(words[2:5]) if words[1] == "acc" else shown_refusal(words[2], refusals))
 
 
 # ---- an answer in plain words
@@ -194,21 +184,19 @@ def shown_number(bits, call):
     """A number, and with a zero, an infinity or a NaN what may have brought it."""
     value = float_of(bits)
     if value != 0 and abs(value) < float("inf"):
-        return shown_float(bits)
+        return repr(value)
     name = "NaN" if value != value else repr(value)
     return f"{name}: {reason_in_order(value) if call in WITH_BAD_RATES else reason_at_the_end(value, call)}"
 
 
 def reason_at_the_end(value, call):
     """Of a finished number. No m is 0 or infinite, so a zero comes from underflow and an infinity from overflow."""
-    word, single = call.removesuffix("32"), call.endswith("32")
     if value != value:
-        return "a bad rate came in" if word == "product" else "the accumulator is bad"
+        return "a bad rate came in" if call == "product" else "the accumulator is bad"
     way, size = ("underflow", "small") if value == 0 else ("overflow", "large")
-    kind, reduce = ("an f32", "reduce32") if single else ("a double", "reduce")
-    if word == "finish":
-        return f"{way}, m × 2^e is too {size} for {kind}"
-    return f"{way}, the product is too {size} for {kind}; {reduce} gives it as m × 2^e"
+    if call == "finish":
+        return f"{way}, m × 2^e is too {size} for a double"
+    return f"{way}, the product is too {size} for a double; reduce gives it as m × 2^e"
 
 
 def reason_in_order(value):

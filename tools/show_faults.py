@@ -29,14 +29,9 @@ ANSWERS = {
     "step": ("done", "more", "refused"),
     "ranges": ("ranges",),
     "windows": ("windows",),
-    "reduce32": ("acc", "refused"),
-    "finish32": ("number32", "refused"),
-    "product32": ("number32", "refused"),
 }
 # The calls over a range with its values, or over several. Behind these `step` and `ranges` have more.
-OVER_VALUES = ("reduce", "product", "ordered", "figure", "first", "step", "ranges", "reduce32", "product32")
-# Floats by the number of their hex digits: what they are called, and how `struct` has them.
-WIDTHS = {16: ("a float", ">d"), 8: ("an f32", ">f")}
+OVER_VALUES = ("reduce", "product", "ordered", "figure", "first", "step", "ranges")
 
 
 class Fault(Exception):
@@ -113,28 +108,18 @@ def number_fault(word, least, most):
     return None
 
 
-def bits_of(decimal, digits):
-    """The bits of a decimal number, which may be too large for all but an infinity."""
-    value, code = float(decimal), WIDTHS[digits][1]
-    try:
-        return struct.pack(code, value).hex()
-    except OverflowError:
-        return struct.pack(code, value * float("inf")).hex()
-
-
-def float_fault(word, digits):
-    name = WIDTHS[digits][0]
-    if re.fullmatch(f"[0-9a-f]{{{digits}}}", word):
+def float_fault(word):
+    if re.fullmatch("[0-9a-f]{16}", word):
         return None
-    if re.fullmatch(f"[0-9a-fA-F]{{{digits}}}", word):
-        return f"the hex digits of {name} are lower case"
+    if re.fullmatch("[0-9a-fA-F]{16}", word):
+        return "the hex digits of a float are lower case"
     if word[:2] in ("0x", "0X"):
-        return f"the hex digits of {name} have no 0x in front"
+        return "the hex digits of a float have no 0x in front"
     if re.fullmatch("[0-9a-fA-F]+", word):
-        return f"{name} has {digits} hex digits, those of its bits, and this has {len(word)}"
+        return f"a float has 16 hex digits, those of its bits, and this has {len(word)}"
     if re.fullmatch(r"[+-]?[0-9]*\.?[0-9]+(e[+-]?[0-9]+)?", word):
-        return f"{name} is written by the {digits} hex digits of its bits, here {bits_of(word, digits)}"
-    return f"{name} is the {digits} lower-case hex digits of its bits"
+        return f"a float is written by the 16 hex digits of its bits, here {struct.pack('>d', float(word)).hex()}"
+    return "a float is the 16 lower-case hex digits of its bits"
 
 
 class Words:
@@ -160,8 +145,8 @@ class Words:
             raise self.wrong(what, fault)
         return int(self.words[self.at - 1])
 
-    def float(self, what, digits=16):
-        fault = float_fault(self.take(what), digits)
+    def float(self, what):
+        fault = float_fault(self.take(what))
         if fault:
             raise self.wrong(what, fault)
 
@@ -206,8 +191,8 @@ def check_bytes_given(words):
     words.items("byte", ITEMS, lambda what: words.number(what, BYTE))
 
 
-def check_values(words, digits=16):
-    words.items("value", ITEMS, lambda what: words.float(what, digits))
+def check_values(words):
+    words.items("value", ITEMS, words.float)
 
 
 def check_buffers(words):
@@ -240,7 +225,7 @@ def check_layout(call, words):
     if call == "write":
         check_bytes_given(words)
     if call in OVER_VALUES:
-        check_values(words, 8 if call.endswith("32") else 16)
+        check_values(words)
     if call == "step":
         words.number("the next element number", U64)
         check_accumulator(words)
@@ -260,7 +245,7 @@ def check_call(call, words):
     if call == "join":
         check_accumulator(words)
         check_accumulator(words)
-    elif call in ("finish", "finish32"):
+    elif call == "finish":
         check_finish(words)
     elif call == "read":
         check_bytes_given(words)

@@ -5,8 +5,7 @@ The format has no comments, so this file says what each group is for: here layou
 in stored_products.py reductions, products and finishes, in stored_figures.py ordered products and figures,
 in stored_search.py first bad rates, in stored_jobs.py layouts sent as words, in stored_steps.py reductions in steps,
 in stored_ranges.py several ranges in one call, in stored_order.py axes of one |stride|, forwards and backwards,
-in stored_subnormal.py subnormal rates, in stored_windows.py each w rates in a row, in stored_single.py rates of f32, in
-stored_finish32.py what is finished to one.
+in stored_subnormal.py subnormal rates, in stored_windows.py each w rates in a row.
 The answers are the oracle's: crates/replay/stdout.
 """
 
@@ -14,13 +13,11 @@ import math
 import sys
 
 import stored_figures
-import stored_finish32
 import stored_jobs
 import stored_order
 import stored_products
 import stored_ranges
 import stored_search
-import stored_single
 import stored_steps
 import stored_subnormal
 import stored_windows
@@ -590,8 +587,6 @@ def main():
         *stored_order.GROUPS,
         *stored_subnormal.GROUPS,
         *stored_windows.GROUPS,
-        *stored_single.GROUPS,
-        *stored_finish32.GROUPS,
     ]:
         group()
     # The last line has no newline, and counts all the same.

@@ -39,12 +39,11 @@ def with_rate(values, place, value):
     return [*values[:place], value, *values[place + 1 :]]
 
 
-def laid(values, stride, drawn=rates):
-    """A base and a table in which a run of this stride visits the values in order, with others between them, that are
-    drawn so."""
+def laid(values, stride):
+    """A base and a table in which a run of this stride visits the values in order, with others between them."""
     if stride == -1:
         return len(values) - 1, values[::-1]
-    table = drawn(99, stride * (len(values) - 1) + 1)
+    table = rates(99, stride * (len(values) - 1) + 1)
     table[::stride] = values
     return 0, table
 
@@ -177,9 +176,9 @@ def ranges_inside_runs():
         reduce([100], [-1], 99, start, end, table)
 
 
-def equal_strides(words=("reduce",), drawn=rates):
+def equal_strides(words=("reduce",)):
     """Axes of one |stride| in both orders, which give other pieces if they go one way; stride 0 after all others."""
-    table = drawn(44, 120)
+    table = rates(44, 120)
     for sizes, strides in [
         ([9, 11], [1, 1]),
         ([9, 11], [2, -2]),
@@ -195,9 +194,9 @@ def equal_strides(words=("reduce",), drawn=rates):
             in_words(words, sizes[turned], strides[turned], 30, 4, total - 3, table)
 
 
-def backwards(words=("reduce",), drawn=rates):
+def backwards(words=("reduce",)):
     """Runs backwards in rows forwards, runs forwards in rows backwards, and both, which may fuse."""
-    table = drawn(51, 80)
+    table = rates(51, 80)
     for sizes, strides, base in [
         ([13, 5], [-1, 15], 12),
         ([13, 5], [1, -15], 61),
@@ -289,9 +288,9 @@ def numbers():
         run(rates(72, 1000, e, e))
 
 
-def refused(words, drawn=rates):
+def refused(words):
     """Refusals 1 to 7 in rank, each with all that follow it and without."""
-    two = drawn(81, 2)
+    two = rates(81, 2)
     for word in words:
         reduce([2], [1], 0, 0, 2, two, word)
         reduce([2**63, 2] * 5, [1], -1, 5, 4, [], word)
@@ -312,7 +311,7 @@ def refused(words, drawn=rates):
         reduce([2], [1], 0, 1, 1, two, word)
         reduce([0], [1], 0, 0, 0, two, word)
         reduce([2], [1], -1, 1, 3, [], word)
-        reduce([2], [1], 0, 0, 3, drawn(82, 3), word)
+        reduce([2], [1], 0, 0, 3, rates(82, 3), word)
         reduce([0, 2], [1, 1], 0, 0, 1, two, word)
         reduce([2], [1], 0, 0, 2**64 - 1, two, word)
         reduce([2], [1], 0, 0, 2, two[:1], word)
@@ -339,9 +338,9 @@ def the_listed_layouts():
             reduce(sizes, strides, base, start, end, rates(91, length))
 
 
-def nine_axes(words, drawn=rates):
+def nine_axes(words):
     """House, level, block, row, seat, day, hour, channel and class: the whole plan, and ranges that carry into the last axis."""
-    values = drawn(2026, 1 + sum((size - 1) * stride for size, stride in zip(PLAN, GAPS)))
+    values = rates(2026, 1 + sum((size - 1) * stride for size, stride in zip(PLAN, GAPS)))
     for start, end in [(0, 1536), (767, 769), (700, 1500)]:
         in_words(words, PLAN, GAPS, 0, start, end, values)
 
@@ -383,23 +382,23 @@ def subnormal_ties():
         finish(unit(TWO - 1), -1022 - bits)
 
 
-def finish_marks(word="finish"):
+def finish_marks():
     """A bad accumulator is NaN whatever its m and e, and is refused as others are where they are out of range."""
     for s in [ONE, -ONE, THREE_HALVES, TWO - 1, 1 - TWO]:
         for e in [0, -1074, -1075, -5000, 1023, 1024, LIMIT, -LIMIT, LIMIT + 1, -LIMIT - 1, LEAST, MOST]:
-            finish(unit(s), e, 1, word)
+            finish(unit(s), e, 1)
     for m in patterns_of_m():
         for sign in [0, SIGN]:
             for bad in [0, 1]:
-                finish(m + sign, 0, bad, word)
-    finish(0, LEAST, 0, word)
-    finish(NAN, LIMIT + 1, 1, word)
+                finish(m + sign, 0, bad)
+    finish(0, LEAST)
+    finish(NAN, LIMIT + 1, 1)
 
 
-def refusals_handed_in(word="finish"):
+def refusals_handed_in():
     """A refusal comes out as it went in, whatever its number."""
     for number in [*range(13), 99, 2**31, 2**32 - 1]:
-        say(f"{word} refused {number}")
+        say(f"finish refused {number}")
 
 
 # ---- cases that see what the stored ones did not
@@ -532,31 +531,27 @@ def cases_that_see_what_the_stored_ones_did_not():
     side_of_a_join()
 
 
-def malformed_ranges(word, m="3ff8000000000000", wrong=WRONG_FLOATS):
-    """Words of a line with a range and its values that are not of the format. A value is like m, and not like `wrong`."""
+def malformed_ranges(word):
+    """Words of a line with a range and its values that are not of the format."""
+    m = "3ff8000000000000"
     count = [*WRONG_UNSIGNED, "33", str(2**64 - 1)]
     axes = [count, WRONG_UNSIGNED, count, WRONG_SIGNED]
     range_ = [WRONG_SIGNED, WRONG_UNSIGNED, WRONG_UNSIGNED]
-    values = [[*WRONG_UNSIGNED, "3", "4097"], wrong, wrong]
+    values = [[*WRONG_UNSIGNED, "3", "4097"], WRONG_FLOATS, WRONG_FLOATS]
     good = ["1", "2", "1", "1", "0", "0", "2", "2", m, m]
     lines = spoiled(word, good, [*axes, *range_, *values])
     return [*lines, f"{word} 33{' 1' * 33} 33{' 1' * 33} 0 0 1 1 {m}"]
 
 
-def malformed_finishes(word):
-    """Words of a line that finishes an accumulator or a refusal that are not of the format."""
-    m = "3ff8000000000000"
-    kinds = ["", "Acc", "ac", "accs", "number", "refused", m]
-    lines = spoiled(word, ["acc", m, "0", "0"], [kinds, WRONG_FLOATS, WRONG_SIGNED, WRONG_MARKS])
-    refusals = [*WRONG_UNSIGNED, str(2**32), m]
-    return lines + spoiled(word, ["refused", "7"], [["", "Refused", "refuse", "acc", "7"], refusals])
-
-
 def malformed_lines():
     """Words of lines of `reduce`, `product` and `finish` that are not of the format."""
+    m = "3ff8000000000000"
     lines = malformed_ranges("reduce") + malformed_ranges("product")
     lines.append("reduce 1 1 1 1 0 0 1 " + floats([unit(ONE)] * 4097))
-    return lines + malformed_finishes("finish")
+    kinds = ["", "Acc", "ac", "accs", "number", "refused", m]
+    lines += spoiled("finish", ["acc", m, "0", "0"], [kinds, WRONG_FLOATS, WRONG_SIGNED, WRONG_MARKS])
+    refusals = [*WRONG_UNSIGNED, str(2**32), m]
+    return lines + spoiled("finish", ["refused", "7"], [["", "Refused", "refuse", "acc", "7"], refusals])
 
 
 GROUPS = [

@@ -213,7 +213,7 @@ stored() {
 [ -x target/bin/replay ] || die 'target/bin/replay is not there; build it by ./run or rt check replay'
 [ -f crates/refusals/src/lib.rt ] || die 'crates/refusals/src/lib.rt is not there; it names the refusals'
 make_copy
-for group in calls inputs outputs tools_missing builds programs replay_itself faults numbers bad_rates jobs steps ranges windows singles axes_listed refusals stored; do
+for group in calls inputs outputs tools_missing builds programs replay_itself faults numbers bad_rates jobs steps ranges windows axes_listed refusals stored; do
     "$group"
 done
 printf 'test_run: ok, %s checks\n' "$count"

@@ -1,8 +1,8 @@
 # What ./run shows of a line, in plain words: a part of tools/test_run.sh, which has `check`, `check_lines` and `has`.
 # shellcheck shell=bash disable=SC2154 # `work` is that file's folder
 
-# Malformed lines, each with a part of what is said of it. Both words are 1.5, as a float and as an f32.
-readonly m=3ff8000000000000 s=3fc00000
+# Malformed lines, each with a part of what is said of it.
+readonly m=3ff8000000000000
 readonly faulty=(
     '' 'the line is empty'
     ' ' 'spaces and no word'
@@ -83,20 +83,6 @@ readonly faulty=(
     "windows 1 $m 1 1 $m 1 0" 'the line ends where the count of the bad places should stand'
     "windows 1 $m 1 1 $m 1 0 1 256" 'stands for bad place 1 of 1: it does not lie in 0 to 255'
     "windows 1 $m 1 1 $m 1 0 1 0 1" '1 word too many: the line should end before word 11, "1"'
-    'Reduce32 1 2 1 1' 'write it in lower case'
-    "reduce32 1 2 1 1 0 0 2 2 $s" 'the line ends after 1 of 2 values; the count does not match the items'
-    'reduce32 1 2 1 1 0 0 2 4097' 'at most 4096 of them'
-    'reduce32 1 1 1 1 0 0 1 1 3FC00000' 'stands for value 1 of 1: the hex digits of an f32 are lower case'
-    "product32 1 2 1 1 0 0 2 2 $s fc00000" 'word 11, "fc00000", stands for value 2 of 2: an f32 has 8 hex digits, those of its bits, and this has 7'
-    "product32 1 1 1 1 0 0 1 1 $m" 'an f32 has 8 hex digits, those of its bits, and this has 16'
-    'product32 1 1 1 1 0 0 1 1 1.5' "an f32 is written by the 8 hex digits of its bits, here $s"
-    'product32 1 1 1 1 0 0 1 1 -1e39' 'here ff800000'
-    'product32 1 1 1 1 0 0 1 1 0x3fc00000' 'the hex digits of an f32 have no 0x in front'
-    'product32 1 1 1 1 0 0 1 1 seat' 'an f32 is the 8 lower-case hex digits of its bits'
-    "reduce 1 1 1 1 0 0 1 1 $s" 'a float has 16 hex digits, those of its bits, and this has 8'
-    "finish32 acc $s 0 0" 'stands for m: a float has 16 hex digits, those of its bits, and this has 8'
-    "finish32 number32 $s" 'neither acc nor refused'
-    'finish32 refused 4294967296' 'it does not lie in 0 to 4294967295'
     "$(head -c 131073 /dev/zero | tr '\0' x)" 'the line has 131073 bytes'
 )
 
@@ -223,32 +209,4 @@ axes_listed() {
     check 'an example of axes in any order' 0 '    1.6500184234554203 × 2^-1' '' run_sh 'examples/order.cases'
     [ "$(grep -cxF '    1.65001842345542 × 2^-1' "$work/out")" -eq 3 ] || die 'the order in which axes are listed counts'
     [ "$(grep -cxF '    offsets 3 4 5 2 3 4 1 2 3 0 1 2' "$work/out")" -eq 2 ] || die 'the order in which axes are listed counts'
-}
-
-# Rates of f32, by the shortest decimal that is read as them; the accumulator and the number by their own.
-singles() {
-    local two='1 2 1 1 0 0 2 2' tiny=00800000 huge=7f7fffff zero=00000000
-    check_lines 'f32' 0 \
-        "reduce32 $two $s $s" '    1.125 × 2^1' \
-        "reduce32 $two $s $zero" '    1.5 × 2^-127, bad' \
-        "reduce32 1 1 1 1 0 0 1 1 00000001" '    1.0 × 2^-149' \
-        "product32 $two $s $s" '    2.25' \
-        "product32 $two 3f7c28f6 $s" '    1.4775' \
-        "product32 $two $tiny $s" '    1.7632415e-38' \
-        "product32 $two $tiny $tiny" '    0.0: underflow, the product is too small for an f32; reduce32 gives it as m × 2^e' \
-        "product32 $two $huge f${huge#?}" '    -inf: overflow, the product is too large for an f32' \
-        "product32 $two 7fc00001 $s" '    NaN: a bad rate came in' \
-        "reduce32 1 2 1 1 0 0 3 2 $s $s" '    refused 6 (RANGE_PAST_END)' \
-        'finish32 acc 3ff0000000000000 -149 0' '    1e-45' \
-        'finish32 acc 3ff0000000000000 -150 0' '    0.0: underflow, m × 2^e is too small for an f32' \
-        'finish32 acc bff0000000000000 128 0' '    -inf: overflow, m × 2^e is too large for an f32' \
-        "finish32 acc $m 0 1" '    NaN: the accumulator is bad' \
-        'finish32 acc 4000000000000000 0 0' '    refused 9 (ACCUMULATOR_OUT_OF_RANGE)' \
-        'finish32 refused 1000' '    refused 1000' \
-        'reduce32 1 4 1 1 0 0 4 4 3dcccccd 4b800000 80000000 ff800000' '    1.600000023841858 × 2^21, bad'
-    has "$work/out" '4 values 0.1 16777216.0 -0.0 -inf' || die 'f32: the values are not shown as their shortest decimals'
-    has "$work/out" '2 values 3.4028235e+38 -3.4028235e+38' || die 'f32: the greatest values are not shown'
-    check 'an example of f32' 0 '    1.2581436743573364 × 2^-1382' '' run_sh 'examples/archive.cases'
-    has "$work/out" '    1.8196649976149675 × 2^-128, bad' || die 'an example of f32: a zero is not shown'
-    has "$work/out" '    1.9814290399139303 × 2^-134' || die 'an example of f32: a subnormal rate does not count'
 }

@@ -1,14 +1,13 @@
-//! Every case of both tables, of that of f32, of growth, and of short calls with several axes: those that take longer than
-//! the Rust.
+//! Every case of both tables, of growth, and of short calls with several axes: those that take longer than the Rust.
 //! And every case of the calls that hand out a number, of the search, of reductions by steps, of lists of ranges, of
 //! windows, and of jobs of sixteen axes: those that take longer than aimed at.
 //!
 //! A busy machine makes a case look slow now and then, so one that does is timed again, and its best ratio counts.
 
-use crate::job::{Job, Width};
+use crate::job::Job;
 use crate::rates::Rates;
-use crate::table::{Row, Rows};
-use crate::{beside, figures, growth, moving, rare, search, sent, single, stepping, table, timing, workers};
+use crate::table::Row;
+use crate::{beside, figures, growth, moving, rare, search, sent, stepping, table, timing, workers};
 use std::time::Duration;
 
 const LEAST: Duration = Duration::from_millis(100);
@@ -33,9 +32,12 @@ struct Seen {
 /// Whether no case takes longer than the Rust, nor one of the other calls than aimed at, and all answers were the same.
 pub fn print() -> bool {
     let mut seen = Seen { same: true, ..Seen::default() };
-    seen.table("the first table", "", &table::lists::<f64>());
-    seen.table("the second table", "", &rare::lists::<f64>());
-    seen.table("the table of f32", "f32, ", &single::lists());
+    for (name, lists) in [("the first table", &table::LISTS[..]), ("the second table", &rare::LISTS[..])] {
+        eprintln!("{name} ..");
+        for row in lists.iter().flat_map(|make| make()) {
+            seen.time(&format!("{}, {}", row.name, row.rates), &row.job);
+        }
+    }
     eprintln!("growth ..");
     for (name, make) in growth::KINDS {
         growth::counts().into_iter().for_each(|count| seen.time(&format!("{name}, {count} values"), &make(count)));
@@ -72,15 +74,7 @@ fn best(aims: &[f64], ratios: impl Fn() -> Vec<f64>) -> Vec<f64> {
 }
 
 impl Seen {
-    /// All rows of a table, and what stands before their names.
-    fn table<T: Width>(&mut self, name: &str, before: &str, lists: &[Rows<T>]) {
-        eprintln!("{name} ..");
-        for row in lists.iter().flat_map(|make| make()) {
-            self.time(&format!("{before}{}, {}", row.name, row.rates), &row.job);
-        }
-    }
-
-    fn time<T: Width>(&mut self, name: &str, job: &Job<T>) {
+    fn time(&mut self, name: &str, job: &Job) {
         self.cases += 1;
         if let Some((base, expected, found)) = job.difference() {
             println!("{name}, from {base}: the oracle gives {expected:x?}, the engine {found:x?}");

@@ -2,14 +2,14 @@
 //! refusal, the accumulator, and every place of a buffer. The offsets of each range are listed and compared too, and
 //! its ordered product, its figure and its first bad rate; then these for calls that are drawn for them. Jobs are read
 //! and written. Steps of a few pieces are asked, by themselves and in callers' loops, and lists of ranges, whose answers
-//! are joined and finished, and windows, and reductions of f32, whose answers are finished. Now and then comes a long
-//! piece, of f64 and of f32, and a long slice for windows. At the end a host with threads is asked.
+//! are joined and finished, and windows. Now and then comes a long piece, and a long slice for windows. At the end a host
+//! with threads is asked.
 //!
 //! The oracle's accumulators are the Rust's where no subnormal is visited, and else those of its own rule; how often
 //! each was asked is told.
 
 use crate::erased::calls::Layout;
-use crate::generate::reduce::{Call, Drawn};
+use crate::generate::reduce::Call;
 use crate::generate::{first, ordered, Dice};
 use crate::job;
 use crate::long;
@@ -19,7 +19,6 @@ use crate::range_answers;
 use crate::rules;
 use crate::searches;
 use crate::sent_answers;
-use crate::single_answers;
 use crate::step_answers;
 use crate::subnormal;
 use crate::tally::Tally;
@@ -28,20 +27,23 @@ use crate::window_answers;
 use std::collections::BTreeMap;
 
 /// What an answer's place holds before a call.
-pub const BEFORE: Place = Place { m: -0.1, e: i64::MIN, bad: 1 };
+const BEFORE: Place = Place { m: -0.1, e: i64::MIN, bad: 1 };
+
+/// A piece of so many values at stride 1 has a block.
+const BLOCK: u64 = 64;
 
 /// After one call in so many come a long piece and a long slice.
 const LONG: u64 = 100;
 
 /// What is told apart in the counts.
 #[derive(Clone, Copy, Eq, Ord, PartialEq, PartialOrd)]
-pub enum Kind {
+enum Kind {
     Accepted { way: &'static str, several: bool, subnormal: bool, bad: bool },
     Refused(u32),
 }
 
 impl Kind {
-    pub fn text(self) -> String {
+    fn text(self) -> String {
         match self {
             Kind::Refused(code) => format!("refused {code}"),
             Kind::Accepted { way, several, subnormal, bad } => format!(
@@ -55,7 +57,7 @@ impl Kind {
 }
 
 /// A call's answer: its code, and what its place or its buffer holds afterwards.
-pub type Reduced = (u32, Bits);
+type Reduced = (u32, Bits);
 type Listed = (u32, Vec<i64>);
 
 /// How often each kind of answer was given.
@@ -68,7 +70,6 @@ struct Seen {
     steps: Tally,
     ranges: Tally,
     windows: Tally,
-    singles: Tally,
 }
 
 /// Whether all answers were the same.
@@ -115,9 +116,6 @@ impl Seen {
         self.ranges.print();
         println!("{count} slices with their windows, and {longer} long ones: all answers are the same");
         self.windows.print();
-        println!("{count} reductions of f32, {longer} long pieces, and {count} accumulators more, finished to f32:");
-        println!("all answers are the same");
-        self.singles.print();
     }
 
     /// A call of each kind, and long ones if it is time for them. What differs is the error.
@@ -129,11 +127,9 @@ impl Seen {
         step_answers::ask(&mut self.steps, dice)?;
         range_answers::ask(&mut self.ranges, dice)?;
         window_answers::ask(&mut self.windows, dice)?;
-        single_answers::ask(&mut self.singles, dice)?;
         if long {
             long_piece(dice)?;
             window_answers::ask_long(&mut self.windows, dice)?;
-            single_answers::ask_long(dice)?;
         }
         Ok(())
     }
@@ -183,7 +179,7 @@ fn long_piece(dice: &mut Dice) -> Result<(), String> {
     }
 }
 
-pub fn oracle<T: Drawn>(call: &Call<T>, values: &[T]) -> (Kind, Reduced) {
+fn oracle(call: &Call, values: &[f64]) -> (Kind, Reduced) {
     match rules::range(&call.axes.sizes, &call.axes.strides, &call.range) {
         Err(code) => (Kind::Refused(code), (code, BEFORE.bits())),
         Ok(layout) => {
@@ -195,7 +191,7 @@ pub fn oracle<T: Drawn>(call: &Call<T>, values: &[T]) -> (Kind, Reduced) {
     }
 }
 
-fn accepted<T: Drawn>(call: &Call<T>, layout: &Layout, subnormal: bool, bad: bool) -> Kind {
+fn accepted(call: &Call, layout: &Layout, subnormal: bool, bad: bool) -> Kind {
     let (run, start, end) = (layout.run_len, call.range.start, call.range.end);
     let (first, last) = (start / run, (end - 1) / run);
     let longest = match last - first {
@@ -204,7 +200,7 @@ fn accepted<T: Drawn>(call: &Call<T>, layout: &Layout, subnormal: bool, bad: boo
         _ => run,
     };
     let way = match layout.run_stride {
-        1 if longest >= T::BLOCK => "stride 1 with blocks",
+        1 if longest >= BLOCK => "stride 1 with blocks",
         1 => "stride 1, short",
         _ => "other strides",
     };

@@ -1,58 +1,20 @@
 //! A call that is timed, for the engine and for the Rust.
 //!
 //! Timed of the Rust: the source's own `FullTraversal::compile` and `reduce_full_range` with
-//! `StableProductKernel` on f64 and on f32, or `OrderedProductKernel` on f64, and nothing else. The refusals that the
-//! engine adds are no part of the source: `Job::new` asks them once, before the timing, and there puts the axes into the
-//! form in which the source takes them in the engine's order. Timed of the engine: the whole call, with all its checks.
+//! `StableProductKernel` or `OrderedProductKernel` on f64, and nothing else. The refusals that the engine adds are no
+//! part of the source: `Job::new` asks them once, before the timing, and there puts the axes into the form in which the
+//! source takes them in the engine's order. Timed of the engine: the whole call, with all its checks.
 //!
 //! What the engine answers is held against the oracle (`rules::product` and the calls above it).
 
 use crate::erased::calls::{Acc, Answer, Layout, Plan};
-use crate::generate::reduce::Drawn;
 use crate::probe::{self, BadPlace, Bits, Numbered, Place, Places, Reduced, StepPlace};
 use crate::rules;
 use crate::searches;
-use crate::single_probe;
 use crate::window_probe;
 use std::hint::black_box;
 
-/// A width of rates that the engine reduces.
-pub trait Width: Drawn {
-    /// A block whose rates lie between 2^-BOUND and 2^BOUND is multiplied unsplit by the Rust.
-    const BOUND: i32;
-
-    /// A rate in this width, without the digits that have no place in it.
-    fn cut(rate: f64) -> Self;
-    /// The engine's call.
-    fn reduce(range: &probe::Range, values: &[Self]) -> Reduced;
-}
-
-impl Width for f64 {
-    const BOUND: i32 = 120;
-
-    fn cut(rate: f64) -> f64 {
-        rate
-    }
-    #[inline]
-    fn reduce(range: &probe::Range, values: &[f64]) -> Reduced {
-        probe::reduce(range, values)
-    }
-}
-
-impl Width for f32 {
-    const BOUND: i32 = 30;
-
-    /// So a rate below 1 does not become 1.
-    fn cut(rate: f64) -> f32 {
-        f64::from_bits(rate.to_bits() >> 29 << 29) as f32
-    }
-    #[inline]
-    fn reduce(range: &probe::Range, values: &[f32]) -> Reduced {
-        single_probe::reduce(range, values)
-    }
-}
-
-pub struct Job<T = f64> {
+pub struct Job {
     sizes: Vec<u64>,
     strides: Vec<i64>,
     /// The sizes and the strides for the Rust.
@@ -61,18 +23,18 @@ pub struct Job<T = f64> {
     layout: Layout,
     count: u64,
     bases: Vec<i64>,
-    pub values: Vec<T>,
+    pub values: Vec<f64>,
 }
 
 pub fn bits(acc: Acc) -> Bits {
     [acc.m.to_bits(), acc.e as u64, u64::from(acc.bad)]
 }
 
-impl<T: Width> Job<T> {
+impl Job {
     /// A call on the first `count` elements of a layout. The calls take turns with the bases, so that a short one
     /// does not meet the same values each time: of a hundred thousand values and fewer that come again and again,
     /// the processor learns which lanes are halved, and the Rust then is up to three times as fast at strides.
-    pub fn new(axes: &[(u64, i64)], count: u64, bases: Vec<i64>, values: Vec<T>) -> Job<T> {
+    pub fn new(axes: &[(u64, i64)], count: u64, bases: Vec<i64>, values: Vec<f64>) -> Job {
         let sizes: Vec<u64> = axes.iter().map(|axis| axis.0).collect();
         let strides: Vec<i64> = axes.iter().map(|axis| axis.1).collect();
         let layout = rules::compile(&sizes, &strides).expect("a timed layout compiles");
@@ -111,37 +73,6 @@ impl<T: Width> Job<T> {
         self.plan().product(base, 0..black_box(self.count) as usize, black_box(&self.values))
     }
 
-    #[inline]
-    fn range(&self, turn: usize) -> probe::Range<'_> {
-        probe::Range {
-            sizes: black_box(&self.sizes),
-            strides: black_box(&self.strides),
-            base: black_box(self.bases[turn]),
-            start: 0,
-            end: black_box(self.count),
-        }
-    }
-
-    #[inline(never)]
-    pub fn engine(&self, turn: usize) -> Reduced {
-        T::reduce(&self.range(turn), black_box(&self.values))
-    }
-
-    /// The oracle's accumulator.
-    pub fn expected(&self, turn: usize) -> Bits {
-        bits(rules::product(&self.layout, self.bases[turn], (0, self.count), &self.values))
-    }
-
-    /// The first base at which the two answers differ, with them.
-    pub fn difference(&self) -> Option<(i64, Bits, Reduced)> {
-        (0..self.turns()).find_map(|turn| {
-            let (expected, found) = (self.expected(turn), self.engine(turn));
-            (found != Ok(expected)).then_some((self.bases[turn], expected, found))
-        })
-    }
-}
-
-impl Job {
     #[inline(never)]
     pub fn rust_ordered_ahead(&self, plan: &Plan, turn: usize) -> f64 {
         let base = black_box(self.bases[turn]) as isize;
@@ -187,6 +118,22 @@ impl Job {
     pub fn rust_part(&self, start: u64, end: u64) -> Answer {
         let base = black_box(self.bases[0]) as isize;
         self.plan().product(base, black_box(start) as usize..black_box(end) as usize, black_box(&self.values))
+    }
+
+    #[inline]
+    fn range(&self, turn: usize) -> probe::Range<'_> {
+        probe::Range {
+            sizes: black_box(&self.sizes),
+            strides: black_box(&self.strides),
+            base: black_box(self.bases[turn]),
+            start: 0,
+            end: black_box(self.count),
+        }
+    }
+
+    #[inline(never)]
+    pub fn engine(&self, turn: usize) -> Reduced {
+        probe::reduce(&self.range(turn), black_box(&self.values))
     }
 
     #[inline(never)]
@@ -239,6 +186,11 @@ impl Job {
         window_probe::windows_into(black_box(&self.values), black_box(self.count), places)
     }
 
+    /// The oracle's accumulator.
+    pub fn expected(&self, turn: usize) -> Bits {
+        bits(rules::product(&self.layout, self.bases[turn], (0, self.count), &self.values))
+    }
+
     /// The oracle's accumulator of a range of the layout, from the first base.
     pub fn expected_part(&self, start: u64, end: u64) -> Bits {
         bits(rules::product(&self.layout, self.bases[0], (start, end), &self.values))
@@ -247,6 +199,14 @@ impl Job {
     /// The whole of a turn, for the oracle.
     fn asked(&self, turn: usize) -> rules::Range {
         rules::Range { base: self.bases[turn], start: 0, end: self.count, length: self.values.len() as u64 }
+    }
+
+    /// The first base at which the two answers differ, with them.
+    pub fn difference(&self) -> Option<(i64, Bits, Reduced)> {
+        (0..self.turns()).find_map(|turn| {
+            let (expected, found) = (self.expected(turn), self.engine(turn));
+            (found != Ok(expected)).then_some((self.bases[turn], expected, found))
+        })
     }
 
     /// The first number of the engine that is not the oracle's: the ordered product or the figure, from each base.

@@ -1,11 +1,11 @@
 //! Long pieces, in stretches of one kind of rate each: the engine tries, leaves and takes up again each of its ways.
 
 use crate::generate::Dice;
-use crate::job::{Job, Width};
+use crate::job::Job;
 
 /// At most so many values a stretch, and so many stretches.
-pub const STRETCH: u64 = 3000;
-pub const STRETCHES: u64 = 8;
+const STRETCH: u64 = 3000;
+const STRETCHES: u64 = 8;
 
 type Rate = fn(&mut Dice) -> f64;
 
@@ -76,14 +76,9 @@ pub fn stretches(dice: &mut Dice) -> Vec<f64> {
     values
 }
 
-/// A call on one piece of such stretches.
+/// A call on one piece, at any stride but 0.
 pub fn drawn(dice: &mut Dice) -> Job {
     let values = stretches(dice);
-    piece(dice, values)
-}
-
-/// A call on one piece, at any stride but 0.
-pub fn piece<T: Width>(dice: &mut Dice, values: Vec<T>) -> Job<T> {
     let stride: i64 = dice.of(&[1, 1, 1, -1, 2, 3]);
     let count = (values.len() as u64).div_ceil(stride.unsigned_abs());
     let base = if stride < 0 { values.len() as i64 - 1 } else { 0 };

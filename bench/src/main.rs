@@ -3,10 +3,10 @@
 //! `bench table` prints a row for each kind of call, `bench rare` a row for those seldom met, `bench figures` the calls
 //! that hand out a number, `bench search` the search for the first bad rate, `bench jobs` reading and writing jobs,
 //! `bench steps` the reduction a few pieces at a time, `bench ranges` a list of ranges in one call, `bench windows` each w
-//! values in a row, `bench single` the reduction of f32 rates, `bench threads` a host with threads, `bench growth` the time
-//! against the number of values, `bench window-growth` that of windows against w and against their number, `bench check`
-//! the cases that take longer than the Rust, or than aimed at, `bench compare COUNT SEED` the answers to random calls, by
-//! kind. Each ends with 1 if two answers differ, and `bench check` if a case takes longer.
+//! values in a row, `bench threads` a host with threads, `bench growth` the time against the number of values, `bench
+//! window-growth` that of windows against w and against their number, `bench check` the cases that take longer than the
+//! Rust, or than aimed at, `bench compare COUNT SEED` the answers to random calls, by kind. Each ends with 1 if two answers
+//! differ, and `bench check` if a case takes longer.
 //!
 //! The Rust is the oracle's, included by its path, so that nothing is copied and both see the same source. Answers are
 //! held against the oracle's, which are the Rust's unless a subnormal is visited: that the Rust marks as bad. It is
@@ -50,9 +50,6 @@ mod search;
 mod searches;
 mod sent;
 mod sent_answers;
-mod single;
-mod single_answers;
-mod single_probe;
 mod step_answers;
 mod stepping;
 mod table;
@@ -71,7 +68,7 @@ use oracle::{erased, generate, inline, jobs, ranges, rules, simd, steps, subnorm
 
 fn usage() -> ! {
     eprintln!(
-        "usage: bench table | rare | figures | search | jobs | steps | ranges | windows | single | threads | growth | \
+        "usage: bench table | rare | figures | search | jobs | steps | ranges | windows | threads | growth | \
          window-growth | check, or bench compare COUNT SEED"
     );
     std::process::exit(2);
@@ -89,7 +86,6 @@ fn main() {
         ["steps"] => stepping::print(),
         ["ranges"] => beside::print(&workers::TABLES),
         ["windows"] => beside::print(&moving::TABLES),
-        ["single"] => single::print(),
         ["threads"] => threads::print(),
         ["growth"] => growth::print(),
         ["window-growth"] => window_growth::print(),

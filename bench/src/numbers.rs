@@ -38,14 +38,13 @@ pub fn ask(tally: &mut Tally, call: &Call, values: &[f64]) -> Result<(), String>
             return Err(format!("the {name} of {text}\nthe oracle gives {expected:x?}, the engine {found:x?}"));
         }
         let mark = if bad { ", bad" } else { "" };
-        tally.count(format!("{}, {}{mark}", pair.name, kind(answer.map(f64::classify))));
+        tally.count(format!("{}, {}{mark}", pair.name, kind(answer)));
     }
     Ok(())
 }
 
-/// The sort of a number, or the refusal.
-pub fn kind(answer: Result<FpCategory, u32>) -> String {
-    String::from(match answer {
+fn kind(answer: Result<f64, u32>) -> String {
+    String::from(match answer.map(f64::classify) {
         Ok(FpCategory::Normal) => "normal",
         Ok(FpCategory::Subnormal) => "subnormal",
         Ok(FpCategory::Zero) => "zero",

@@ -1,6 +1,5 @@
 //! The engine's calls (crates/probe). Nothing checks these declarations against the library, so they all stand here, but
-//! those of windows (`window_probe.rs`) and of f32 (`single_probe.rs`). A slice passes as a pointer and then a length, and
-//! a bool in memory is a byte.
+//! that of windows (`window_probe.rs`). A slice passes as a pointer and then a length, and a bool in memory is a byte.
 
 use crate::generate::reduce::Call;
 use crate::ranges;
@@ -160,7 +159,7 @@ pub struct Range<'a> {
 }
 
 impl Range<'_> {
-    pub fn of<T>(call: &Call<T>) -> Range<'_> {
+    pub fn of(call: &Call) -> Range<'_> {
         Range {
             sizes: &call.axes.sizes,
             strides: &call.axes.strides,
@@ -216,8 +215,6 @@ macro_rules! over_range {
     };
 }
 
-pub(crate) use {declared, over_range};
-
 /// 0, with the accumulator in `place`; or the refusal 1 to 7, with `place` as it was.
 #[inline]
 pub fn reduce_into(range: &Range, values: &[f64], place: &mut Place) -> u32 {
@@ -229,14 +226,8 @@ pub fn reduce_into(range: &Range, values: &[f64], place: &mut Place) -> u32 {
 
 #[inline]
 pub fn reduce(range: &Range, values: &[f64]) -> Reduced {
-    reduced(|place| reduce_into(range, values, place))
-}
-
-/// What a call puts into its place, or its refusal.
-#[inline]
-pub fn reduced(call: impl FnOnce(&mut Place) -> u32) -> Reduced {
     let mut place = Place { m: 0.0, e: 0, bad: 0 };
-    match call(&mut place) {
+    match reduce_into(range, values, &mut place) {
         0 => Ok(place.bits()),
         code => Err(code),
     }

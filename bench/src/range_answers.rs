@@ -106,7 +106,7 @@ fn same_join(tally: &mut Tally, left: Place, right: Place) -> Result<Option<Plac
 }
 
 fn same_finish(tally: &mut Tally, acc: Place) -> Result<(), String> {
-    let expected = match rules::finish::<f64>(Ok(given(acc))) {
+    let expected = match rules::finish(Ok(given(acc))) {
         Ok(number) => (0, rules::one_nan(number).to_bits()),
         Err(code) => (code, NUMBER_BEFORE),
     };

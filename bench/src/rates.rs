@@ -49,14 +49,9 @@ impl Rates {
 
     /// One rate in each block of 64, at a place that varies, becomes `other` of it.
     pub fn with_one_a_block(self, count: usize, other: fn(f64) -> f64) -> Vec<f64> {
-        self.with_one_in(BLOCK, count, other)
-    }
-
-    /// The same in each block of so many.
-    pub fn with_one_in(self, block: usize, count: usize, other: fn(f64) -> f64) -> Vec<f64> {
         let mut values = self.draw(count);
         let mut dice = Dice::new(1);
-        for block in values.chunks_mut(block) {
+        for block in values.chunks_mut(BLOCK) {
             let place = dice.below(block.len() as u64) as usize;
             block[place] = other(block[place]);
         }

@@ -1,6 +1,6 @@
 //! The table of docs/PERFORMANCE.md: nanoseconds a value, and how long the engine takes beside the Rust.
 
-use crate::job::{Job, Width};
+use crate::job::Job;
 use crate::rates::Rates;
 use crate::timing;
 use std::time::Duration;
@@ -8,12 +8,7 @@ use std::time::Duration;
 const LEAST: Duration = Duration::from_millis(300);
 
 /// Between two rows of a table lies a line of the cache that is not read.
-pub const GAP: u64 = gap::<f64>();
-
-/// The same of rates of this width.
-pub const fn gap<T>() -> u64 {
-    64 / size_of::<T>() as u64
-}
+pub const GAP: u64 = 8;
 
 /// A row of so many values is timed beside reading them alone.
 const FROM_MEMORY: u64 = 10_000_000;
@@ -21,33 +16,28 @@ const FROM_MEMORY: u64 = 10_000_000;
 /// Short calls take turns with so many bases.
 pub const TURNS: i64 = 64;
 
-pub struct Row<T = f64> {
+pub struct Row {
     pub name: String,
     pub rates: &'static str,
-    pub job: Job<T>,
+    pub job: Job,
 }
-
-/// Draws some rows.
-pub type Rows<T = f64> = fn() -> Vec<Row<T>>;
 
 /// The rows of the table, in lists that are drawn one after another.
-pub const fn lists<T: Width>() -> [Rows<T>; 6] {
-    [contiguous, stepped, rows_with_gaps, spoiled, calls, signed]
-}
+pub const LISTS: [fn() -> Vec<Row>; 6] = [contiguous, stepped, rows_with_gaps, spoiled, calls, signed];
 
 /// Whether all answers were the same.
 pub fn print() -> bool {
-    print_rows(&lists::<f64>())
+    print_rows(&LISTS)
 }
 
 /// Each list of rows is drawn only when the one before it is measured.
-pub fn print_rows<T: Width>(lists: &[Rows<T>]) -> bool {
+pub fn print_rows(lists: &[fn() -> Vec<Row>]) -> bool {
     println!("| case | rates | Rust | Rust, compiled ahead | engine | engine / Rust |");
     println!("|---|---|---:|---:|---:|---:|");
     lists.iter().all(|make| make().iter().all(print_row))
 }
 
-fn print_row<T: Width>(row: &Row<T>) -> bool {
+fn print_row(row: &Row) -> bool {
     if let Some((base, expected, found)) = row.job.difference() {
         println!("{}, from {base}: the oracle gives {expected:x?}, the engine {found:x?}", row.name);
         return false;
@@ -70,35 +60,26 @@ fn print_row<T: Width>(row: &Row<T>) -> bool {
     true
 }
 
-/// The whole of a layout, from each of the bases by turns. The values are cut to the row's width.
-pub fn row<T: Width>(name: &str, rates: Rates, axes: &[(u64, i64)], bases: &[i64], values: Vec<f64>) -> Row<T> {
+/// The whole of a layout, from each of the bases by turns.
+pub fn row(name: &str, rates: Rates, axes: &[(u64, i64)], bases: &[i64], values: Vec<f64>) -> Row {
     part(name, rates, axes, axes.iter().map(|axis| axis.0).product(), bases, values)
 }
 
 /// The first elements of a layout, from each of the bases by turns.
-pub fn part<T: Width>(
-    name: &str,
-    rates: Rates,
-    axes: &[(u64, i64)],
-    count: u64,
-    bases: &[i64],
-    values: Vec<f64>,
-) -> Row<T> {
-    let values = values.into_iter().map(T::cut).collect();
+pub fn part(name: &str, rates: Rates, axes: &[(u64, i64)], count: u64, bases: &[i64], values: Vec<f64>) -> Row {
     Row { name: String::from(name), rates: rates.name(), job: Job::new(axes, count, bases.to_vec(), values) }
 }
 
-fn contiguous<T: Width>() -> Vec<Row<T>> {
+fn contiguous() -> Vec<Row> {
     let keep = Rates::Keep;
     let most = FROM_MEMORY;
-    let name = format!("contiguous, 1e7 ({} MB)", most as usize * size_of::<T>() / 1_000_000);
     vec![
         row("contiguous, 1e5 (in cache)", keep, &[(100_000, 1)], &[0], keep.draw(100_000)),
-        row(&name, keep, &[(most, 1)], &[0], keep.draw(most as usize)),
+        row("contiguous, 1e7 (80 MB)", keep, &[(most, 1)], &[0], keep.draw(most as usize)),
     ]
 }
 
-fn stepped<T: Width>() -> Vec<Row<T>> {
+fn stepped() -> Vec<Row> {
     let (keep, spread) = (Rates::Keep, Rates::Spread);
     let each: Vec<i64> = (0..TURNS).collect();
     vec![
@@ -110,11 +91,11 @@ fn stepped<T: Width>() -> Vec<Row<T>> {
     ]
 }
 
-fn rows_with_gaps<T: Width>() -> Vec<Row<T>> {
+fn rows_with_gaps() -> Vec<Row> {
     let mut out = Vec::new();
     for (length, stride) in [(8, 1), (16, 1), (64, 1), (16, 2)] {
         for rates in [Rates::Keep, Rates::Spread] {
-            let (rows, pitch) = (1_000_000 / length, length * stride + gap::<T>());
+            let (rows, pitch) = (1_000_000 / length, length * stride + GAP);
             let at = if stride == 1 { String::new() } else { format!(" at stride {stride}") };
             let name = format!("rows of {length}{at} with a gap, 1e6");
             let values = rates.draw((rows * pitch) as usize);
@@ -124,24 +105,18 @@ fn rows_with_gaps<T: Width>() -> Vec<Row<T>> {
     out
 }
 
-/// A rate that no block may hold which is multiplied unsplit.
-pub fn below_the_bound<T: Width>(rate: f64) -> f64 {
-    rate * 2f64.powi(-T::BOUND - 10)
-}
-
-fn spoiled<T: Width>() -> Vec<Row<T>> {
+fn spoiled() -> Vec<Row> {
     let keep = Rates::Keep;
-    let one = |other| keep.with_one_in(T::BLOCK as usize, 100_000, other);
-    let (tiny, zero) = (one(below_the_bound::<T>), one(|_| 0.0));
-    let name = format!("contiguous, 1e5, one rate a block below 2^-{}", T::BOUND);
+    let tiny = keep.with_one_a_block(100_000, |rate| rate * 2f64.powi(-130));
+    let zero = keep.with_one_a_block(100_000, |_| 0.0);
     vec![
-        row(&name, keep, &[(100_000, 1)], &[0], tiny),
+        row("contiguous, 1e5, one rate a block below 2^-120", keep, &[(100_000, 1)], &[0], tiny),
         row("contiguous, 1e5, one zero a block", keep, &[(100_000, 1)], &[0], zero),
     ]
 }
 
-fn signed<T: Width>() -> Vec<Row<T>> {
-    let (both, rows, pitch) = (Rates::Signed, 1_000_000 / 16, 16 + gap::<T>());
+fn signed() -> Vec<Row> {
+    let (both, rows, pitch) = (Rates::Signed, 1_000_000 / 16, 16 + GAP);
     let table = both.draw((rows * pitch) as usize);
     vec![
         row("contiguous, 1e5 (in cache)", both, &[(100_000, 1)], &[0], both.draw(100_000)),
@@ -150,7 +125,7 @@ fn signed<T: Width>() -> Vec<Row<T>> {
     ]
 }
 
-fn calls<T: Width>() -> Vec<Row<T>> {
+fn calls() -> Vec<Row> {
     let keep = Rates::Keep;
     let call = |count: u64| {
         let bases: Vec<i64> = (0..TURNS).map(|turn| turn * count as i64).collect();

@@ -115,7 +115,7 @@ impl Plan {
             rules::reduce(&self.sizes, &self.strides, &range, &self.values)
         };
         let whole = (1..count).try_fold(part(0)?, |left, at| rules::join(left, part(at)?))?;
-        Ok((job::bits(whole), rules::finish::<f64>(Ok(whole))?.to_bits()))
+        Ok((job::bits(whole), rules::finish(Ok(whole))?.to_bits()))
     }
 
     /// What the host gives otherwise than the oracle: by so many threads, or by none in one call.

@@ -1,7 +1,7 @@
 //! Best times. Each program is called in short batches by turns, so that a busy moment of the machine hits all of
 //! them alike, and the fastest batch of each counts.
 
-use crate::job::{Job, Width};
+use crate::job::Job;
 use std::hint::black_box;
 use std::time::{Duration, Instant};
 
@@ -110,7 +110,7 @@ pub fn by_numbers<T>(numbers: &[usize], least: Duration, mut call: impl FnMut(us
 }
 
 /// The reduction. At least `least` for each program.
-pub fn measure<T: Width>(job: &Job<T>, least: Duration) -> Times {
+pub fn measure(job: &Job, least: Duration) -> Times {
     let plan = job.plan();
     let [rust, rust_ahead, engine] = by_turns(
         job.turns(),
@@ -123,14 +123,12 @@ pub fn measure<T: Width>(job: &Job<T>, least: Duration) -> Times {
 }
 
 /// Nanoseconds a value for reading alone: eight sums over the bits of all values, in order.
-pub fn reading<T: Width>(values: &[T], least: Duration) -> f64 {
-    // SAFETY: floats have no padding, and any bits are a number. At most two f32 at the ends are left out.
-    let (_, words, _) = unsafe { values.align_to::<u64>() };
+pub fn reading(values: &[f64], least: Duration) -> f64 {
     let mut best = f64::INFINITY;
     let mut spent = Duration::ZERO;
     while spent < least {
         let began = Instant::now();
-        black_box(sums(black_box(words)));
+        black_box(sums(black_box(values)));
         let once = began.elapsed();
         spent += once;
         best = best.min(once.as_nanos() as f64 / values.len() as f64);
@@ -139,11 +137,11 @@ pub fn reading<T: Width>(values: &[T], least: Duration) -> f64 {
 }
 
 #[inline(never)]
-fn sums(words: &[u64]) -> [u64; 8] {
+fn sums(values: &[f64]) -> [u64; 8] {
     let mut sums = [0u64; 8];
-    for chunk in words.chunks_exact(8) {
-        for (sum, word) in sums.iter_mut().zip(chunk) {
-            *sum ^= word;
+    for chunk in values.chunks_exact(8) {
+        for (sum, value) in sums.iter_mut().zip(chunk) {
+            *sum ^= value.to_bits();
         }
     }
     sums

@@ -1,6 +1,6 @@
 //! Ours: the lines of a case file and their answers.
 
-use crate::erased::calls::{Acc, Layout, Rate};
+use crate::erased::calls::{Acc, Layout};
 use crate::generate::items_text;
 use crate::jobs::{self, Job};
 use crate::ranges::{self, Buffers, Ranges};
@@ -44,10 +44,8 @@ fn answer(line: &[u8]) -> Option<String> {
     match words.word()? {
         b"compile" => compile(words),
         b"list" => list(words),
-        b"reduce" => Some(acc_text(over_range(words, rules::reduce::<f64>)?)),
-        b"reduce32" => Some(acc_text(over_range(words, rules::reduce::<f32>)?)),
-        b"product" => product::<f64>(words),
-        b"product32" => product::<f32>(words),
+        b"reduce" => Some(acc_text(over_range(words, rules::reduce)?)),
+        b"product" => Some(number_text(rules::finish(over_range(words, rules::reduce)?))),
         b"ordered" => Some(number_text(over_range(words, rules::ordered)?)),
         b"figure" => Some(number_text(over_range(words, rules::figure)?)),
         b"first" => Some(first_text(over_range(words, rules::first_bad_rate)?)),
@@ -55,8 +53,7 @@ fn answer(line: &[u8]) -> Option<String> {
         b"ranges" => reduce_ranges(words),
         b"windows" => reduce_windows(words),
         b"join" => join(words),
-        b"finish" => finish::<f64>(words),
-        b"finish32" => finish::<f32>(words),
+        b"finish" => finish(words),
         b"read" => read_job(words),
         b"write" => write_job(words),
         _ => None,
@@ -104,23 +101,19 @@ fn list(mut words: Words) -> Option<String> {
 }
 
 /// A base, a range and its values.
-fn range_and_values<T: Rate>(words: &mut Words) -> Option<(Range, Vec<T>)> {
+fn range_and_values(words: &mut Words) -> Option<(Range, Vec<f64>)> {
     let base = words.i64()?;
     let (start, end) = (words.u64()?, words.u64()?);
-    let values = words.list(MOST_VALUES, Words::float)?;
+    let values = words.list(MOST_VALUES, Words::f64)?;
     Some((Range { base, start, end, length: values.len() as u64 }, values))
 }
 
 /// What a call over a range with its values gives.
-fn over_range<T: Rate, U>(mut words: Words, call: fn(&[u64], &[i64], &Range, &[T]) -> U) -> Option<U> {
+fn over_range<T>(mut words: Words, call: fn(&[u64], &[i64], &Range, &[f64]) -> T) -> Option<T> {
     let (sizes, strides) = axes(&mut words)?;
     let (range, values) = range_and_values(&mut words)?;
     words.end()?;
     Some(call(&sizes, &strides, &range, &values))
-}
-
-fn product<T: Rate>(words: Words) -> Option<String> {
-    Some(number_text::<T>(rules::finish(over_range(words, rules::reduce::<T>)?)))
 }
 
 fn step(mut words: Words) -> Option<String> {
@@ -134,7 +127,7 @@ fn step(mut words: Words) -> Option<String> {
 
 fn buffers(words: &mut Words) -> Option<Buffers> {
     Some(Buffers {
-        ms: words.list(MOST_PLACES, Words::float)?,
+        ms: words.list(MOST_PLACES, Words::f64)?,
         es: words.list(MOST_PLACES, Words::i64)?,
         bads: words.list(MOST_PLACES, Words::byte)?,
     })
@@ -145,7 +138,7 @@ fn reduce_ranges(mut words: Words) -> Option<String> {
     let base = words.i64()?;
     let starts = words.list(MOST_RANGES, Words::u64)?;
     let ends = words.list(MOST_RANGES, Words::u64)?;
-    let values = words.list(MOST_VALUES, Words::float)?;
+    let values = words.list(MOST_VALUES, Words::f64)?;
     let mut out = buffers(&mut words)?;
     words.end()?;
     let code = ranges::reduce_ranges(&sizes, &strides, base, &Ranges { starts, ends }, &values, &mut out);
@@ -153,7 +146,7 @@ fn reduce_ranges(mut words: Words) -> Option<String> {
 }
 
 fn reduce_windows(mut words: Words) -> Option<String> {
-    let values = words.list(MOST_VALUES, Words::float)?;
+    let values = words.list(MOST_VALUES, Words::f64)?;
     let w = words.u64()?;
     let mut out = buffers(&mut words)?;
     words.end()?;
@@ -162,7 +155,7 @@ fn reduce_windows(mut words: Words) -> Option<String> {
 }
 
 fn acc(words: &mut Words) -> Option<Acc> {
-    Some(Acc { m: words.float()?, e: words.i64()?, bad: words.bit()? })
+    Some(Acc { m: words.f64()?, e: words.i64()?, bad: words.bit()? })
 }
 
 fn join(mut words: Words) -> Option<String> {
@@ -172,14 +165,14 @@ fn join(mut words: Words) -> Option<String> {
     Some(acc_text(rules::join(left, right)))
 }
 
-fn finish<T: Rate>(mut words: Words) -> Option<String> {
+fn finish(mut words: Words) -> Option<String> {
     let answer = match words.word()? {
         b"acc" => Ok(acc(&mut words)?),
         b"refused" => Err(words.u32()?),
         _ => return None,
     };
     words.end()?;
-    Some(number_text::<T>(rules::finish(answer)))
+    Some(number_text(rules::finish(answer)))
 }
 
 fn acc_words(acc: Acc) -> String {
@@ -201,12 +194,9 @@ fn step_text(answer: std::result::Result<StepResult, u32>) -> String {
     }
 }
 
-/// The bits of an f64 behind `number`, those of an f32 behind `number32`.
-fn number_text<T: Rate>(answer: std::result::Result<T, u32>) -> String {
-    let digits = 2 * size_of::<T>();
-    let word = if digits == 16 { "number" } else { "number32" };
+fn number_text(answer: std::result::Result<f64, u32>) -> String {
     match answer {
-        Ok(number) => format!("{word} {:0digits$x}", number.bits()),
+        Ok(number) => format!("number {:016x}", number.to_bits()),
         Err(code) => format!("refused {code}"),
     }
 }

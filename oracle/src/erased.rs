@@ -145,7 +145,7 @@ impl<'a> ReduceInnerCursor<'a> {
     }
 }
 
-/// The names that the source asks of a scalar. Only f64, f32 and i64 are reduced here, and only by products and by
+/// The names that the source asks of a scalar. Only f64 and i64 are reduced here, and only by products and by
 /// the recording kernel of `calls`, so nothing but the unit and the product has a meaning.
 trait ErasedReduceScalar: reduce_kernel::StableProductScalar + 'static {
     fn zero() -> Self;
@@ -187,27 +187,19 @@ trait ErasedReduceScalar: reduce_kernel::StableProductScalar + 'static {
     }
 }
 
-macro_rules! float_scalar {
-    ($($float:ty),*) => {
-        $(
-            impl ErasedReduceScalar for $float {
-                fn zero() -> $float {
-                    0.0
-                }
-                #[inline]
-                fn one() -> $float {
-                    1.0
-                }
-                #[inline]
-                fn reduce_product(lhs: $float, rhs: $float) -> $float {
-                    lhs * rhs
-                }
-            }
-        )*
-    };
+impl ErasedReduceScalar for f64 {
+    fn zero() -> f64 {
+        0.0
+    }
+    #[inline]
+    fn one() -> f64 {
+        1.0
+    }
+    #[inline]
+    fn reduce_product(lhs: f64, rhs: f64) -> f64 {
+        lhs * rhs
+    }
 }
-
-float_scalar!(f64, f32);
 
 impl ErasedReduceScalar for i64 {
     fn zero() -> i64 {

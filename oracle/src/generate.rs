@@ -2,12 +2,11 @@
 //!
 //! A kind names what is drawn: `layout` gives lines of `compile` and `list`, `join` of `join`, `reduce` of `reduce`
 //! and `product`, `ordered` of `ordered` and `figure`, `first` of `first`, `finish` of `finish`, `jobs` of `write` and
-//! `read`, `step` of `step`, `ranges` of `ranges`, `windows` of `windows`, `reduce32` of `reduce32` and `product32`,
-//! `finish32` of `finish32`.
+//! `read`, `step` of `step`, `ranges` of `ranges`, `windows` of `windows`.
 
 mod accumulator;
 mod axes;
-pub mod finish;
+mod finish;
 pub mod first;
 pub mod jobs;
 mod join;
@@ -16,12 +15,9 @@ pub mod ordered;
 pub mod ranges;
 mod rates;
 pub mod reduce;
-pub mod single;
-pub mod single_rates;
 pub mod step;
 pub mod windows;
 
-use crate::erased::calls::Rate;
 use std::fmt::Display;
 use std::io::{Result, Write};
 
@@ -36,8 +32,6 @@ pub fn maker(kind: &str) -> Option<Maker> {
         "ordered" => Some(ordered::line),
         "first" => Some(first::line),
         "finish" => Some(finish::line),
-        "reduce32" => Some(single::line),
-        "finish32" => Some(finish::line32),
         "jobs" => Some(jobs::line),
         "step" => Some(step::lines),
         "ranges" => Some(ranges::line),
@@ -70,18 +64,13 @@ pub fn items_text<T: Display>(items: &[T]) -> String {
 }
 
 /// The floats that are given by their bits.
-pub fn floats<T: Rate>(bits: &[u64]) -> Vec<T> {
-    bits.iter().map(|&bits| T::of_bits(bits)).collect()
+pub fn floats(bits: &[u64]) -> Vec<f64> {
+    bits.iter().map(|&bits| f64::from_bits(bits)).collect()
 }
 
 /// A list of floats, which are given by their bits.
 pub fn floats_text(bits: &[u64]) -> String {
-    digits_text(bits, 16)
-}
-
-/// The same of floats whose bits are so many hex digits.
-fn digits_text(bits: &[u64], digits: usize) -> String {
-    let words: Vec<String> = bits.iter().map(|bits| format!("{bits:0digits$x}")).collect();
+    let words: Vec<String> = bits.iter().map(|bits| format!("{bits:016x}")).collect();
     items_text(&words)
 }
 

@@ -4,10 +4,8 @@
 //!
 //! The source's accumulator and its figure count only for ranges that visit no subnormal. The others have those of
 //! `subnormal.rs`; every call asks `product`, which chooses. Ordered products are the source's for all ranges.
-//!
-//! Reducing and finishing are asked of both widths, f64 and f32; every other call has f64 values.
 
-use crate::erased::calls::{self, Acc, Layout, Rate};
+use crate::erased::calls::{self, Acc, Layout};
 use crate::{subnormal, StridedError};
 
 pub const MOST_AXES: usize = 16;
@@ -166,7 +164,7 @@ pub fn list(sizes: &[u64], strides: &[i64], r: &Range, buffer: &mut [i64]) -> u3
 
 /// The accumulator of an accepted range: the source's, or our own rule's if a subnormal is visited. Where assertions
 /// are on, our own rule must give what the source does, m and e beside a mark included.
-pub fn product<T: Rate>(layout: &Layout, base: i64, range: (u64, u64), values: &[T]) -> Acc {
+pub fn product(layout: &Layout, base: i64, range: (u64, u64), values: &[f64]) -> Acc {
     if subnormal::is_visited(layout, base, range, values) {
         return subnormal::product(layout, base, range, values);
     }
@@ -179,16 +177,16 @@ pub fn product<T: Rate>(layout: &Layout, base: i64, range: (u64, u64), values: &
     acc
 }
 
-pub fn reduce<T: Rate>(sizes: &[u64], strides: &[i64], r: &Range, values: &[T]) -> Result<Acc, u32> {
+pub fn reduce(sizes: &[u64], strides: &[i64], r: &Range, values: &[f64]) -> Result<Acc, u32> {
     let layout = range(sizes, strides, r)?;
     Ok(product(&layout, r.base, (r.start, r.end), values))
 }
 
 /// The one NaN for every pattern of a NaN: those of the Rust count as equal to it, as that of an infinity times 0,
 /// which has a sign on x86.
-pub fn one_nan<T: Rate>(value: T) -> T {
-    if value.bits() % T::SIGN > T::INFINITE {
-        T::of_bits(T::NAN)
+pub fn one_nan(value: f64) -> f64 {
+    if value.is_nan() {
+        f64::from_bits(0x7ff8_0000_0000_0000)
     } else {
         value
     }
@@ -253,6 +251,6 @@ pub fn join(left: Acc, right: Acc) -> Result<Acc, u32> {
     Ok(joined)
 }
 
-pub fn finish<T: Rate>(answer: Result<Acc, u32>) -> Result<T, u32> {
+pub fn finish(answer: Result<Acc, u32>) -> Result<f64, u32> {
     Ok(calls::finish(given(answer?)?))
 }

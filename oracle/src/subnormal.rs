@@ -3,9 +3,9 @@
 //! The source's accumulators count for nothing there, so these are made here, from the rules alone and in whole
 //! numbers: no two floats are multiplied. What is shared with the source is its loop, for which values are visited. The
 //! rule itself holds for every range, and where assertions are on, it is held against the source on all the others
-//! (`rules::product`). It is one rule for both widths: a rate's own width is in its splitting alone.
+//! (`rules::product`).
 
-use crate::erased::calls::{self, Acc, Layout, Rate};
+use crate::erased::calls::{self, Acc, Layout};
 use crate::rules;
 
 const LANES: usize = 8;
@@ -14,30 +14,25 @@ const LANES: usize = 8;
 const ONE: u64 = 1 << 52;
 const TWO: u64 = 1 << 53;
 
-pub fn is_subnormal<T: Rate>(value: T) -> bool {
-    let size = value.bits() % T::SIGN;
-    0 < size && size < T::LEAST
+pub fn is_subnormal(value: f64) -> bool {
+    let size = value.to_bits() % (1 << 63);
+    0 < size && size < ONE
 }
 
 /// Zero, infinite or a NaN: what rule A2 marks.
-pub fn is_bad<T: Rate>(value: T) -> bool {
-    let size = value.bits() % T::SIGN;
-    size == 0 || size >= T::INFINITE
+pub fn is_bad(value: f64) -> bool {
+    let size = value.to_bits() % (1 << 63);
+    size == 0 || size >= 2047 * ONE
 }
 
 /// The visited values, in the order of the source's loop.
-fn visited<'a, T: Rate>(
-    layout: &Layout,
-    base: i64,
-    range: (u64, u64),
-    values: &'a [T],
-) -> impl Iterator<Item = T> + 'a {
+fn visited<'a>(layout: &Layout, base: i64, range: (u64, u64), values: &'a [f64]) -> impl Iterator<Item = f64> + 'a {
     let offsets = calls::visited(layout, base, range, values.len() as u64);
     offsets.into_iter().map(|offset| values[offset as usize])
 }
 
 /// Whether an accepted range visits a subnormal. Most tables have none, and then the loop is not gone through.
-pub fn is_visited<T: Rate>(layout: &Layout, base: i64, range: (u64, u64), values: &[T]) -> bool {
+pub fn is_visited(layout: &Layout, base: i64, range: (u64, u64), values: &[f64]) -> bool {
     values.iter().copied().any(is_subnormal) && visited(layout, base, range, values).any(is_subnormal)
 }
 
@@ -53,21 +48,20 @@ struct Factor {
 impl Factor {
     const IDENTITY: Factor = Factor { minus: false, significand: ONE, e: 0, bad: false };
 
-    /// Rule A2. A fraction is brought to 52 digits by zeros behind it. A subnormal has its highest one brought to the
-    /// leading place, and e goes down by one for each place.
-    fn of<T: Rate>(value: T) -> Factor {
-        let bits = rules::one_nan(value).bits();
-        let (field, fraction) = (bits % T::SIGN / T::LEAST, bits % T::LEAST * (ONE / T::LEAST));
+    /// Rule A2. A subnormal has its highest one brought to the leading place, and e goes down by one for each place.
+    fn of(value: f64) -> Factor {
+        let bits = rules::one_nan(value).to_bits();
+        let (field, fraction) = (bits / ONE % 2048, bits % ONE);
         let mut significand = ONE + fraction;
-        let mut e = field as i64 - T::BIAS as i64;
+        let mut e = field as i64 - 1023;
         if is_subnormal(value) {
-            (significand, e) = (fraction, 1 - T::BIAS as i64);
+            (significand, e) = (fraction, -1022);
             while significand < ONE {
                 significand *= 2;
                 e -= 1;
             }
         }
-        Factor { minus: bits >= T::SIGN, significand, e, bad: is_bad(value) }
+        Factor { minus: bits / (1 << 63) == 1, significand, e, bad: is_bad(value) }
     }
 
     /// Rule W1, for bad ones too; the product has their mark.
@@ -106,7 +100,7 @@ impl Factor {
 
 /// Rules A4 and A5. Blocks and bringing back change no product, so the two differ in bad values alone: at stride 1
 /// these are multiplied like others, and at other strides a lane keeps what it had before its first one.
-fn piece<T: Rate>(values: impl Iterator<Item = T>, stride: i64) -> Factor {
+fn piece(values: impl Iterator<Item = f64>, stride: i64) -> Factor {
     let then = if stride == 1 { Factor::times } else { Factor::join };
     let mut lanes = [Factor::IDENTITY; LANES];
     for (i, value) in values.enumerate() {
@@ -116,7 +110,7 @@ fn piece<T: Rate>(values: impl Iterator<Item = T>, stride: i64) -> Factor {
 }
 
 /// Rule A6, for an accepted range.
-pub fn product<T: Rate>(layout: &Layout, base: i64, range: (u64, u64), values: &[T]) -> Acc {
+pub fn product(layout: &Layout, base: i64, range: (u64, u64), values: &[f64]) -> Acc {
     let (mut next, end) = range;
     let mut visited = visited(layout, base, range, values);
     let mut whole: Option<Factor> = None;

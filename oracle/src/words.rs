@@ -1,7 +1,6 @@
 //! Ours: the words of a case line. Words are separated by exactly one space. A number is decimal with no leading
-//! zero and no plus, and a minus only before a number that is not 0. A float is 16 lower-case hex digits, an f32 8.
+//! zero and no plus, and a minus only before a number that is not 0. A float is 16 lower-case hex digits.
 
-use crate::erased::calls::Rate;
 use crate::rules;
 
 pub struct Words<'a> {
@@ -76,10 +75,9 @@ impl<'a> Words<'a> {
         }
     }
 
-    /// As many digits as its width has.
-    pub fn float<T: Rate>(&mut self) -> Option<T> {
+    pub fn f64(&mut self) -> Option<f64> {
         let word = self.word()?;
-        if word.len() != 2 * size_of::<T>() {
+        if word.len() != 16 {
             return None;
         }
         let mut bits = 0u64;
@@ -91,7 +89,7 @@ impl<'a> Words<'a> {
             };
             bits = bits << 4 | u64::from(digit);
         }
-        Some(rules::one_nan(T::of_bits(bits)))
+        Some(rules::one_nan(f64::from_bits(bits)))
     }
 
     /// A count, at most `most`, and then as many items.

@@ -10,8 +10,6 @@ use lib.Dec.{T}
 use lib.IntN.{ℤ, nat_abs}
 use lib.Ieee.{Float, binary64, fits}
 use borrow.Author.Tests.{le-leb}
-use Rattle.floats.specs.Formats.{f64_format}
-use Rattle.floats.proofs.Splitting.{f64-lawful}
 use Rattle.laws.specs.Lists.{Each, none, more}
 use Rattle.layout.specs.declared.traversal.FullTraversal.{FullTraversal}
 use Rattle.offsets.specs.InnerCursors.{Bounded, Traversal}
@@ -21,7 +19,7 @@ use Rattle.accumulator.specs.declared.StableProductFloatAcc.{StableProductFloatA
 use Rattle.accumulator.specs.declared.Reduced.TheVariants.{Acc}
 use Rattle.accumulator.specs.Joining.{combined, within_limit, in_limits, Answer, refusal, answer_of, answered}
 use Rattle.accumulator.proofs.Combining.{acc-same}
-use Rattle.kernels.specs.Pieces.{Piece, worked_piece, joined_onto, joined_pieces_in, joined_pieces, rates_of}
+use Rattle.kernels.specs.Pieces.{Piece, worked_piece, joined_onto, joined_pieces, rates_of}
 use Rattle.kernels.proofs.Sizes.{in_list, combined-size}
 use Rattle.kernels.proofs.Bounded.{FullPiece, worked-size, joined-within}
 use Rattle.reduction.specs.Ranges.{pieces_from}
@@ -39,7 +37,7 @@ answered-within a b h =
     ∙ ap (λ (t : Bool). cond t (refusal 10) (answer_of (Acc (combined a b)))) (and-false (not (a.bad || b.bad)))
 
 -- exponents of at most `in_list` for each value, and those of the accumulator, within the limit: nothing is refused
-pub joined-near : (a : StableProductFloatAcc) {ps : List Piece} → Each (FullPiece f64_format f64-lawful) ps → nat_abs a.e + in_list * length (rates_of ps) ≤ 2 ^ 52
+pub joined-near : (a : StableProductFloatAcc) {ps : List Piece} → Each FullPiece ps → nat_abs a.e + in_list * length (rates_of ps) ≤ 2 ^ 52
     → joined_within a ps ≡ answer_of (Acc (joined_onto a ps))
 unfolding joined_within rates_of
 joined-near a none h = refl
@@ -48,7 +46,7 @@ joined-near a (more {x = p} {xs = ps} f fs) h =
     let z : nat_abs c.e + in_list * length (rates_of ps) ≤ 2 ^ 52 = omega (
       arith,
       combined-size a (worked_piece p),
-      worked-size f64_format f64-lawful p f.values,
+      worked-size p f.values,
       f.some_rate,
       length-append p.rates (rates_of ps),
     ) in
@@ -78,7 +76,7 @@ joined-behind : (a : StableProductFloatAcc) (ps qs : List Piece) → joined_onto
 joined-behind a ps qs = ap (foldl combined a) (map-append worked_piece ps qs) ∙ foldl-append combined a (map worked_piece ps) (map worked_piece qs)
 
 pieces-behind : (ps qs : List Piece) → 0 < length ps → joined_pieces (ps ++ qs) ≡ joined_onto (joined_pieces ps) qs
-unfolding joined_pieces_in
+unfolding joined_pieces
 pieces-behind [] qs h = absurd (omega arith)
 pieces-behind (p ∷ ps) qs h = joined-behind (worked_piece p) ps qs
 
@@ -108,7 +106,7 @@ module _ (l : FullTraversal) (t : Traversal l) (base : ℤ) (b : Bounded (run_of
   pub first-in-limits : in_limits (joined_pieces (pieces_from l base values end m start)) ≡ true
   first-in-limits =
       ap (λ (ps : List Piece). in_limits (joined_pieces ps)) (portion-pieces l t base b values end m start some forward)
-      ∙ range-in-limits f64_format f64-lawful l t base b values v (reach m) start (stop-forward l.run_len end start (run-some l t) forward m some) (omega (arith, upto m))
+      ∙ range-in-limits l t base b values v (reach m) start (stop-forward l.run_len end start (run-some l t) forward m some) (omega (arith, upto m))
 
   module _ (n : ℕ) where
     abbrev second : List Piece
@@ -127,8 +125,8 @@ module _ (l : FullTraversal) (t : Traversal l) (base : ℤ) (b : Bounded (run_of
     pub both-joined : joined_within (joined_pieces (pieces_from l base values end m start)) (pieces_from l base values end n (stop_at l.run_len end m start))
         ≡ answer_of (Acc (joined_pieces (pieces_from l base values end (m + n) start)))
     both-joined =
-        let x = (joined-within f64_format f64-lawful (full-pieces f64_format f64-lawful l t base b values v end m start)).1 in
-        joined-near (joined_pieces (first m)) (full-pieces f64_format f64-lawful l t base b values v end n (reach m))
+        let x = (joined-within (full-pieces l t base b values v end m start)).1 in
+        joined-near (joined_pieces (first m)) (full-pieces l t base b values v end n (reach m))
         (omega (arith, x, upto (m + n), first_ends m some, both_end))
         ∙ ap (λ (r : StableProductFloatAcc). answer_of (Acc r))
         (sym (ap joined_pieces both ∙ pieces-behind (first m) second (omega (arith, portion-count l t base b values end m start some forward))))

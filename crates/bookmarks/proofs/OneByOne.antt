@@ -12,8 +12,6 @@ use lib.Ieee.{Float, nan, binary64, fits}
 use borrow.Author.Tests.{le-leb}
 use types.Run.{OneOf}
 use denote.Enum.Declared.{tag_of}
-use Rattle.floats.specs.Formats.{f64_format}
-use Rattle.floats.proofs.Splitting.{f64-lawful}
 use Rattle.integers.specs.Integers.{eq_z}
 use Rattle.layout.specs.declared.traversal.FullTraversal.{FullTraversal}
 use Rattle.offsets.specs.declared.pieces.RangeCursor.{RangeCursor}
@@ -27,7 +25,7 @@ use Rattle.accumulator.specs.Joining.{combined, within_limit, in_limits, Answer,
 use Rattle.accumulator.proofs.Answers.{answered-joined, accepted, refused-joined}
 use Rattle.kernels.specs.InnerStepped.{Sound}
 use Rattle.kernels.specs.InnerStrided.{strided}
-use Rattle.kernels.specs.InnerDoubles.{worked}
+use Rattle.kernels.specs.Pieces.{worked}
 use Rattle.kernels.proofs.Bounded.{combined-sound}
 use Rattle.reduction.specs.Ranges.{pieces_of}
 use Rattle.reduction.proofs.Pieces.{pieces_none}
@@ -68,21 +66,21 @@ unfolding joined_within
 joining-all l base values end whole acc c s h = ap (joined_within acc) (sym (pieces_none l base values end _ c.at h)) ∙ s.rest
 
 -- a piece joined, by what `join` answered of it
-module _ (l : FullTraversal) (base : ℤ) (values : List Float) (end : ℕ) (c : RangeCursor) (p : RangePiece) (t : PieceTaken f64_format l base values end c p)
+module _ (l : FullTraversal) (base : ℤ) (values : List Float) (end : ℕ) (c : RangeCursor) (p : RangePiece) (t : PieceTaken l base values end c p)
     (b : StableProductFloatAcc)
     (e : b ≡ worked (eq_z l.run_stride (pos 1)) (strided values p.first l.run_stride p.len))
     (v : (i : ℕ) → T (fits binary64 (get_or values i nan))) (few : p.len ≤ 2 ^ 40)
     (whole : Answer) (acc : StableProductFloatAcc) (s : Joining l base values end whole acc c) (r : Reduced) (j : answer_of r ≡ joined acc b) where
   piece-within : in_limits b ≡ true
   piece-within =
-      in-limits b (piece-sound f64_format f64-lawful l base values end c p t b e v)
-      (le-leb (nat_abs b.e) (2 ^ 52) (le_trans (near f64_format f64-lawful l base values end c p t b e v) (omega arith)))
+      in-limits b (piece-sound l base values end c p t b e v)
+      (le-leb (nat_abs b.e) (2 ^ 52) (le_trans (near l base values end c p t b e v) (omega arith)))
 
   next : and_then (answer_of r) (λ (a : StableProductFloatAcc). joined_within a (pieces_of l base values p.next.at end)) ≡ whole
   unfolding joined_within
   next =
       ap (λ (x : Answer). and_then x (λ (a : StableProductFloatAcc). joined_within a (pieces_of l base values p.next.at end)))
-      (j ∙ sym (answered-joined acc b s.within piece-within) ∙ ap (answered acc) (is-piece f64_format f64-lawful l base values end c p t b e v))
+      (j ∙ sym (answered-joined acc b s.within piece-within) ∙ ap (answered acc) (is-piece l base values end c p t b e v))
       ∙ ap (joined_within acc) (sym t.pieces) ∙ s.rest
 
   -- a refusal is the whole answer
@@ -97,7 +95,7 @@ module _ (l : FullTraversal) (base : ℤ) (values : List Float) (end : ℕ) (c :
   pub joining-more : (a : StableProductFloatAcc) → r ≡ Acc a → Joining l base values end whole a p.next
   joining-more a g =
       let k = join_kept acc b s.within piece-within a (sym (ap answer_of g) ∙ j) in
-      let sound = subst Sound (sym k.0) (combined-sound acc b s.sound (piece-sound f64_format f64-lawful l base values end c p t b e v)) in
+      let sound = subst Sound (sym k.0) (combined-sound acc b s.sound (piece-sound l base values end c p t b e v)) in
       record {
         upto = omega (arith, t.next_at, t.ends);
         cursor_is = t.next_cursor_is;

@@ -112,7 +112,7 @@ fn join_each(
     let mut c = offsets::pieces::begin(l, base, k);
     while c.at < end {
         let p = offsets::pieces::next_piece(l, end, c);
-        let b = reduction::runs::reduce_piece(values, p.first, stride, p.len as usize);
+        let b = reduction::full::reduce_piece(values, p.first, stride, p.len as usize);
         let r = accumulator::join(acc, b);
         let Reduced::Acc(a) = r else {
             return r;

@@ -34,15 +34,15 @@ module _ (ns : List ℕ) (ss : List ℤ) (base : ℤ) (start end : ℕ) (values 
       → figure_of ns ss base start end values ≡ value (rounded_once (factor_of_acc (range_product ns ss base start end values)))
   rounded b =
       let d = rule-D3 ns ss base start end values v e in
-      figure-good ns ss base start end values e (d.range.mark ∙ b) ∙ ap value (rounded-value (range_product ns ss base start end values) (d.range.mark ∙ b))
+      figure-good ns ss base start end values e (d.mark ∙ b) ∙ ap value (rounded-value (range_product ns ss base start end values) (d.mark ∙ b))
 
   range-figure : RuleO4 ns ss base start end values
   range-figure =
       let d = rule-D3 ns ss base start end values v e in
       record {
-        bad = λ b. figure-bad ns ss base start end values e (d.range.mark ∙ b) ∙ sym (ordered-number ns ss base start end values e);
-        finished = λ r t b. rounded b ∙ sym (d.once r t (d.range.mark ∙ b));
-        good = λ b. rounded b ∙ ap (λ (x : StableProductFloatAcc). value (rounded_once (factor_of_acc x))) (d.range.plain (d.range.mark ∙ b));
+        bad = λ b. figure-bad ns ss base start end values e (d.mark ∙ b) ∙ sym (ordered-number ns ss base start end values e);
+        finished = λ r t b. rounded b ∙ sym (d.once r t (d.mark ∙ b));
+        good = λ b. rounded b ∙ ap (λ (x : StableProductFloatAcc). value (rounded_once (factor_of_acc x))) (d.plain (d.mark ∙ b));
       }
 
 pub rule-O4 : RuleO4Law

@@ -1,26 +1,26 @@
 -- The two loops of `f64_ldexp`: each multiplies at most twice, the first time exactly, the second time into an infinity or a zero. So m × 2^e is rounded once.
 -- Assumes nothing.
 use mathlib.Core.Path.{◌≡◌, refl, sym, ap, ◌∙◌, subst}
-use mathlib.Core.Bool.{Bool, true, false, ◌&&◌, ◌||◌, beq, true≢false}
-use Prim.Native.Nat.{ℕ, zero, suc, ◌*◌, ◌^◌, ◌≤◌, ◌<◌, ◌-◌}
-use native.Mathlib.Nat.{lt_of_lt_of_le, mul-pos}
+use mathlib.Core.Bool.{Bool, true, false, cond, ◌&&◌, ◌||◌, beq, true≢false}
+use Prim.Native.Nat.{ℕ, zero, suc, ◌+◌, ◌*◌, ◌/◌, ◌%◌, ◌^◌, ◌≤◌, ◌<◌, ◌-◌}
+use native.Mathlib.Nat.{le_trans, lt_of_lt_of_le, mul-pos, mod-eq_of_lt, div-eq_of_lt}
 use native.Mathlib.Omega.{arith}
 use lib.IntN.{ℤ, pos, negsuc, nat_abs, neg_ℤ, ◌+ℤ◌, ◌-ℤ◌}
 use lib.Signed.{le_z, lt_z}
-use lib.Dec.{T, eqb, lit<}
-use lib.Pow.{pow_pos}
+use lib.Dec.{T, ltb, eqb, lit<, lit≤}
+use lib.Pow.{pow_pos, pow_mono}
 use lib.Ieee.{Float, nan, inf, fin, binary64, up, down, fits, mul, eq, of_bits, odd}
 use lib.Ieee.Fits.{down_pos}
 use lib.Ieee.Exact.{HasValue}
 use mir.Syntax.{w64}
 use mir.Val.{SFits}
-use borrow.Author.Tests.{ne_eqb}
+use borrow.Author.Tests.{lt-ltb, ne_eqb}
 use Rattle.laws.proofs.Tests.{and_both}
 use Rattle.integers.proofs.Difference.{ints, atoms}
 use Rattle.integers.proofs.Machine.{nonneg_pos}
+use Rattle.floats.specs.Rounding.{ties_to_even}
 use Rattle.floats.specs.Factor.{Normalised, float_of}
 use Rattle.floats.specs.Magnitude.{in_unit, is_minus, factor_at}
-use Rattle.floats.proofs.Nearest.{ties-none}
 use Rattle.floats.proofs.Product.{mul-binary64}
 use Rattle.floats.proofs.Bridge.{float_of-value}
 use Rattle.floats.proofs.Magnitude.{at-normal, float_at}
@@ -77,6 +77,18 @@ zero_is : (s : Bool) → eq (fin s 0 (pos 0)) (fin false 0 (pos 0)) ≡ true
 unfolding eq
 zero_is true = refl
 zero_is false = refl
+
+-- less than half of a unit is none
+ties-none : (S n : ℕ) → S < 2 ^ 53 → 54 ≤ n → ties_to_even S (2 ^ n) ≡ 0
+ties-none S n h l =
+    let b = 2 ^ n in
+    let big : 2 ^ 54 ≤ b = pow_mono l in
+    let small : S < b = lt_of_lt_of_le h (le_trans (lit≤ tt) big) in
+    let r : S % b ≡ S = mod-eq_of_lt small in
+    let q : S / b ≡ 0 = div-eq_of_lt small in
+    let t : S * 2 < b = lt_of_lt_of_le (let u : S * 2 < 2 ^ 54 = omega arith in u) big in
+    ap (λ (x : Bool). cond x (S / b) (cond (ltb b (S % b * 2)) (S / b + 1) (S / b + S / b % 2))) (ap (λ (x : ℕ). ltb (x * 2) b) r ∙ lt-ltb (S * 2) b t)
+    ∙ q
 
 -- ---- exponents
 pub record Limited (e : ℤ) : Type 0 where
@@ -228,7 +240,7 @@ module _ (m : Float) (fm : T (fits binary64 m)) (um : in_unit m ≡ true) where
       let f = factor_at 52 m d in
       let n = nat_abs (negsuc 1021 -ℤ d) in
       float-low f (N d) (tiny-low d h)
-      ∙ ap (λ (x : ℕ). counted (is_minus m) x 0) (ties-none 53 f.sig n (N d).most (tiny-digits d n (nonneg_pos (negsuc 1021 -ℤ d) (tiny-pos d h)) h))
+      ∙ ap (λ (x : ℕ). counted (is_minus m) x 0) (ties-none f.sig n (N d).most (tiny-digits d n (nonneg_pos (negsuc 1021 -ℤ d) (tiny-pos d h)) h))
 
   normal-value : (d : ℤ) (h : past_largest d ≡ false) (k : from_least_normal d ≡ true)
       → HasValue (at m d) (factor_at 52 m d).sign ((factor_at 52 m d).sig * 2 ^ (range d 52 m h k).place) (2 ^ 1074)

@@ -122,7 +122,7 @@ module _ (F : Format) (w t : ℕ) (P : prec F ≡ t + 1) (E : emax F ≡ bias w)
   mul_is x y = mul-product F x y ∙ ap (λ (p : ℕ). product p (emax F) x y) P ∙ ap (λ (m : ℕ). product (t + 1) m x y) E
 
   -- one number of units, written in two ways
-  pub delivered-same : (s : Bool) (q k r j : ℕ) → q ≤ 2 ^ (t + 1) → r ≤ 2 ^ (t + 1) → q * 2 ^ k ≡ r * 2 ^ j
+  delivered-same : (s : Bool) (q k r j : ℕ) → q ≤ 2 ^ (t + 1) → r ≤ 2 ^ (t + 1) → q * 2 ^ k ≡ r * 2 ^ j
       → delivered (t + 1) (bias w) s q k ≡ delivered (t + 1) (bias w) s r j
   delivered-same s q k r j a b e =
       delivered-units s q k

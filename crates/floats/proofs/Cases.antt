@@ -8,8 +8,8 @@ use Rattle.floats.specs.Product.{product, product_of}
 use Rattle.floats.specs.Rounding.{delivered}
 use Rattle.floats.specs.Factor.{times}
 use Rattle.floats.specs.Fields.{value_of, of_parts, bad_bits, factor_of}
-use Rattle.floats.specs.Splitting.{bad_in, factor_in, split_in}
-use Rattle.floats.specs.Cases.{SplittingTable, SplittingTable32}
+use Rattle.floats.specs.Splitting.{is_bad, rate_factor, split}
+use Rattle.floats.specs.Cases.{SplittingTable}
 
 -- 1.5 × -1.5 is -2.25, exactly
 exact-product : product_of 11 52 (fin false 3 (negsuc 0)) (fin true 3 (negsuc 0)) ≡ fin true 9 (negsuc 1)
@@ -75,9 +75,5 @@ rounds-up = refl
 
 -- splitting
 pub splitting-table : SplittingTable
-unfolding split_in factor_in factor_of bad_in bad_bits value_of of_parts delivered size odd to_bits
+unfolding split rate_factor factor_of is_bad bad_bits value_of of_parts delivered size odd to_bits
 splitting-table = ((refl, refl, refl), (refl, refl, refl, refl, refl, refl, refl), (refl, refl, refl, refl, refl, refl))
-
-pub splitting-table-32 : SplittingTable32
-unfolding split_in factor_in factor_of bad_in bad_bits value_of of_parts delivered size odd to_bits
-splitting-table-32 = ((refl, refl, refl, refl), (refl, refl, refl, refl, refl, refl, refl), (refl, refl, refl, refl, refl, refl))

@@ -29,8 +29,8 @@ module _ (w t : ℕ) (s : Bool) (E T' : ℕ) (e : E < 2 ^ w) (f : T' < 2 ^ t) wh
   body : E * 2 ^ t + T' < 2 ^ (w + t)
   body = lt_of_lt_of_le (digits_lt e f) (le_of_eq (sym (pow-add 2 w t)))
 
-  pub sign_is : sign_field w t (pattern w t s E T') ≡ s
-  sign_is = go s
+  pub sign-is : sign_field w t (pattern w t s E T') ≡ s
+  sign-is = go s
     where
       go : (s : Bool) → leb (2 ^ (w + t)) (cond s (2 ^ (w + t)) 0 + E * 2 ^ t + T') ≡ s
       go true = le-leb (2 ^ (w + t)) (2 ^ (w + t) + E * 2 ^ t + T') (omega arith)
@@ -47,8 +47,8 @@ module _ (w t : ℕ) (s : Bool) (E T' : ℕ) (e : E < 2 ^ w) (f : T' < 2 ^ t) wh
       go true = omega (arith, pow-add 2 w t)
       go false = omega arith
 
-  pub exp_is : exp_field w t (pattern w t s E T') ≡ E
-  exp_is = ap (λ (x : ℕ). x / 2 ^ t % 2 ^ w) pattern-high ∙ ap (λ (x : ℕ). x % 2 ^ w) (digits_div (cond s 1 0 * 2 ^ w + E) f) ∙ digits_mod (cond s 1 0) e
+  pub exp-is : exp_field w t (pattern w t s E T') ≡ E
+  exp-is = ap (λ (x : ℕ). x / 2 ^ t % 2 ^ w) pattern-high ∙ ap (λ (x : ℕ). x % 2 ^ w) (digits_div (cond s 1 0 * 2 ^ w + E) f) ∙ digits_mod (cond s 1 0) e
 
   pub fraction-is : fraction t (pattern w t s E T') ≡ T'
   fraction-is = ap (λ (x : ℕ). x % 2 ^ t) pattern-high ∙ digits_mod (cond s 1 0 * 2 ^ w + E) f
@@ -66,21 +66,16 @@ fraction-lt t b = mod-lt b (pow_pos t)
 pub field_lt : (w t b : ℕ) → exp_field w t b < 2 ^ w
 field_lt w t b = mod-lt (b / 2 ^ t) (pow_pos w)
 
--- the value of a pattern, by its fields
-pub pattern-parts : (w t : ℕ) (s : Bool) (x T' : ℕ) → x < 2 ^ w → T' < 2 ^ t → value_of w t (pattern w t s x T') ≡ of_parts w t s x T'
-unfolding value_of
-pattern-parts w t s x T' h k =
-    ap (λ (q : Bool). of_parts w t q (exp_field w t (pattern w t s x T')) (fraction t (pattern w t s x T'))) (sign-is w t s x T' h k)
-    ∙ ap (λ (q : ℕ). of_parts w t s q (fraction t (pattern w t s x T'))) (exp-is w t s x T' h k)
-    ∙ ap (λ (q : ℕ). of_parts w t s x q) (fraction-is w t s x T' h k)
-
--- and of one whose exponent field suc r is not all ones
+-- the value of a pattern whose exponent field suc r is not all ones
 pub pattern-value : (w t : ℕ) (s : Bool) (r T' : ℕ) → suc r < 2 ^ w - 1 → T' < 2 ^ t
     → value_of w t (pattern w t s (suc r) T') ≡ delivered (t + 1) (bias w) s (2 ^ t + T') r
-unfolding of_parts
+unfolding value_of of_parts
 pattern-value w t s r T' h k =
     let x = suc r in
-    pattern-parts w t s x T' (omega arith) k
+    let H : x < 2 ^ w = omega arith in
+    ap (λ (q : Bool). of_parts w t q (exp_field w t (pattern w t s x T')) (fraction t (pattern w t s x T'))) (sign-is w t s x T' H k)
+    ∙ ap (λ (q : ℕ). of_parts w t s q (fraction t (pattern w t s x T'))) (exp-is w t s x T' H k)
+    ∙ ap (λ (q : ℕ). of_parts w t s x q) (fraction-is w t s x T' H k)
     ∙ ap (λ (q : Bool). cond q (cond (eqb T' 0) (inf s) nan) (delivered (t + 1) (bias w) s (2 ^ t + T') r)) (ne_eqb x (2 ^ w - 1) (ne_of_lt h))
 
 -- ---- the value of a pattern is the kit's, at each of its formats

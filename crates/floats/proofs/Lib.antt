@@ -13,12 +13,10 @@ pub mod Subnormal
 pub mod Fields
 pub mod PatternFactor
 pub mod Masks
-pub mod Patterns
-pub mod AnyFormat
 pub mod Splitting
-pub mod Widening
 pub mod Ordinary
 pub mod Moving
 pub mod Wholes
 pub mod Cases
 pub mod Theorems
+pub mod Patterns

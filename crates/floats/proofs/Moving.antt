@@ -15,7 +15,7 @@ use mir.Val.{SFits, to_z, of_z}
 use mir.ValLaws.{to_z_pos, to_z-of_z}
 use borrow.Author.Tests.{eq-eqb, ne_eqb, eqb-true, eqb-false, le-leb, lt-leb, lt-ltb, le-ltb, leb-true, leb-false}
 use Rattle.integers.proofs.Difference.{ints, atoms}
-use Rattle.floats.specs.Splitting.{bad_in, bits_of, is_bad}
+use Rattle.floats.specs.Splitting.{bits_of, is_bad}
 use Rattle.floats.specs.InnerKinds.{is_subnormal}
 use Rattle.floats.specs.Fields.{sign_field, exp_field, fraction, pattern, bad_bits, subnormal_bits, moved_places}
 use Rattle.floats.proofs.Fields.{fraction-lt, field_lt}
@@ -198,9 +198,9 @@ unfolding is_subnormal
 subnormal-is x = subnormal-test (bits_of x)
 
 pub bad-nan : (x : Float) → x ≡ nan → true ≡ is_bad x
-unfolding bad_in bad_bits to_bits
+unfolding is_bad bad_bits to_bits
 bad-nan x h = ap is_bad (sym h)
 
 pub bad-is : (x : Float) → (eqb (low (bits_of x)) 0 || leb 0x7ff0000000000000 (low (bits_of x))) ≡ is_bad x
-unfolding bad_in
+unfolding is_bad
 bad-is x = bad-test (bits_of x)

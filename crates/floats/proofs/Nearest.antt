@@ -5,7 +5,7 @@ use mathlib.Core.Bool.{not}
 use Prim.Native.Nat.{ℕ, zero, suc, ◌+◌, ◌-◌, ◌*◌, ◌/◌, ◌%◌, ◌^◌, ◌≤◌, ◌<◌, max, compare, Ordering}
 use native.Mathlib.Nat.{le_of_suc-le-suc, ne_of_lt, mod-lt, add-mul, suc-mul, div-add-mod', le_trans, le_of_eq, le_of_lt, le_antisymm, lt_of_lt_of_le}
 use native.Mathlib.Nat.{lt_of_not-le, not-le_of_lt, mul-one, one-mul, mul_comm, mul_assoc, mul-pos, mul-le-mul_right, mul-lt-mul_of_pos_right, div-one, mod-one}
-use native.Mathlib.Nat.{le-div_iff_mul-le, div-lt_iff_lt-mul, two-pow-succ, mod-eq_of_lt, div-eq_of_lt}
+use native.Mathlib.Nat.{le-div_iff_mul-le, div-lt_iff_lt-mul}
 use native.Mathlib.Omega.{arith}
 use lib.Dec.{T, eqb, is_le, compare_is_eq, leb→le, nleb→lt, eqb→eq, eqb_refl}
 use lib.Arith.{lt_of_le-ne}
@@ -34,24 +34,13 @@ cmp a b = go (compare a b) (leb→le a b) (nleb→lt a b) (eqb→eq a b) (λ (e 
 suc-is : (q : ℕ) → q + 1 ≡ suc q
 suc-is q = omega arith
 
--- by how twice the rest compares with b
-module _ (a b : ℕ) where
-  pub ties-down : a % b * 2 < b → ties_to_even a b ≡ a / b
-  ties-down h = rw (lt-ltb (a % b * 2) b h)
-
-  pub ties-half : a % b * 2 ≡ b → ties_to_even a b ≡ a / b + a / b % 2
-  ties-half h = rw (le-ltb (a % b * 2) b (le_of_eq (sym h)), le-ltb b (a % b * 2) (le_of_eq h))
-
-  pub ties-up : b < a % b * 2 → ties_to_even a b ≡ a / b + 1
-  ties-up h = rw (le-ltb (a % b * 2) b (le_of_lt h), lt-ltb b (a % b * 2) h)
-
-  pub ties-is : ties_to_even a b ≡ closest a b
-  ties-is = go (compare (a % b * 2) b) (cmp (a % b * 2) b)
-    where
-      go : (o : Ordering) → Cmp o (a % b * 2) b → ties_to_even a b ≡ nearest (a / b) o
-      go Ordering.lt h = ties-down h
-      go Ordering.eq h = ties-half h
-      go Ordering.gt h = ties-up h ∙ suc-is (a / b)
+pub ties-is : (a b : ℕ) → ties_to_even a b ≡ closest a b
+ties-is a b = go (compare (a % b * 2) b) (cmp (a % b * 2) b)
+  where
+    go : (o : Ordering) → Cmp o (a % b * 2) b → ties_to_even a b ≡ nearest (a / b) o
+    go Ordering.lt h = rw (lt-ltb (a % b * 2) b h)
+    go Ordering.eq h = rw (le-ltb (a % b * 2) b (le_of_eq (sym h)), le-ltb b (a % b * 2) (le_of_eq h))
+    go Ordering.gt h = rw (le-ltb (a % b * 2) b (le_of_lt h), lt-ltb b (a % b * 2) h) (suc-is (a / b))
 
 -- ---- whole quotients
 pub closest-one : (a : ℕ) → closest a 1 ≡ a
@@ -59,16 +48,6 @@ closest-one a = rw (div-one a, mod-one a)
 
 pub closest-exact : (a u : ℕ) → 0 < u → closest (a * u) u ≡ a
 closest-exact a u U = closest_same (a * u) u a 1 U (pow_pos 0) (mul-one (a * u)) ∙ closest-one a
-
--- less than half of 2^n is none
-pub ties-none : (p a n : ℕ) → a < 2 ^ p → p < n → ties_to_even a (2 ^ n) ≡ 0
-ties-none p a n h l =
-    let b = 2 ^ n in
-    let big : 2 ^ suc p ≤ b = pow_mono l in
-    let two = two-pow-succ p in
-    let small : a < b = omega arith in
-    let rest : a % b ≡ a = mod-eq_of_lt small in
-    ties-down a b (omega arith) ∙ div-eq_of_lt small
 
 -- ---- it is nearest: within half of b, and at a tie even
 module _ (a b : ℕ) (B : 0 < b) where

@@ -15,7 +15,7 @@ use Rattle.laws.proofs.Tests.{and_both}
 use Rattle.floats.specs.declared.Split.{Split}
 use Rattle.floats.specs.Fields.{sign_field, exp_field, fraction, of_parts, bad_bits, subnormal_bits}
 use Rattle.floats.specs.Rounding.{delivered}
-use Rattle.floats.specs.Splitting.{bad_in, bits_of, is_bad, split}
+use Rattle.floats.specs.Splitting.{bits_of, is_bad, split}
 use Rattle.floats.specs.InnerKinds.{is_subnormal, ZERO, is_ordinary}
 use Rattle.floats.proofs.PatternFactor.{normal-other}
 use Rattle.floats.proofs.Unique.{pattern-of, bits_are}
@@ -65,7 +65,7 @@ zero-ordinary = zero-law (λ (b : ℕ). (not (subnormal_bits 11 52 b) && not (eq
     by_sign false = refl
 
 zero-bad : (x : Float) → eq x ZERO ≡ true → is_bad x ≡ true
-unfolding bad_in bad_bits pattern-of size
+unfolding is_bad bad_bits pattern-of size
 zero-bad = zero-law (λ (b : ℕ). bad_bits 11 52 b ≡ true) by_sign
   where
     by_sign : (s : Bool) → bad_bits 11 52 (pattern-of binary64 s 0) ≡ true
@@ -85,7 +85,7 @@ module _ (x : Float) (f : T (fits binary64 x)) (h : is_ordinary x ≡ true) wher
   apart = let b = and_both (not (is_subnormal x)) (not (eqb E 2047)) h in (not-true (is_subnormal x) b.0, not-true (eqb E 2047) b.1)
 
   marked-zero : is_bad x ≡ true → eq x ZERO ≡ true
-  unfolding bad_in bad_bits eq of_parts delivered odd
+  unfolding is_bad bad_bits eq of_parts delivered odd
   marked-zero e = go (and_both (eqb E 0) (eqb F 0) (sym (or-false (eqb E 0 && eqb F 0)) ∙ ap (λ (q : Bool). (eqb E 0 && eqb F 0) || q) (sym apart.1) ∙ e))
     where
       at : (s : Bool) → eq (of_parts 11 52 s 0 0) ZERO ≡ true

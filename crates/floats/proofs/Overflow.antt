@@ -18,7 +18,7 @@ use Rattle.floats.proofs.Factor.{times-normal}
 use Rattle.floats.proofs.Bridge.{float_of-is, mul_is, mul-times}
 
 -- ---- `delivered`, from the overflow on
-pub delivered-over : (p em : ℕ) (s : Bool) (n j : ℕ) → 2 ^ (unit_places p em + suc em) ≤ n * 2 ^ j → delivered p em s n j ≡ inf s
+delivered-over : (p em : ℕ) (s : Bool) (n j : ℕ) → 2 ^ (unit_places p em + suc em) ≤ n * 2 ^ j → delivered p em s n j ≡ inf s
 unfolding delivered
 delivered-over p em s n j h = ap (λ (t : Bool). cond t (odd (suc p) s n j (unit_places p em)) (inf s)) (le-ltb (n * 2 ^ j) (2 ^ (unit_places p em + suc em)) h)
 

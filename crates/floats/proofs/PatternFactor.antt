@@ -174,9 +174,9 @@ module _ (w t b : ℕ) (W : 1 < w) where
           let g = least (bias w) (moved_places t (fraction t b)) (ap (λ (f : Factor). le_z (negsuc k) f.exp) (sym (factor-subnormal w t b q)) ∙ l) in
           omega (arith, m, g)
 
-  -- no exponent is further from 0 than those of the least positive number and of infinity
-  pub factor-size : (n : ℕ) → unit_places (t + 1) (bias w) ≤ n → suc (bias w) ≤ n → nat_abs (factor_of w t b).exp ≤ n
-  factor-size n least last = go (subnormal_bits w t b) refl
+  -- no exponent is further from 0 than that of the least positive number
+  pub factor-size : 1 < t → nat_abs (factor_of w t b).exp ≤ unit_places (t + 1) (bias w)
+  factor-size two = go (subnormal_bits w t b) refl
     where
       -- a - c, of either sign
       apart : (a c n : ℕ) → a ≤ c + n → c ≤ a + n → nat_abs (pos a -ℤ pos c) ≤ n
@@ -187,14 +187,14 @@ module _ (w t b : ℕ) (W : 1 < w) where
           away true e = let l : a < suc c = ltb-true a (suc c) e in omega arith
           away false e = omega arith
 
-      go : (q : Bool) → subnormal_bits w t b ≡ q → nat_abs (factor_of w t b).exp ≤ n
+      go : (q : Bool) → subnormal_bits w t b ≡ q → nat_abs (factor_of w t b).exp ≤ unit_places (t + 1) (bias w)
       go true h =
           let m = moved-few t (fraction t b) (subnormal-some w t b h).1 (fraction-lt t b) in
-          subst (λ (f : Factor). nat_abs f.exp ≤ n) (sym (factor-subnormal w t b h))
-          (apart 1 (bias w + moved_places t (fraction t b)) n (omega arith) (omega (arith, m)))
+          subst (λ (f : Factor). nat_abs f.exp ≤ unit_places (t + 1) (bias w)) (sym (factor-subnormal w t b h))
+          (apart 1 (bias w + moved_places t (fraction t b)) (unit_places (t + 1) (bias w)) (omega arith) (omega (arith, m)))
       go false h =
-          subst (λ (f : Factor). nat_abs f.exp ≤ n) (sym (factor-other w t b h))
-          (apart (exp_field w t b) (bias w) n (omega (arith, field_lt w t b, bias-next w (omega arith))) (omega arith))
+          subst (λ (f : Factor). nat_abs f.exp ≤ unit_places (t + 1) (bias w)) (sym (factor-other w t b h))
+          (apart (exp_field w t b) (bias w) (unit_places (t + 1) (bias w)) (omega (arith, field_lt w t b, bias-next w (omega arith))) (omega arith))
 
   -- the factor of a pattern that is not bad has the pattern's value
   pub factor-value : bad_bits w t b ≡ false → float_of w t (factor_of w t b) ≡ value_of w t b

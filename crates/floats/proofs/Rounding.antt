@@ -52,7 +52,7 @@ kept-fraction p n den =
     le_trans (nearest-le (n / u) (compare (n % u * 2) u)) (subst (λ (x : ℕ). x < 2 ^ p) (div-div-eq-div-mul n den (2 ^ k)) (kept-lt p (n / den)))
 
 -- ---- a whole number c × 2^j of units: all of c's digits are kept, or the leading p
-pub few-or-many : (z p : ℕ) → (z < p) ⊎ (p ≤ z)
+few-or-many : (z p : ℕ) → (z < p) ⊎ (p ≤ z)
 few-or-many z p = go (ltb z p) refl
   where
     go : (b : Bool) → ltb z p ≡ b → (z < p) ⊎ (p ≤ z)

@@ -1,4 +1,5 @@
--- Laws of splitting, those of any format at f64, and what the code works out: a rate that is not bad is the float of its factor. Assumes nothing.
+-- Laws of splitting: |m| is in [1, 2) always; a rate that is not bad is the float of its factor, whose exponent is e and whose sign and significand are m's.
+-- Assumes nothing.
 use mathlib.Core.Path.{◌≡◌, refl, sym, ap, ◌∙◌, subst}
 use mathlib.Core.Bool.{Bool, true, false, not, cond, ◌&&◌, ◌||◌, true≢false}
 use Prim.Native.Nat.{ℕ, suc, ◌+◌, ◌-◌, ◌*◌, ◌/◌, ◌%◌, ◌^◌, ◌≤◌, ◌<◌}
@@ -9,10 +10,9 @@ use lib.Dec.{T, ltb, eqb, lit<, lit≤}
 use lib.Signed.{mag, le_z}
 use lib.Pow.{field}
 use lib.Bits.{bit_and, bit_or}
-use lib.Ieee.{Float, nan, inf, fin, binary32, binary64, fits, is_nan, ne, to_bits, of_bits, nan_bits}
+use lib.Ieee.{Float, nan, inf, fin, binary64, fits, is_nan, ne, to_bits, of_bits, nan_bits}
 use lib.Ieee.Compare.{nan_differs}
-use lib.Ieee.Fits.{nan-fits}
-use lib.Ieee.Bits.{to_bits-lt}
+use lib.Ieee.Bits.{to_bits-lt, of_bits-to_bits}
 use mir.Syntax.{w64}
 use mir.Val.{SFits, to_z, of_z}
 use mir.ValLaws.{to_z_pos, to_z-of_z}
@@ -22,8 +22,7 @@ use Rattle.floats.specs.Rounding.{delivered}
 use Rattle.floats.specs.Factor.{Factor, Normalised, NormalExponent, float_of}
 use Rattle.floats.specs.Fields.{sign_field, exp_field, fraction, pattern, of_parts, value_of, moved_places, factor_of}
 use Rattle.floats.specs.Magnitude.{in_unit, factor_at, with_exponent}
-use Rattle.floats.specs.Formats.{f64_format, f32_format, Lawful}
-use Rattle.floats.specs.Splitting.{bad_in, factor_in, split_in, bits_of, is_bad, rate_factor, split}
+use Rattle.floats.specs.Splitting.{bits_of, is_bad, rate_factor, split}
 use Rattle.floats.specs.InnerKinds.{is_subnormal}
 use Rattle.floats.proofs.PatternFactor.{NormalField, factor-subnormal, factor-other, subnormal-good, normal-good, high-normal, factor-size}
 use Rattle.floats.proofs.Fields.{value-is, pattern-value, exp-is, field_lt}
@@ -32,99 +31,87 @@ use Rattle.floats.proofs.Fields.{fraction-lt}
 use Rattle.floats.proofs.Bridge.{float_of-is}
 use Rattle.floats.proofs.Magnitude.{moved-normal, unit-float, factor-at-float}
 use Rattle.floats.proofs.Masks.{masked-field, masked-set}
-use Rattle.floats.proofs.AnyFormat.{farthest, kit-value, widened_same, factor-in-normal, factor-in-size, split-in-m, split-in-unit, split-in-factor, split-in-e}
-use Rattle.floats.proofs.AnyFormat.{split-in-bad}
 
 pub nan-bits : bits_of nan ≡ 0x7FF8000000000000
 unfolding to_bits
 nan-bits = refl
 
--- ---- the laws of any format, at f64
-pub f64-lawful : Lawful f64_format
-f64-lawful = record {
-  least_w = lit≤ tt;
-  most_w = lit≤ tt;
-  least_t = lit≤ tt;
-  most_t = lit≤ tt;
-  value = λ x f. kit-value binary64 11 52 refl refl (lit< tt) (lit< tt) x f;
-  has_nan = nan-fits binary64;
-  some = lit≤ tt;
-  some_bound = lit≤ tt;
-  room = lit≤ tt;
-}
-
-pub f32-lawful : Lawful f32_format
-f32-lawful = record {
-  least_w = lit≤ tt;
-  most_w = lit≤ tt;
-  least_t = lit≤ tt;
-  most_t = lit≤ tt;
-  value = λ x f. kit-value binary32 8 23 refl refl (lit< tt) (lit< tt) x f;
-  has_nan = nan-fits binary32;
-  some = lit≤ tt;
-  some_bound = lit≤ tt;
-  room = lit≤ tt;
-}
-
 pub rate-normal : (x : Float) → Normalised 52 (rate_factor x)
-rate-normal = factor-in-normal f64_format f64-lawful
-
-pub rate-size : (x : Float) → nat_abs (rate_factor x).exp ≤ farthest
-rate-size = factor-in-size f64_format f64-lawful
-
-pub split-m : (x : Float) → (split x).m ≡ float_of 11 52 (with_exponent (rate_factor x) (pos 0))
-split-m = split-in-m f64_format f64-lawful
-
-pub split-unit : (x : Float) → in_unit (split x).m ≡ true
-split-unit = split-in-unit f64_format f64-lawful
-
-pub split-factor : (x : Float) → factor_at 52 (split x).m (split x).e ≡ rate_factor x
-split-factor = split-in-factor f64_format f64-lawful
-
-pub split-e : (x : Float) → (split x).e ≡ (rate_factor x).exp
-split-e = split-in-e f64_format
-
-pub split-bad : (x : Float) → (split x).bad ≡ is_bad x
-split-bad = split-in-bad f64_format
-
--- ---- f64's own: a fraction of 52 bits is wide already
-pub rate-is-factor : (x : Float) → rate_factor x ≡ factor_of 11 52 (bits_of x)
-unfolding factor_in
-rate-is-factor x = widened_same (factor_of 11 52 (bits_of x))
+unfolding rate_factor
+rate-normal x = factor-normal 11 52 (bits_of x)
 
 -- the pattern of a normal number
 abbrev pub Normal : Float → Type 0
 Normal x = NormalField 11 52 (bits_of x)
 
 pub rate-range : (x : Float) → Normal x → NormalExponent 11 (rate_factor x)
-rate-range x n = subst (NormalExponent 11) (sym (rate-is-factor x)) (factor-range 11 52 (bits_of x) (lit< tt) n)
+unfolding rate_factor
+rate-range x n = factor-range 11 52 (bits_of x) (lit< tt) n
 
 -- a rate that is not bad, and from 2^-(k + 1) on
 pub high-rate : (k : ℕ) (x : Float) → k ≤ 1021 → is_bad x ≡ false → le_z (negsuc k) (rate_factor x).exp ≡ true → Normal x
-unfolding factor_in bad_in
+unfolding rate_factor is_bad
 high-rate k x few h l = high-normal 11 52 (bits_of x) (lit< tt) k (let g : suc k < 1023 = omega arith in g) h l
+
+-- the exponent of the least positive number, 2^-1074: no rate's is further from 0
+abbrev pub farthest : ℕ
+farthest = 1074
+
+pub rate-size : (x : Float) → nat_abs (rate_factor x).exp ≤ farthest
+unfolding rate_factor
+rate-size x = factor-size 11 52 (bits_of x) (lit< tt) (lit< tt)
 
 -- the rate by the fields of its pattern
 pub rate-parts : (x : Float) → T (fits binary64 x) → x ≡ of_parts 11 52 (sign_field 11 52 (bits_of x)) (exp_field 11 52 (bits_of x)) (fraction 52 (bits_of x))
 unfolding value_of
-rate-parts x f = sym (f64-lawful.value x f)
+rate-parts x f = sym (of_bits-to_bits binary64 x f) ∙ value-is binary64 11 52 refl refl (lit< tt) (bits_of x) (lit< tt)
 
 -- the rate is the float of its factor
 pub rate-float : (x : Float) → T (fits binary64 x) → is_bad x ≡ false → float_of 11 52 (rate_factor x) ≡ x
-unfolding bad_in
-rate-float x f h = ap (float_of 11 52) (rate-is-factor x) ∙ float-of-factor binary64 11 52 refl refl (lit< tt) x (lit< tt) (lit< tt) f h
+unfolding rate_factor is_bad
+rate-float x f h = float-of-factor binary64 11 52 refl refl (lit< tt) x (lit< tt) (lit< tt) f h
 
 -- and back: the float of a normal factor is not bad, and its factor is that one
 pub float-rate : (f : Factor) → Normalised 52 f → NormalExponent 11 f → rate_factor (float_of 11 52 f) ≡ f
-float-rate f N R = rate-is-factor (float_of 11 52 f) ∙ factor-of-float binary64 11 52 refl refl (lit< tt) f N R
+unfolding rate_factor
+float-rate f N R = factor-of-float binary64 11 52 refl refl (lit< tt) f N R
 
 pub float_good : (f : Factor) → Normalised 52 f → NormalExponent 11 f → is_bad (float_of 11 52 f) ≡ false
-unfolding bad_in
+unfolding is_bad
 float_good f N R = normal-good 11 52 (bits_of (float_of 11 52 f)) (float-normal binary64 11 52 refl refl (lit< tt) f N R)
 
 pub float-other : (f : Factor) → Normalised 52 f → NormalExponent 11 f → is_subnormal (float_of 11 52 f) ≡ false
 unfolding is_subnormal
 float-other f N R = normal-other 11 52 (bits_of (float_of 11 52 f)) (float-normal binary64 11 52 refl refl (lit< tt) f N R)
+
+-- m is the float of the rate's sign and significand, at the exponent 0
+pub split-m : (x : Float) → (split x).m ≡ float_of 11 52 (with_exponent (rate_factor x) (pos 0))
+unfolding split
+split-m x =
+    let f = rate_factor x in
+    let N = rate-normal x in
+    pattern-value 11 52 f.sign 1022 (f.sig - 2 ^ 52) (lit< tt) (let l = N.least in let h = N.most in omega arith)
+    ∙ ap (λ (q : ℕ). delivered 53 1023 f.sign q 1022) (let l = N.least in let e : 2 ^ 52 + (f.sig - 2 ^ 52) ≡ f.sig = omega arith in e)
+    ∙ sym (float_of-is 11 52 (with_exponent f (pos 0)) 1022 (moved-normal 52 f (pos 0) N) refl)
+
+-- |m| is in [1, 2), whatever the rate
+pub split-unit : (x : Float) → in_unit (split x).m ≡ true
+split-unit x = ap in_unit (split-m x) ∙ unit-float binary64 11 52 refl refl (lit< tt) (rate_factor x) (rate-normal x)
+
+-- m and e are the rate's factor
+pub split-factor : (x : Float) → factor_at 52 (split x).m (split x).e ≡ rate_factor x
+unfolding split
+split-factor x =
+    let e = (split x).e in
+    ap (λ (m : Float). factor_at 52 m e) (split-m x) ∙ factor-at-float binary64 11 52 refl refl (lit< tt) (rate_factor x) e (rate-normal x)
+
+pub split-e : (x : Float) → (split x).e ≡ (rate_factor x).exp
+unfolding factor_at
+split-e x = ap (λ (f : Factor). f.exp) (split-factor x)
+
+pub split-bad : (x : Float) → (split x).bad ≡ is_bad x
+unfolding split
+split-bad x = refl
 
 -- ---- what the code works out, from the bits b of a rate
 pub bits-lt : (x : Float) → T (fits binary64 x) → bits_of x < 2 ^ (11 + 52) * 2
@@ -195,7 +182,7 @@ module _ (x : Float) (m : Float) (e : ℤ) where
   -- what is split, by its factor
   by-factor : (g : Factor) (q : Bool) → rate_factor x ≡ g → m ≡ value_of 11 52 (pattern 11 52 g.sign 1023 (g.sig - 2 ^ 52)) → e ≡ g.exp → q ≡ is_bad x
       → ◌≡◌ {A = Split} (record { m = m; e = e; bad = q }) (split x)
-  unfolding split_in
+  unfolding split
   by-factor g q h p r z =
       split-same m (split x).m e (split x).e q (is_bad x)
       (p ∙ ap (λ (f : Factor). value_of 11 52 (pattern 11 52 f.sign 1023 (f.sig - 2 ^ 52))) (sym h)) (r ∙ ap (λ (f : Factor). f.exp) (sym h)) z
@@ -205,7 +192,7 @@ module _ (x : Float) (m : Float) (e : ℤ) where
       → m ≡ value_of 11 52 (pattern 11 52 (sign_field 11 52 b) 1023 (fraction 52 b * 2 ^ moved_places 52 (fraction 52 b) - 2 ^ 52))
       → e ≡ pos 1 -ℤ pos (1023 + moved_places 52 (fraction 52 b))
       → ◌≡◌ {A = Split} (record { m = m; e = e; bad = false }) (split x)
-  unfolding is_subnormal bad_in
+  unfolding is_subnormal rate_factor is_bad
   subnormal-split h p r =
       by-factor
       (record {
@@ -213,14 +200,14 @@ module _ (x : Float) (m : Float) (e : ℤ) where
         sig = fraction 52 b * 2 ^ moved_places 52 (fraction 52 b);
         exp = pos 1 -ℤ pos (1023 + moved_places 52 (fraction 52 b));
       })
-      false (rate-is-factor x ∙ factor-subnormal 11 52 b h) p r (sym (subnormal-good 11 52 b (lit< tt) h))
+      false (factor-subnormal 11 52 b h) p r (sym (subnormal-good 11 52 b (lit< tt) h))
 
   -- any other, by its fields
   pub other-split : (q : Bool) → is_subnormal x ≡ false → m ≡ value_of 11 52 (pattern 11 52 (sign_field 11 52 b) 1023 (fraction 52 b))
       → e ≡ pos (exp_field 11 52 b) -ℤ pos 1023 → q ≡ is_bad x → ◌≡◌ {A = Split} (record { m = m; e = e; bad = q }) (split x)
-  unfolding is_subnormal
+  unfolding is_subnormal rate_factor
   other-split q h p r z =
-      by-factor (record { sign = sign_field 11 52 b; sig = 2 ^ 52 + fraction 52 b; exp = pos (exp_field 11 52 b) -ℤ pos 1023 }) q (rate-is-factor x ∙ factor-other 11 52 b h)
+      by-factor (record { sign = sign_field 11 52 b; sig = 2 ^ 52 + fraction 52 b; exp = pos (exp_field 11 52 b) -ℤ pos 1023 }) q (factor-other 11 52 b h)
       (p ∙ ap (λ (T' : ℕ). value_of 11 52 (pattern 11 52 (sign_field 11 52 b) 1023 T')) (unled (fraction 52 b))) r z
     where
       unled : (y : ℕ) → y ≡ 2 ^ 52 + y - 2 ^ 52
@@ -235,7 +222,7 @@ split-is x f q s h =
 
 -- the mark, by the two ways of the code's test: the field 0 is a zero's, since it is no subnormal's here
 pub bad-zero : (x : Float) → is_subnormal x ≡ false → raw (bits_of x) ≡ 0 → eqb (raw (bits_of x)) 0 ≡ is_bad x
-unfolding bad_in is_subnormal
+unfolding is_bad is_subnormal
 bad-zero x s h =
     let F = exp_field 11 52 (bits_of x) in
     let z = eq-eqb F 0 (sym (raw-is (bits_of x)) ∙ h) in
@@ -245,7 +232,7 @@ bad-zero x s h =
     ∙ ap (λ (t : Bool). t || eqb F 2047) (not-false n (ap (λ (t : Bool). t && not n) (sym z) ∙ s)))
 
 pub bad-other : (x : Float) → (raw (bits_of x) ≡ 0 → ⊥) → eqb (raw (bits_of x)) 2047 ≡ is_bad x
-unfolding bad_in
+unfolding is_bad
 bad-other x h =
     let F = exp_field 11 52 (bits_of x) in
     ap (λ (y : ℕ). eqb y 2047) (raw-is (bits_of x))
@@ -253,7 +240,7 @@ bad-other x h =
 
 -- the NaN
 pub split-nan : (x : Float) → x ≡ nan → ◌≡◌ {A = Split} (record { m = of_bits binary64 0x3ff8000000000000; e = pos 1024; bad = true }) (split x)
-unfolding split_in factor_in factor_of to_bits of_bits value_of bad_in
+unfolding split rate_factor factor_of to_bits of_bits value_of is_bad
 split-nan x h = subst (λ (y : Float). ◌≡◌ {A = Split} (record { m = of_bits binary64 0x3ff8000000000000; e = pos 1024; bad = true }) (split y)) (sym h) refl
 
 pub subnormal-number : (x : Float) → is_subnormal x ≡ true → T (not (is_nan x))

@@ -9,10 +9,6 @@ pub record Factor : Type 0 where
   pub sig : ℕ
   pub exp : ℤ
 
--- the factor of a fraction of t bits with its fraction widened to 52: the same number, S × 2^(52 - t) having 53 digits
-abbrev pub widened : ℕ → Factor → Factor
-widened t f = record { sign = f.sign; sig = f.sig * 2 ^ (52 - t); exp = f.exp }
-
 -- plus, 2^t, 0
 abbrev pub unit : ℕ → Factor
 unit t = record { sign = false; sig = 2 ^ t; exp = pos 0 }

@@ -1,13 +1,12 @@
 -- What is proved about the numbers, each statement as a type that a proof inhabits (proofs/Theorems).
-use Rattle.std.specs.Prelude.{◌≡◌, ℕ, ◌<◌, true, false, T, Float}
+use Rattle.std.specs.Prelude.{◌≡◌, ℕ, ◌<◌, true, false, Float}
 use Rattle.std.specs.Float.{binary64}
-use Rattle.std.specs.Float.Ieee.{fits, mul}
+use Rattle.std.specs.Float.Ieee.{mul}
 use Rattle.floats.specs.Product.{product_of}
 use Rattle.floats.specs.Factor.{Factor, Normalised, NormalExponent, times, float_of}
 use Rattle.floats.specs.Fields.{value_of, bad_bits, factor_of}
 use Rattle.floats.specs.Magnitude.{in_unit, factor_at}
-use Rattle.floats.specs.Formats.{RateFormat, f64_format, f32_format, Lawful}
-use Rattle.floats.specs.Splitting.{bad_in, factor_in, split_in, is_bad, rate_factor}
+use Rattle.floats.specs.Splitting.{rate_factor, split}
 
 -- Rule D2, the product law: for all values the language's f64 product (`mul`) is the product of IEEE 754-2019.
 abbrev pub ProductLaw : Type 0
@@ -23,17 +22,6 @@ WholeNumberLaw =
 abbrev pub FactorLaw : Type 0
 FactorLaw = (w t b : ℕ) → 1 < w → bad_bits w t b ≡ false → float_of w t (factor_of w t b) ≡ value_of w t b
 
--- Rule A2: split, every rate of every lawful format has 1 <= |m| < 2, and m and e are its factor.
+-- Rule A2: split, every rate has 1 <= |m| < 2, and m and e are its factor.
 abbrev pub SplittingLaw : Type 0
-SplittingLaw =
-    (F : RateFormat) → Lawful F → (x : Float) → (in_unit (split_in F x).m ≡ true) × (factor_at 52 (split_in F x).m (split_in F x).e ≡ factor_in F x)
-
--- Rule A7: a value of a lawful format is a value of binary64, bad there exactly if it is bad here, and if it is not it has one factor.
-abbrev pub WideningLaw : Type 0
-WideningLaw =
-    (F : RateFormat) → Lawful F → (x : Float) → T (F.holds x)
-    → T (fits binary64 x) × (bad_in F x ≡ is_bad x) × (bad_in F x ≡ false → factor_in F x ≡ rate_factor x)
-
--- f64 and f32 are lawful
-abbrev pub LawfulFormats : Type 0
-LawfulFormats = Lawful f64_format × Lawful f32_format
+SplittingLaw = (x : Float) → (in_unit (split x).m ≡ true) × (factor_at 52 (split x).m (split x).e ≡ rate_factor x)

@@ -1,11 +1,10 @@
--- Blocks, over the lawful formats: with no bad rate they are the plain product's piece, whichever blocks are multiplied unsplit; the mark is set exactly if
--- some rate is bad. Assumes nothing.
+-- Blocks of 64: with no bad rate they are the plain product's piece, whichever blocks are multiplied unsplit; the mark is set exactly if some rate is bad.
+-- Assumes nothing.
 use Prim.Native.Nat.{ℕ, zero, suc, ◌+◌, ◌*◌, ◌/◌, ◌≤◌, ◌<◌, zero-le}
 use mathlib.Core.Path.{◌≡◌, refl, sym, ap, ◌∙◌, subst}
 use mathlib.Core.Bool.{Bool, true, false, not, cond, ◌||◌, or-false, or_assoc}
 use mathlib.Core.List.{List, ◌++◌, map, map-append}
-use native.Mathlib.Nat.{le_refl, le_of_lt, le_of_eq, le_trans, add-le-add, mul-one, one-mul, mul_comm, mul-le-mul_left, mul-le-mul_right, mod-lt, div-mul-le_self}
-use native.Mathlib.Nat.{div-add-mod'}
+use native.Mathlib.Nat.{le_refl, le_of_lt}
 use native.Mathlib.Omega.{arith}
 use lib.ListN.{length, get_or, set, take, drop, replicate, length-set, length-replicate, get_or-replicate, length-take, length-drop, take-append-drop, length-map}
 use lib.IntN.{ℤ, pos, ◌+ℤ◌}
@@ -15,25 +14,24 @@ use lib.Ieee.{Float, nan, fin, binary64, fits, is_nan}
 use Rattle.laws.proofs.Tests.{and_both, neither}
 use Rattle.floats.specs.Product.{product_of}
 use Rattle.floats.specs.Factor.{Factor, unit, times}
-use Rattle.floats.specs.Formats.{RateFormat, Lawful}
-use Rattle.floats.specs.Splitting.{bad_in, factor_in, split_in, split}
-use Rattle.floats.proofs.AnyFormat.{split-in-bad}
-use Rattle.floats.proofs.Widening.{widen-fits, widen-mark, widen_good}
+use Rattle.floats.specs.Splitting.{is_bad, rate_factor, split}
+use Rattle.floats.proofs.Splitting.{split-bad}
 use Rattle.accumulator.specs.declared.StableProductFloatAcc.{StableProductFloatAcc}
 use Rattle.accumulator.specs.Joining.{identity_acc}
 use Rattle.kernels.specs.declared.lanes.Lanes.{Lanes}
 use Rattle.laws.specs.Lists.{Each, none, more}
 use Rattle.kernels.specs.Lanes.{feed, lane_of, every, some}
 use Rattle.kernels.specs.InnerPlain.{lane_times, lanes, piece_product}
-use Rattle.kernels.specs.Blocks.{start_lanes, m_of, e_of, unsplit_step, split_step_in, in_range, renorm_lane, renorm, unsplit, block, block_length, blocks, lane_in, lanes_in}
-use Rattle.kernels.specs.Blocks.{contiguous_in}
-use Rattle.kernels.specs.Pieces.{GoodRateIn, acc_of}
+use Rattle.kernels.specs.InnerLanes.{in_bounds}
+use Rattle.kernels.specs.Blocks.{start_lanes, m_of, e_of, unsplit_step, split_step, renorm_lane, renorm, unsplit, block, blocks, lane_in, lanes_in}
+use Rattle.kernels.specs.Blocks.{contiguous}
+use Rattle.kernels.specs.Pieces.{GoodRate, acc_of}
 use Rattle.kernels.proofs.Feeding.{feed-related, feed-holds, feed-vectors, feed-mark, order-keeps, order-related, every-each, each_map}
 use Rattle.kernels.proofs.Feeding.{each_both, each_take, each-drop, some-append, some-none}
 use Rattle.kernels.proofs.Factors.{lane-lt, set_cases, times-again}
-use Rattle.kernels.specs.InnerLanes.{Represents, LanesAre, LanesRepresent, zeros, plain_after_in}
+use Rattle.kernels.specs.InnerLanes.{Represents, LanesAre, LanesRepresent, zeros, plain_after}
 use Rattle.kernels.proofs.Lanewise.{turns, depth, turn_small, lanes-widen, lanes-turn, exponents-same}
-use Rattle.kernels.proofs.Standing.{represents-more, represents-times, represents-split, represents-rate-in, represents-whole, represents-one}
+use Rattle.kernels.proofs.Standing.{represents-more, represents-times, represents-split, represents-rate, represents-whole, represents-one}
 use Rattle.kernels.proofs.Standing.{represents-acc}
 use Rattle.kernels.proofs.Bounds.{in-range-good, in-range-exponent}
 
@@ -41,25 +39,18 @@ use Rattle.kernels.proofs.Bounds.{in-range-good, in-range-exponent}
 abbrev pub Value : Float → Type 0
 Value x = T (fits binary64 x)
 
-module _ (F : RateFormat) where
-  -- values of the format
-  abbrev pub Held : Float → Type 0
-  Held x = T (F.holds x)
+-- values of which none is bad
+pub each-rate : {xs : List Float} → Each Value xs → some is_bad xs ≡ false → Each GoodRate xs
+unfolding some
+each-rate none e = none
+each-rate (more {x = x} {xs = xs} v vs) e = let p = neither (is_bad x) (some is_bad xs) e in more (record { value = v; good = p.0 }) (each-rate vs p.1)
 
-  -- values of which none is bad
-  pub each-rate : {xs : List Float} → Each Held xs → some (bad_in F) xs ≡ false → Each (GoodRateIn F) xs
-  unfolding some
-  each-rate none e = none
-  each-rate (more {x = x} {xs = xs} v vs) e =
-      let p = neither (bad_in F x) (some (bad_in F) xs) e in
-      more (record { value = v; good = p.0 }) (each-rate vs p.1)
+pub rates-good : {xs : List Float} → Each GoodRate xs → some is_bad xs ≡ false
+rates-good R = some-none is_bad (each_map GoodRate (λ (x : Float). is_bad x ≡ false) (λ x p. p.good) R)
 
-  pub rates-good : {xs : List Float} → Each (GoodRateIn F) xs → some (bad_in F) xs ≡ false
-  rates-good R = some-none (bad_in F) (each_map (GoodRateIn F) (λ (x : Float). bad_in F x ≡ false) (λ x p. p.good) R)
-
-  -- they leave a mark as it is
-  pub rates-mark : (b : Bool) {xs : List Float} → Each (GoodRateIn F) xs → b ≡ (b || some (bad_in F) xs)
-  rates-mark b R = sym (ap (λ (c : Bool). b || c) (rates-good R) ∙ or-false b)
+-- they leave a mark as it is
+pub rates-mark : (b : Bool) {xs : List Float} → Each GoodRate xs → b ≡ (b || some is_bad xs)
+rates-mark b R = sym (ap (λ (c : Bool). b || c) (rates-good R) ∙ or-false b)
 
 -- ---- eight lanes
 pub represent-start : LanesRepresent zeros start_lanes (replicate 8 (unit 52))
@@ -92,46 +83,26 @@ value-represent C i s fs y d g q l G h =
     one_more : (n : ℕ) → n + C + 1 ≡ n + suc C
     one_more n = omega arith
 
-module _ (F : RateFormat) (L : Lawful F) where
-  pub split-more : (i : ℕ) (s : Lanes) (fs : List Factor) (x : Float) → i < 8 * 968 → Held F x → LanesRepresent (depth 1 i) s fs
-      → LanesRepresent (depth 1 (suc i)) (split_step_in F i s x) (lane_times 52 i fs (factor_in F x))
-  unfolding split_step_in
-  split-more i s fs x l v h =
-      value-represent 0 i s fs (split_in F x).m (split_in F x).e (factor_in F x) (s.bad || (split_in F x).bad) (turn_small 1 968 i (lit≤ tt) l)
-      (represents-rate-in F L x) h
+pub split-more : (i : ℕ) (s : Lanes) (fs : List Factor) (x : Float) → i < 512 → Value x → LanesRepresent (depth 1 i) s fs
+    → LanesRepresent (depth 1 (suc i)) (split_step i s x) (lane_times 52 i fs (rate_factor x))
+unfolding split_step
+split-more i s fs x l v h =
+    value-represent 0 i s fs (split x).m (split x).e (rate_factor x) (s.bad || (split x).bad) (turn_small 1 64 i (lit≤ tt) l) (represents-rate x) h
 
-  -- unsplit: the value is in the bounds
-  pub record Near (x : Float) : Type 0 where
-    pub value : Held F x
-    pub near : in_range F.bound x ≡ true
+-- unsplit: the value is in the bounds
+pub record Near (x : Float) : Type 0 where
+  pub value : Value x
+  pub near : in_bounds x ≡ true
 
-  bound-small : F.bound ≤ 1021
-  bound-small = le_trans (le_of_lt (one_each (suc F.bound) F.each L.some)) (le_trans L.room (lit≤ tt))
-    where
-      one_each : (a b : ℕ) → 1 ≤ b → a ≤ a * b
-      one_each a b h = le_trans (le_of_eq (sym (mul-one a))) (mul-le-mul_left a h)
-
-  -- it is not bad, and its exponent lies in the bounds
-  near-good : (x : Float) → Near x → (bad_in F x ≡ false) × Represents F.bound x (pos 0) (factor_in F x)
-  near-good x n =
-      let v = widen-fits F L x n.value in
-      let g = in-range-good F.bound bound-small x v n.near in
-      let h = widen-mark F L x n.value ∙ g in (
-        h,
-        subst (Represents F.bound x (pos 0)) (sym (widen_good F L x n.value h).1)
-            (represents-whole F.bound x v g (in-range-exponent F.bound L.some_bound bound-small x v n.near)),
-      )
-
-  pub unsplit-more : (i : ℕ) (s : Lanes) (fs : List Factor) (x : Float) → i < 8 * F.each → Near x → LanesRepresent (depth (suc F.bound) i) s fs
-      → LanesRepresent (depth (suc F.bound) (suc i)) (unsplit_step i s x) (lane_times 52 i fs (factor_in F x))
-  unfolding unsplit_step
-  unsplit-more i s fs x l n h =
-      let j = lane_of i in
-      subst
-      (λ (es : List ℤ). LanesAre Represents (depth (suc F.bound) (suc i)) (set s.m j (product_of 11 52 (m_of s j) x)) es (lane_times 52 i fs (factor_in F x)))
-      (exponents-same s.e j)
-      (value-represent F.bound i s fs x (pos 0) (factor_in F x) s.bad (turn_small (suc F.bound) F.each i (le_trans L.room (lit≤ tt)) l)
-      (near-good x n).1 h)
+pub unsplit-more : (i : ℕ) (s : Lanes) (fs : List Factor) (x : Float) → i < 64 → Near x → LanesRepresent (depth 121 i) s fs
+    → LanesRepresent (depth 121 (suc i)) (unsplit_step i s x) (lane_times 52 i fs (rate_factor x))
+unfolding unsplit_step
+unsplit-more i s fs x l n h =
+    let j = lane_of i in
+    let X = represents-whole 120 x n.value (in-range-good 120 (lit≤ tt) x n.value n.near) (in-range-exponent 119 (lit≤ tt) x n.value n.near) in
+    subst (λ (es : List ℤ). LanesAre Represents (depth 121 (suc i)) (set s.m j (product_of 11 52 (m_of s j) x)) es (lane_times 52 i fs (rate_factor x)))
+    (exponents-same s.e j)
+    (value-represent 120 i s fs x (pos 0) (rate_factor x) s.bad (turn_small 121 8 i (lit≤ tt) l) X h)
 
 -- ---- bringing back
 -- lanes below j are brought back, the others are as they were
@@ -198,72 +169,62 @@ renorm-represent B small fs b s l H =
     (represents-more (b k) B (m_of s k) (e_of s k) (get_or fs k (unit 52)) (l k i) (H.at k i)))
     H.m_long H.e_long H.f_long
 
--- ---- values of one block, or those that are left
-module _ (F : RateFormat) (L : Lawful F) (s : Lanes) (fs : List Factor) (xs : List Float) (short : length xs ≤ block_length F) (H : LanesRepresent zeros s fs) where
+-- ---- values of one block, or those that are left: at most 64
+module _ (s : Lanes) (fs : List Factor) (xs : List Float) (short : length xs ≤ 64) (H : LanesRepresent zeros s fs) where
   begins : (c : ℕ) → LanesRepresent (depth c 0) s fs
   begins c = lanes-widen Represents represents-more zeros (depth c 0) (λ k a. zero-le) H
 
-  each-few : F.each ≤ 968
-  each-few = le_trans (le_of_eq (sym (one-mul F.each))) (le_trans (mul-le-mul_right F.each (let l : 1 ≤ suc F.bound = omega arith in l)) L.room)
-
-  few : (k : ℕ) → k < 8 → turns k (0 + length xs) ≤ F.each
+  few : (k : ℕ) → k < 8 → turns k (length xs) ≤ 8
   few k a = omega arith
 
-  split-represent : Each (Held F) xs → LanesRepresent zeros (renorm (feed (split_step_in F) 0 s xs)) (plain_after_in F fs xs)
+  split-represent : Each Value xs → LanesRepresent zeros (renorm (feed split_step 0 s xs)) (plain_after fs xs)
   split-represent R =
-      renorm-represent 968 (lit≤ tt) (plain_after_in F fs xs) (depth 1 (0 + length xs)) (feed (split_step_in F) 0 s xs) (λ k a. omega (arith, few k a, each-few))
-      (feed-related (split_step_in F) (lane_times 52) (factor_in F) (Held F) (λ (i : ℕ). LanesRepresent (depth 1 i)) (8 * 968) (split-more F L) 0 s fs R
-      (omega (arith, each-few)) (begins 1))
+      renorm-represent 968 (lit≤ tt) (plain_after fs xs) (depth 1 (0 + length xs)) (feed split_step 0 s xs) (λ k a. omega (arith, few k a))
+      (feed-related split_step (lane_times 52) rate_factor Value (λ (i : ℕ). LanesRepresent (depth 1 i)) 512 split-more 0 s fs R (omega arith) (begins 1))
 
-  unsplit-represent : Each (Near F L) xs → LanesRepresent zeros (renorm (feed unsplit_step 0 s xs)) (plain_after_in F fs xs)
+  unsplit-represent : Each Near xs → LanesRepresent zeros (renorm (feed unsplit_step 0 s xs)) (plain_after fs xs)
   unsplit-represent R =
-      renorm-represent 968 (lit≤ tt) (plain_after_in F fs xs) (depth (suc F.bound) (0 + length xs)) (feed unsplit_step 0 s xs)
-      (λ k a. le_trans (mul-le-mul_left (suc F.bound) (few k a)) L.room)
-      (feed-related unsplit_step (lane_times 52) (factor_in F) (Near F L) (λ (i : ℕ). LanesRepresent (depth (suc F.bound) i)) (block_length F) (unsplit-more F L)
-      0 s fs R (omega arith) (begins (suc F.bound)))
-
-  -- values in the bounds
-  near-all : Each (Held F) xs → every (in_range F.bound) xs ≡ true → Each (Near F L) xs
-  near-all R h =
-      each_map (λ (x : Float). Held F x × (in_range F.bound x ≡ true)) (Near F L) (λ x p. record { value = p.0; near = p.1 })
-      (each_both (Held F) (λ (x : Float). in_range F.bound x ≡ true) R (every-each (in_range F.bound) xs h))
+      renorm-represent 968 (lit≤ tt) (plain_after fs xs) (depth 121 (0 + length xs)) (feed unsplit_step 0 s xs) (λ k a. omega (arith, few k a))
+      (feed-related unsplit_step (lane_times 52) rate_factor Near (λ (i : ℕ). LanesRepresent (depth 121 i)) 64 unsplit-more 0 s fs R (omega arith) (begins 121))
 
   -- unsplit or split, a block stands for the same factors
-  block-represent : Each (Held F) xs → LanesRepresent zeros (block F s xs) (plain_after_in F fs xs)
+  block-represent : Each Value xs → LanesRepresent zeros (block s xs) (plain_after fs xs)
   unfolding block unsplit
-  block-represent R = go (unsplit F s xs) refl
+  block-represent R = go (unsplit s xs) refl
     where
-      go : (t : Bool) → unsplit F s xs ≡ t → LanesRepresent zeros (renorm (cond t (feed unsplit_step 0 s xs) (feed (split_step_in F) 0 s xs))) (plain_after_in F fs xs)
-      go true e = unsplit-represent (near-all R (and_both (every (in_range F.bound) xs) (not (some is_nan (feed unsplit_step 0 s xs).m)) e).0)
+      go : (t : Bool) → unsplit s xs ≡ t → LanesRepresent zeros (renorm (cond t (feed unsplit_step 0 s xs) (feed split_step 0 s xs))) (plain_after fs xs)
+      go true e =
+          unsplit-represent
+          (each_map (λ (x : Float). Value x × (in_bounds x ≡ true)) Near (λ x p. record { value = p.0; near = p.1 })
+          (each_both Value (λ (x : Float). in_bounds x ≡ true) R
+          (every-each in_bounds xs (and_both (every in_bounds xs) (not (some is_nan (feed unsplit_step 0 s xs).m)) e).0)))
       go false e = split-represent R
 
 -- ---- all of a piece
-module _ (F : RateFormat) where
-  -- the plain lanes, one list of rates after another, the first of whole vectors
-  pub lanes-append : (n : ℕ) (fs : List Factor) (xs ys : List Float) → length xs ≡ 8 * n
-      → plain_after_in F fs (xs ++ ys) ≡ plain_after_in F (plain_after_in F fs xs) ys
-  lanes-append n fs xs ys h =
-      ap (feed (lane_times 52) 0 fs) (map-append (factor_in F) xs ys)
-      ∙ feed-vectors (lane_times 52) (times-again 52) n fs (map (factor_in F) xs) (map (factor_in F) ys) (length-map xs (factor_in F) ∙ h)
+-- the plain lanes, one list of rates after another, the first of whole vectors
+pub lanes-append : (n : ℕ) (fs : List Factor) (xs ys : List Float) → length xs ≡ 8 * n
+    → plain_after fs (xs ++ ys) ≡ plain_after (plain_after fs xs) ys
+lanes-append n fs xs ys h =
+    ap (feed (lane_times 52) 0 fs) (map-append rate_factor xs ys)
+    ∙ feed-vectors (lane_times 52) (times-again 52) n fs (map rate_factor xs) (map rate_factor ys) (length-map xs rate_factor ∙ h)
 
-  lanes_on : (fs : List Factor) (xs : List Float) → block_length F ≤ length xs
-      → plain_after_in F (plain_after_in F fs (take (block_length F) xs)) (drop (block_length F) xs) ≡ plain_after_in F fs xs
-  lanes_on fs xs h =
-      sym (lanes-append F.each fs (take (block_length F) xs) (drop (block_length F) xs) (omega (arith, length-take (block_length F) xs)))
-      ∙ ap (λ (l : List Float). plain_after_in F fs l) (take-append-drop (block_length F) xs)
+lanes_on : (fs : List Factor) (xs : List Float) → 64 ≤ length xs
+    → plain_after (plain_after fs (take 64 xs)) (drop 64 xs) ≡ plain_after fs xs
+lanes_on fs xs h =
+    sym (lanes-append 8 fs (take 64 xs) (drop 64 xs) (omega (arith, length-take 64 xs)))
+    ∙ ap (λ (l : List Float). plain_after fs l) (take-append-drop 64 xs)
 
-module _ (F : RateFormat) (L : Lawful F) where
-  blocks-represent : (n : ℕ) (s : Lanes) (fs : List Factor) (xs : List Float) → block_length F * n ≤ length xs → length xs ≤ block_length F * n + block_length F
-      → Each (Held F) xs → LanesRepresent zeros s fs → LanesRepresent zeros (blocks F n s xs) (plain_after_in F fs xs)
-  unfolding blocks
-  blocks-represent zero s fs xs lo hi R H = split-represent F L s fs xs (omega arith) H R
-  blocks-represent (suc n) s fs xs lo hi R H =
-      let B = block_length F in
-      let ys = take B xs in
-      subst (LanesRepresent zeros (blocks F n (block F s ys) (drop B xs))) (lanes_on F fs xs (omega arith))
-      (blocks-represent n (block F s ys) (plain_after_in F fs ys) (drop B xs) (omega (arith, length-drop B xs)) (omega (arith, length-drop B xs))
-      (each-drop (Held F) B R)
-      (block-represent F L s fs ys (omega (arith, length-take B xs)) H (each_take (Held F) B R)))
+blocks-represent : (n : ℕ) (s : Lanes) (fs : List Factor) (xs : List Float) → 64 * n ≤ length xs → length xs ≤ 64 * n + 64 → Each Value xs
+    → LanesRepresent zeros s fs
+    → LanesRepresent zeros (blocks n s xs) (plain_after fs xs)
+unfolding blocks
+blocks-represent zero s fs xs lo hi R H = split-represent s fs xs (omega arith) H R
+blocks-represent (suc n) s fs xs lo hi R H =
+    let ys = take 64 xs in
+    subst (LanesRepresent zeros (blocks n (block s ys) (drop 64 xs))) (lanes_on fs xs (omega arith))
+    (blocks-represent n (block s ys) (plain_after fs ys) (drop 64 xs) (omega (arith, length-drop 64 xs)) (omega (arith, length-drop 64 xs))
+    (each-drop Value 64 R)
+    (block-represent s fs ys (omega (arith, length-take 64 xs)) H (each_take Value 64 R)))
 
 -- ---- the lanes multiplied in order
 lane_in_lem : (s : Lanes) (fs : List Factor) (k : ℕ) (a : StableProductFloatAcc) (p : Factor) → k < 8 → LanesRepresent zeros s fs → Represents 0 a.m a.e p
@@ -275,9 +236,9 @@ lane_in_lem s fs k a p h H P =
     represents-split 1 m (a.e +ℤ e_of s k) f (lit≤ tt) (represents-times 0 0 a.m (m_of s k) a.e (e_of s k) p (get_or fs k (unit 52)) P (H.at k h) (lit≤ tt))
 
 -- ---- the mark
-pub split-mark : (F : RateFormat) (i : ℕ) (s : Lanes) (xs : List Float) → (feed (split_step_in F) i s xs).bad ≡ (s.bad || some (bad_in F) xs)
-unfolding split_step_in
-split-mark F = feed-mark (split_step_in F) (λ (s : Lanes). s.bad) (bad_in F) (λ i s x. ap (λ (b : Bool). s.bad || b) (split-in-bad F x))
+pub split-mark : (i : ℕ) (s : Lanes) (xs : List Float) → (feed split_step i s xs).bad ≡ (s.bad || some is_bad xs)
+unfolding split_step
+split-mark = feed-mark split_step (λ (s : Lanes). s.bad) is_bad (λ i s x. ap (λ (b : Bool). s.bad || b) (split-bad x))
 
 pub unsplit-mark : (i : ℕ) (s : Lanes) (xs : List Float) → (feed unsplit_step i s xs).bad ≡ s.bad
 unfolding unsplit_step
@@ -287,37 +248,33 @@ pub renorm-mark : (s : Lanes) → (renorm s).bad ≡ s.bad
 unfolding renorm renorm_lane
 renorm-mark s = order-keeps renorm_lane (λ (k : ℕ) (t : Lanes). t.bad ≡ s.bad) 8 (λ k t h e. e) s refl
 
-module _ (F : RateFormat) (L : Lawful F) where
-  -- in the bounds there is no bad value
-  block-mark : (s : Lanes) (xs : List Float) → Each (Held F) xs → (block F s xs).bad ≡ (s.bad || some (bad_in F) xs)
-  unfolding block unsplit
-  block-mark s xs v = go (unsplit F s xs) refl
-    where
-      good : every (in_range F.bound) xs ≡ true → some (bad_in F) xs ≡ false
-      good h =
-          some-none (bad_in F)
-          (each_map (λ (x : Float). Held F x × (in_range F.bound x ≡ true)) (λ (x : Float). bad_in F x ≡ false)
-          (λ x p. (near-good F L x (record { value = p.0; near = p.1 })).0)
-          (each_both (Held F) (λ (x : Float). in_range F.bound x ≡ true) v (every-each (in_range F.bound) xs h)))
+-- in the bounds there is no bad value
+block-mark : (s : Lanes) (xs : List Float) → Each Value xs → (block s xs).bad ≡ (s.bad || some is_bad xs)
+unfolding block unsplit
+block-mark s xs v = go (unsplit s xs) refl
+  where
+    good : every in_bounds xs ≡ true → some is_bad xs ≡ false
+    good h =
+        some-none is_bad
+        (each_map (λ (x : Float). Value x × (in_bounds x ≡ true)) (λ (x : Float). is_bad x ≡ false) (λ x p. in-range-good 120 (lit≤ tt) x p.0 p.1)
+        (each_both Value (λ (x : Float). in_bounds x ≡ true) v (every-each in_bounds xs h)))
 
-      go : (t : Bool) → unsplit F s xs ≡ t → (renorm (cond t (feed unsplit_step 0 s xs) (feed (split_step_in F) 0 s xs))).bad ≡ (s.bad || some (bad_in F) xs)
-      go true e =
-          renorm-mark (feed unsplit_step 0 s xs)
-          ∙ unsplit-mark 0 s xs
-          ∙ sym (ap (λ (b : Bool). s.bad || b) (good (and_both (every (in_range F.bound) xs) (not (some is_nan (feed unsplit_step 0 s xs).m)) e).0)
-          ∙ or-false s.bad)
-      go false e = renorm-mark (feed (split_step_in F) 0 s xs) ∙ split-mark F 0 s xs
+    go : (t : Bool) → unsplit s xs ≡ t → (renorm (cond t (feed unsplit_step 0 s xs) (feed split_step 0 s xs))).bad ≡ (s.bad || some is_bad xs)
+    go true e =
+        renorm-mark (feed unsplit_step 0 s xs)
+        ∙ unsplit-mark 0 s xs
+        ∙ sym (ap (λ (b : Bool). s.bad || b) (good (and_both (every in_bounds xs) (not (some is_nan (feed unsplit_step 0 s xs).m)) e).0) ∙ or-false s.bad)
+    go false e = renorm-mark (feed split_step 0 s xs) ∙ split-mark 0 s xs
 
-  blocks-mark : (n : ℕ) (s : Lanes) (xs : List Float) → Each (Held F) xs → (blocks F n s xs).bad ≡ (s.bad || some (bad_in F) xs)
-  unfolding blocks
-  blocks-mark zero s xs v = renorm-mark (feed (split_step_in F) 0 s xs) ∙ split-mark F 0 s xs
-  blocks-mark (suc n) s xs v =
-      let B = block_length F in
-      let ys = take B xs in
-      blocks-mark n (block F s ys) (drop B xs) (each-drop (Held F) B v)
-      ∙ ap (λ (b : Bool). b || some (bad_in F) (drop B xs)) (block-mark s ys (each_take (Held F) B v))
-      ∙ or_assoc s.bad (some (bad_in F) ys) (some (bad_in F) (drop B xs))
-      ∙ ap (λ (b : Bool). s.bad || b) (sym (some-append (bad_in F) ys (drop B xs)) ∙ ap (some (bad_in F)) (take-append-drop B xs))
+blocks-mark : (n : ℕ) (s : Lanes) (xs : List Float) → Each Value xs → (blocks n s xs).bad ≡ (s.bad || some is_bad xs)
+unfolding blocks
+blocks-mark zero s xs v = renorm-mark (feed split_step 0 s xs) ∙ split-mark 0 s xs
+blocks-mark (suc n) s xs v =
+    let ys = take 64 xs in
+    blocks-mark n (block s ys) (drop 64 xs) (each-drop Value 64 v)
+    ∙ ap (λ (b : Bool). b || some is_bad (drop 64 xs)) (block-mark s ys (each_take Value 64 v))
+    ∙ or_assoc s.bad (some is_bad ys) (some is_bad (drop 64 xs))
+    ∙ ap (λ (b : Bool). s.bad || b) (sym (some-append is_bad ys (drop 64 xs)) ∙ ap (some is_bad) (take-append-drop 64 xs))
 
 lanes-mark : (s : Lanes) → (lanes_in s).bad ≡ s.bad
 unfolding lanes_in lane_in
@@ -325,56 +282,40 @@ lanes-mark s =
     order-keeps (lane_in s) (λ (k : ℕ) (a : StableProductFloatAcc). a.bad ≡ s.bad) 8 (λ k a h e. e)
     (record { m = identity_acc.m; e = identity_acc.e; bad = s.bad }) refl
 
--- ---- a piece
-module _ (F : RateFormat) (L : Lawful F) where
-  -- the mark is set exactly if some rate of the piece is bad
-  pub contiguous-mark : (xs : List Float) → Each (Held F) xs → (contiguous_in F xs).bad ≡ some (bad_in F) xs
-  unfolding contiguous_in
-  contiguous-mark xs v = lanes-mark (blocks F (length xs / block_length F) start_lanes xs) ∙ blocks-mark F L (length xs / block_length F) start_lanes xs v
+-- the mark is set exactly if some rate of the piece is bad
+pub contiguous-mark : (xs : List Float) → Each Value xs → (contiguous xs).bad ≡ some is_bad xs
+unfolding contiguous
+contiguous-mark xs v = lanes-mark (blocks (length xs / 64) start_lanes xs) ∙ blocks-mark (length xs / 64) start_lanes xs v
 
-  -- Blocks give the m and e of the plain product of the piece's factors, whatever the rates: a bad one counts with its fraction and field.
-  pub contiguous-is : {xs : List Float} → Each (Held F) xs
-      → contiguous_in F xs
-      ≡ record { m = (acc_of (piece_product 52 (map (factor_in F) xs))).m; e = (piece_product 52 (map (factor_in F) xs)).exp; bad = some (bad_in F) xs }
-  unfolding contiguous_in lanes_in piece_product lanes
-  contiguous-is {xs} v =
-      ap (λ (b : Bool). record { m = r.m; e = r.e; bad = b }) (contiguous-mark xs v)
-      ∙ ap (λ (a : StableProductFloatAcc). record { m = a.m; e = a.e; bad = some (bad_in F) xs })
-      (represents-acc r.m r.e (piece_product 52 (map (factor_in F) xs)) stood)
-    where
-      n : ℕ
-      n = length xs / block_length F
+-- Blocks of 64 give the m and e of the plain product of the piece's factors, whatever the rates: a bad one counts with its fraction and field.
+pub contiguous-is : {xs : List Float} → Each Value xs
+    → contiguous xs ≡ record { m = (acc_of (piece_product 52 (map rate_factor xs))).m; e = (piece_product 52 (map rate_factor xs)).exp; bad = some is_bad xs }
+unfolding contiguous lanes_in piece_product lanes
+contiguous-is {xs} v =
+    ap (λ (b : Bool). record { m = r.m; e = r.e; bad = b }) (contiguous-mark xs v)
+    ∙ ap (λ (a : StableProductFloatAcc). record { m = a.m; e = a.e; bad = some is_bad xs })
+    (represents-acc r.m r.e (piece_product 52 (map rate_factor xs)) stood)
+  where
+    s : Lanes
+    s = blocks (length xs / 64) start_lanes xs
 
-      s : Lanes
-      s = blocks F n start_lanes xs
+    fs : List Factor
+    fs = lanes 52 (map rate_factor xs)
 
-      fs : List Factor
-      fs = lanes 52 (map (factor_in F) xs)
+    r : StableProductFloatAcc
+    r = contiguous xs
 
-      r : StableProductFloatAcc
-      r = contiguous_in F xs
+    represent : LanesRepresent zeros s fs
+    represent = blocks-represent (length xs / 64) start_lanes (replicate 8 (unit 52)) xs (omega arith) (omega arith) v represent-start
 
-      whole : block_length F * n ≤ length xs
-      whole = le_trans (le_of_eq (mul_comm (block_length F) n)) (div-mul-le_self (length xs) (block_length F))
+    stood : Represents 0 r.m r.e (piece_product 52 (map rate_factor xs))
+    stood =
+        order-related (lane_in s) (λ (k : ℕ) (p : Factor). times 52 p (get_or fs k (unit 52)))
+        (λ (a : StableProductFloatAcc) (p : Factor). Represents 0 a.m a.e p) 8
+        (λ k a p h P. lane_in_lem s fs k a p h represent P) (record { m = identity_acc.m; e = identity_acc.e; bad = s.bad }) (unit 52) represents-one
 
-      rest : length xs ≤ block_length F * n + block_length F
-      rest = le_trans (le_of_eq (sym (div-add-mod' (length xs) (block_length F)))) (add-le-add (le_of_eq (mul_comm n (block_length F))) (le_of_lt (mod-lt (length xs) some-values)))
-        where
-          some-values : 0 < block_length F
-          some-values = let l = L.some in omega arith
-
-      represent : LanesRepresent zeros s fs
-      represent = blocks-represent F L n start_lanes (replicate 8 (unit 52)) xs whole rest v represent-start
-
-      stood : Represents 0 r.m r.e (piece_product 52 (map (factor_in F) xs))
-      stood =
-          order-related (lane_in s) (λ (k : ℕ) (p : Factor). times 52 p (get_or fs k (unit 52)))
-          (λ (a : StableProductFloatAcc) (p : Factor). Represents 0 a.m a.e p) 8
-          (λ k a p h P. lane_in_lem s fs k a p h represent P) (record { m = identity_acc.m; e = identity_acc.e; bad = s.bad }) (unit 52) represents-one
-
-  -- with no bad rate, blocks give the plain product of the piece
-  pub contiguous-agrees : {xs : List Float} → Each (GoodRateIn F) xs → contiguous_in F xs ≡ acc_of (piece_product 52 (map (factor_in F) xs))
-  contiguous-agrees {xs} R =
-      contiguous-is (each_map (GoodRateIn F) (Held F) (λ x p. p.value) R)
-      ∙ ap (λ (b : Bool). record { m = (acc_of (piece_product 52 (map (factor_in F) xs))).m; e = (piece_product 52 (map (factor_in F) xs)).exp; bad = b })
-      (rates-good F R)
+-- with no bad rate, blocks of 64 give the plain product of the piece
+pub contiguous-agrees : {xs : List Float} → Each GoodRate xs → contiguous xs ≡ acc_of (piece_product 52 (map rate_factor xs))
+contiguous-agrees {xs} R =
+    contiguous-is (each_map GoodRate Value (λ x p. p.value) R)
+    ∙ ap (λ (b : Bool). record { m = (acc_of (piece_product 52 (map rate_factor xs))).m; e = (piece_product 52 (map rate_factor xs)).exp; bad = b }) (rates-good R)

@@ -4,7 +4,7 @@
 use Prim.Native.Nat.{ℕ, zero, suc, ◌+◌, ◌*◌, ◌≤◌, ◌<◌, zero-le}
 use mathlib.Core.Path.{◌≡◌, refl, sym, ap, ◌∙◌, subst}
 use mathlib.Core.Bool.{Bool, true, false, ◌||◌}
-use mathlib.Core.List.{List, [], ◌∷◌, map}
+use mathlib.Core.List.{List, [], ◌∷◌, map, foldl}
 use native.Mathlib.Nat.{add-zero, zero-add, le_refl, le_trans, le_of_eq, add-le-add}
 use native.Mathlib.Omega.{arith}
 use lib.ListN.{length, get_or, set, take, replicate, length-set, length-replicate, get_or-replicate, length-map, length-append}
@@ -14,13 +14,11 @@ use lib.Dec.{T, lit<}
 use lib.Ieee.{Float, binary64, fits}
 use Rattle.floats.specs.Factor.{Factor, Normalised, unit, times}
 use Rattle.floats.specs.Magnitude.{in_unit, with_exponent}
-use Rattle.floats.specs.Formats.{RateFormat, f64_format, Lawful}
-use Rattle.floats.specs.Splitting.{factor_in, rate_factor}
+use Rattle.floats.specs.Splitting.{rate_factor}
 use Rattle.floats.proofs.Factor.{unit-normal, times-normal, times-size}
 use Rattle.floats.proofs.Bridge.{float_of-fits}
 use Rattle.floats.proofs.Magnitude.{unit-float}
-use Rattle.floats.proofs.AnyFormat.{farthest, factor-in-normal, factor-in-size}
-use Rattle.floats.proofs.Splitting.{split-m, split-unit}
+use Rattle.floats.proofs.Splitting.{farthest, rate-normal, rate-size, split-m, split-unit}
 use Rattle.accumulator.specs.declared.StableProductFloatAcc.{StableProductFloatAcc}
 use Rattle.accumulator.specs.Joining.{identity_acc, combined}
 use Rattle.accumulator.proofs.Combining.{combined-bad, combined-good}
@@ -28,16 +26,14 @@ use Rattle.accumulator.proofs.Joins.{multiplied-unit, multiplied-fits}
 use Rattle.laws.specs.Lists.{Each, none, more}
 use Rattle.kernels.specs.Lanes.{feed, lane_of, in_order}
 use Rattle.kernels.specs.InnerPlain.{lane_times, lanes, piece_product}
-use Rattle.kernels.specs.Stepped.{rate_acc, acc_at, lane_joined, stepped_lanes, lanes_joined, stepped_in}
+use Rattle.kernels.specs.Stepped.{rate_acc, acc_at, lane_joined, stepped_lanes, lanes_joined, stepped}
 use Rattle.kernels.specs.InnerStepped.{Sound}
-use Rattle.kernels.specs.Blocks.{contiguous_in}
-use Rattle.kernels.specs.Pieces.{Piece, worked_in, worked_piece_in, joined_onto_in, joined_pieces_in, rates_of}
-use Rattle.kernels.specs.InnerDoubles.{stepped}
+use Rattle.kernels.specs.Blocks.{contiguous}
+use Rattle.kernels.specs.Pieces.{Piece, worked, worked_piece, joined_pieces, rates_of}
 use Rattle.kernels.proofs.Feeding.{feed-keeps, order-keeps, each_of}
 use Rattle.kernels.proofs.Factors.{lane-lt, set_cases, NormalLanes, units-normal, lane-normal, piece-normal}
 use Rattle.kernels.proofs.Sizes.{in_list, rate-acc-size, combined-size}
-use Rattle.kernels.proofs.Blocking.{Held, contiguous-is}
-use Rattle.kernels.proofs.AnyFormat.{stepped-wide}
+use Rattle.kernels.proofs.Blocking.{contiguous-is}
 
 -- ---- the sum of eight sizes, and one of them that grows
 unfoldable pub total : {A : Type 0} → (A → ℕ) → List A → ℕ
@@ -124,7 +120,7 @@ pub identity-sound : Sound identity_acc
 unfolding in_unit fits
 identity-sound = record { value = tt; in_unit = refl }
 
-rate-sound : (x : Float) → Sound (rate_acc f64_format x)
+rate-sound : (x : Float) → Sound (rate_acc x)
 unfolding rate_acc
 rate-sound x = record {
   value = subst (λ (m : Float). T (fits binary64 m)) (sym (split-m x)) (float_of-fits binary64 11 52 refl refl (with_exponent (rate_factor x) (pos 0)));
@@ -165,29 +161,29 @@ joined-start = record {
   sound = record { at = λ k h. subst Sound (sym (get_or-replicate 8 k identity_acc (acc_at [] 0) h)) identity-sound };
 }
 
-joined-more : (i : ℕ) (ls : List StableProductFloatAcc) (x : Float) → Joined i ls → Joined (suc i) (lane_joined f64_format i ls x)
+joined-more : (i : ℕ) (ls : List StableProductFloatAcc) (x : Float) → Joined i ls → Joined (suc i) (lane_joined i ls x)
 unfolding lane_joined
 joined-more i ls x h =
     let j = lane_of i in
-    let a = combined (acc_at ls j) (rate_acc f64_format x) in
+    let a = combined (acc_at ls j) (rate_acc x) in
     let inside = subst (λ (n : ℕ). j < n) (sym h.long) (lane-lt i) in
-    let z = total-set acc_size ls j (suc farthest) a (acc_at [] 0) inside (le_trans (combined-size (acc_at ls j) (rate_acc f64_format x)) (let w = rate-acc-size x in omega arith)) in
+    let z = total-set acc_size ls j (suc farthest) a (acc_at [] 0) inside (le_trans (combined-size (acc_at ls j) (rate_acc x)) (let w = rate-acc-size x in omega arith)) in
     record {
       long = length-set ls j a ∙ h.long;
       near = le_trans z (let w = h.near in omega arith);
       sound = record {
         at = λ k l.
-            set_cases Sound ls j k a (acc_at [] 0) inside (λ e. combined-sound (acc_at ls j) (rate_acc f64_format x) (h.sound.at j (lane-lt i)) (rate-sound x))
+            set_cases Sound ls j k a (acc_at [] 0) inside (λ e. combined-sound (acc_at ls j) (rate_acc x) (h.sound.at j (lane-lt i)) (rate-sound x))
             (λ n. h.sound.at k l);
       };
     }
 
-joined-feed : (i : ℕ) (ls : List StableProductFloatAcc) (xs : List Float) → Joined i ls → Joined (i + length xs) (feed (lane_joined f64_format) i ls xs)
+joined-feed : (i : ℕ) (ls : List StableProductFloatAcc) (xs : List Float) → Joined i ls → Joined (i + length xs) (feed lane_joined i ls xs)
 unfolding feed
 joined-feed i ls [] h = subst (λ (n : ℕ). Joined n ls) (sym (add-zero i)) h
 joined-feed i ls (x ∷ xs) h =
-    subst (λ (n : ℕ). Joined n (feed (lane_joined f64_format) (suc i) (lane_joined f64_format i ls x) xs)) (omega arith)
-    (joined-feed (suc i) (lane_joined f64_format i ls x) xs (joined-more i ls x h))
+    subst (λ (n : ℕ). Joined n (feed lane_joined (suc i) (lane_joined i ls x) xs)) (omega arith)
+    (joined-feed (suc i) (lane_joined i ls x) xs (joined-more i ls x h))
 
 -- k lanes joined in order
 order-sound : (ls : List StableProductFloatAcc) (k : ℕ) → k ≤ 8 → UnitAccs ls
@@ -197,94 +193,92 @@ order-sound ls k h u =
     (λ j a l s. combined-sound a (acc_at ls j) s (u.at j (le_trans l h))) identity_acc identity-sound
 
 module _ (xs : List Float) where
-  joined-all : Joined (length xs) (stepped_lanes f64_format xs)
+  joined-all : Joined (length xs) (stepped_lanes xs)
   unfolding stepped_lanes
   joined-all =
-      subst (λ (n : ℕ). Joined n (feed (lane_joined f64_format) 0 (replicate 8 identity_acc) xs)) (omega arith) (joined-feed 0 (replicate 8 identity_acc) xs joined-start)
+      subst (λ (n : ℕ). Joined n (feed lane_joined 0 (replicate 8 identity_acc) xs)) (omega arith) (joined-feed 0 (replicate 8 identity_acc) xs joined-start)
 
   pub stepped-sound : Sound (stepped xs)
-  unfolding stepped_in lanes_joined
-  stepped-sound = order-sound (stepped_lanes f64_format xs) 8 (le_refl 8) joined-all.sound
+  unfolding stepped lanes_joined
+  stepped-sound = order-sound (stepped_lanes xs) 8 (le_refl 8) joined-all.sound
 
   pub stepped-size : nat_abs (stepped xs).e ≤ suc farthest * length xs + 8
-  unfolding stepped_in lanes_joined total
+  unfolding stepped lanes_joined total
   stepped-size =
-      let ls = stepped_lanes f64_format xs in
+      let ls = stepped_lanes xs in
       let r = order-keeps (λ (k : ℕ) (a : StableProductFloatAcc). combined a (acc_at ls k))
       (λ (k : ℕ) (a : StableProductFloatAcc). acc_size a ≤ total acc_size (take k ls) + k) 8 (turn) identity_acc zero-le in
       le_trans r
       (subst (λ (l : List StableProductFloatAcc). total acc_size l + 8 ≤ suc farthest * length xs + 8) (sym (take_all 8 ls (le_of_eq joined-all.long)))
       (add-le-add joined-all.near (le_refl 8)))
     where
-      turn : (k : ℕ) (a : StableProductFloatAcc) → k < 8 → acc_size a ≤ total acc_size (take k (stepped_lanes f64_format xs)) + k
-          → acc_size (combined a (acc_at (stepped_lanes f64_format xs) k)) ≤ total acc_size (take (suc k) (stepped_lanes f64_format xs)) + suc k
+      turn : (k : ℕ) (a : StableProductFloatAcc) → k < 8 → acc_size a ≤ total acc_size (take k (stepped_lanes xs)) + k
+          → acc_size (combined a (acc_at (stepped_lanes xs) k)) ≤ total acc_size (take (suc k) (stepped_lanes xs)) + suc k
       turn k a l r =
-          let ls = stepped_lanes f64_format xs in
+          let ls = stepped_lanes xs in
           let e = total-take acc_size ls k (acc_at [] 0) (subst (λ (n : ℕ). k < n) (sym joined-all.long) l) in
           le_trans (combined-size a (acc_at ls k)) (omega arith)
 
--- ---- blocks
-module _ (F : RateFormat) (L : Lawful F) where
-  pub factor-short : (x : Float) → Short 52 farthest (factor_in F x)
-  factor-short x = record { normal = factor-in-normal F L x; near = factor-in-size F L x }
+-- ---- blocks of 64
+pub rate-short : (x : Float) → Short 52 farthest (rate_factor x)
+rate-short x = record { normal = rate-normal x; near = rate-size x }
 
-  module _ {xs : List Float} (v : Each (Held F) xs) where
-    contiguous-size : nat_abs (contiguous_in F xs).e ≤ suc farthest * length xs + 8
-    contiguous-size =
-        subst (λ (z : ℤ). nat_abs z ≤ suc farthest * length xs + 8) (sym (ap (λ (a : StableProductFloatAcc). a.e) (contiguous-is F L v)))
-        (subst (λ (n : ℕ). nat_abs (piece_product 52 (map (factor_in F) xs)).exp ≤ suc farthest * n + 8) (length-map xs (factor_in F))
-        (plain_size 52 farthest (each_of (factor_in F) (Held F) (Short 52 farthest) (λ x f. factor-short x) v)))
+module _ {xs : List Float} (v : Each (λ (x : Float). T (fits binary64 x)) xs) where
+  pub contiguous-size : nat_abs (contiguous xs).e ≤ suc farthest * length xs + 8
+  contiguous-size =
+      subst (λ (z : ℤ). nat_abs z ≤ suc farthest * length xs + 8) (sym (ap (λ (a : StableProductFloatAcc). a.e) (contiguous-is v)))
+      (subst (λ (n : ℕ). nat_abs (piece_product 52 (map rate_factor xs)).exp ≤ suc farthest * n + 8) (length-map xs rate_factor)
+      (plain_size 52 farthest (each_of rate_factor (λ (x : Float). T (fits binary64 x)) (Short 52 farthest) (λ x f. rate-short x) v)))
 
-    contiguous-sound : Sound (contiguous_in F xs)
-    contiguous-sound =
-        let p = piece_product 52 (map (factor_in F) xs) in
-        let N = piece-normal 52 (each_of (factor_in F) (Held F) (Normalised 52) (λ x f. factor-in-normal F L x) v) in
-        let e = ap (λ (a : StableProductFloatAcc). a.m) (contiguous-is F L v) in
-        record {
-          value = subst (λ (m : Float). T (fits binary64 m)) (sym e) (float_of-fits binary64 11 52 refl refl (with_exponent p (pos 0)));
-          in_unit = ap in_unit e ∙ unit-float binary64 11 52 refl refl (lit< tt) p N;
-        }
+  pub contiguous-sound : Sound (contiguous xs)
+  contiguous-sound =
+      let p = piece_product 52 (map rate_factor xs) in
+      let N = piece-normal 52 (each_of rate_factor (λ (x : Float). T (fits binary64 x)) (Normalised 52) (λ x f. rate-normal x) v) in
+      let e = ap (λ (a : StableProductFloatAcc). a.m) (contiguous-is v) in
+      record {
+        value = subst (λ (m : Float). T (fits binary64 m)) (sym e) (float_of-fits binary64 11 52 refl refl (with_exponent p (pos 0)));
+        in_unit = ap in_unit e ∙ unit-float binary64 11 52 refl refl (lit< tt) p N;
+      }
 
-  -- ---- lists of pieces
-  abbrev pub HeldPiece : Piece → Type 0
-  HeldPiece p = Each (Held F) p.rates
+-- ---- lists of pieces
+abbrev pub ValuePiece : Piece → Type 0
+ValuePiece p = Each (λ (x : Float). T (fits binary64 x)) p.rates
 
-  pub worked-size : (p : Piece) → HeldPiece p → nat_abs (worked_piece_in F p).e ≤ suc farthest * length p.rates + 8
-  worked-size p v = go p.in_blocks
-    where
-      go : (b : Bool) → nat_abs (worked_in F b p.rates).e ≤ suc farthest * length p.rates + 8
-      go true = contiguous-size v
-      go false =
-          subst (λ (a : StableProductFloatAcc). nat_abs a.e ≤ suc farthest * length p.rates + 8) (sym (stepped-wide F L v)) (stepped-size p.rates)
+pub worked-size : (p : Piece) → ValuePiece p → nat_abs (worked_piece p).e ≤ suc farthest * length p.rates + 8
+worked-size p v = go p.in_blocks
+  where
+    go : (b : Bool) → nat_abs (worked b p.rates).e ≤ suc farthest * length p.rates + 8
+    go true = contiguous-size v
+    go false = stepped-size p.rates
 
-  pub worked-sound : (p : Piece) → HeldPiece p → Sound (worked_piece_in F p)
-  worked-sound p v = go p.in_blocks
-    where
-      go : (b : Bool) → Sound (worked_in F b p.rates)
-      go true = contiguous-sound v
-      go false = subst Sound (sym (stepped-wide F L v)) (stepped-sound p.rates)
+pub worked-sound : (p : Piece) → ValuePiece p → Sound (worked_piece p)
+worked-sound p v = go p.in_blocks
+  where
+    go : (b : Bool) → Sound (worked b p.rates)
+    go true = contiguous-sound v
+    go false = stepped-sound p.rates
 
-  -- a piece of values, at least one
-  pub record FullPiece (p : Piece) : Type 0 where
-    pub some-rate : 0 < length p.rates
-    pub values : HeldPiece p
+-- a piece of values, at least one
+pub record FullPiece (p : Piece) : Type 0 where
+  pub some_rate : 0 < length p.rates
+  pub values : ValuePiece p
 
-  -- pieces joined to one that is within `in_list` for each of n values
-  joined-near : (n : ℕ) (a : StableProductFloatAcc) → Sound a → nat_abs a.e ≤ in_list * n → {ps : List Piece} → Each FullPiece ps
-      → Sound (joined_onto_in F a ps) × (nat_abs (joined_onto_in F a ps).e ≤ in_list * (n + length (rates_of ps)))
-  unfolding rates_of
-  joined-near n a A h none = (A, le_trans h (omega arith))
-  joined-near n a A h (more {x = p} {xs = ps} f fs) =
-      let b = worked_piece_in F p in
-      let k : nat_abs (combined a b).e ≤ in_list * (n + length p.rates) = le_trans (combined-size a b)
-      (let z = worked-size p f.values in let y = f.some_rate in omega arith) in
-      let r = joined-near (n + length p.rates) (combined a b) (combined-sound a b A (worked-sound p f.values)) k fs in
-      (r.0, le_trans r.1 (omega (arith, length-append p.rates (rates_of ps))))
+-- pieces joined to one that is within `in_list` for each of n values
+joined-near : (n : ℕ) (a : StableProductFloatAcc) → Sound a → nat_abs a.e ≤ in_list * n → {ps : List Piece} → Each FullPiece ps
+    → Sound (foldl combined a (map worked_piece ps)) × (nat_abs (foldl combined a (map worked_piece ps)).e ≤ in_list * (n + length (rates_of ps)))
+unfolding rates_of
+joined-near n a A h none = (A, le_trans h (omega arith))
+joined-near n a A h (more {x = p} {xs = ps} f fs) =
+    let b = worked_piece p in
+    let k : nat_abs (combined a b).e ≤ in_list * (n + length p.rates) = le_trans (combined-size a b)
+    (let z = worked-size p f.values in let y = f.some_rate in omega arith) in
+    let r = joined-near (n + length p.rates) (combined a b) (combined-sound a b A (worked-sound p f.values)) k fs in
+    (r.0, le_trans r.1 (omega (arith, length-append p.rates (rates_of ps))))
 
-  pub joined-within : {ps : List Piece} → Each FullPiece ps → Sound (joined_pieces_in F ps) × (nat_abs (joined_pieces_in F ps).e ≤ in_list * length (rates_of ps))
-  unfolding joined_pieces_in rates_of
-  joined-within none = (identity-sound, zero-le)
-  joined-within (more {x = p} {xs = ps} f fs) =
-      let r = joined-near (length p.rates) (worked_piece_in F p) (worked-sound p f.values)
-      (le_trans (worked-size p f.values) (let y = f.some_rate in omega arith)) fs in
-      (r.0, le_trans r.1 (omega (arith, length-append p.rates (rates_of ps))))
+pub joined-within : {ps : List Piece} → Each FullPiece ps → Sound (joined_pieces ps) × (nat_abs (joined_pieces ps).e ≤ in_list * length (rates_of ps))
+unfolding joined_pieces rates_of
+joined-within none = (identity-sound, zero-le)
+joined-within (more {x = p} {xs = ps} f fs) =
+    let r = joined-near (length p.rates) (worked_piece p) (worked-sound p f.values)
+    (le_trans (worked-size p f.values) (let y = f.some_rate in omega arith)) fs in
+    (r.0, le_trans r.1 (omega (arith, length-append p.rates (rates_of ps))))

@@ -1,5 +1,5 @@
 -- A rate whose magnitude lies in 2^-B to 2^B is not bad, and its exponent lies in -B to B. Assumes nothing.
-use Prim.Native.Nat.{ℕ, zero, suc, ◌+◌, ◌*◌, ◌^◌, ◌≤◌, ◌<◌}
+use Prim.Native.Nat.{ℕ, suc, ◌+◌, ◌*◌, ◌^◌, ◌≤◌, ◌<◌}
 use mathlib.Core.Path.{◌≡◌, sym, ap, ◌∙◌}
 use mathlib.Core.Bool.{Bool, true, false, ◌&&◌}
 use native.Mathlib.Nat.{le_trans, le_of_eq, lt_of_not-le, le_of_suc-le-suc, mul_right_comm, mul-le-mul_right, le_of_mul-le-mul_right}
@@ -52,8 +52,8 @@ in-range-good B small x f w = reaching-good B small x f (in-range-reaches B x w)
 most-place : (e : ℤ) (p k : ℕ) → e +ℤ pos 1022 ≡ pos p → p ≤ suc k + 1022 → le_z e (pos (suc k)) ≡ true
 most-place e p k = simp ints (simp atoms (omega arith))
 
-next-exponent : (k : ℕ) → suc k ≤ 1021 → (x : Float) → T (fits binary64 x) → in_range (suc k) x ≡ true → nat_abs (rate_factor x).exp ≤ suc k
-next-exponent k small x f w =
+pub in-range-exponent : (k : ℕ) → suc k ≤ 1021 → (x : Float) → T (fits binary64 x) → in_range (suc k) x ≡ true → nat_abs (rate_factor x).exp ≤ suc k
+in-range-exponent k small x f w =
     leb-true (nat_abs g.exp) (suc k)
     (sym (limits k g.exp)
     ∙ ap (λ (t : Bool). t && le_z g.exp (pos (suc k))) (reaching-exponent k x small f (in-range-reaches B x w))
@@ -80,8 +80,3 @@ next-exponent k small x f w =
         (le_trans (le_of_eq (pow-add 2 52 p)) (le_trans (mul-le-mul_right (2 ^ p) (rate-normal x).least)
         (le_trans (value-most B g.sign (g.sig * 2 ^ p) (2 ^ 1074) x (rate-value x f n) w) (le_of_eq (sym (pow-add 2 B 1074)))))) in
         omega arith
-
--- of a bound above 0
-pub in-range-exponent : (B : ℕ) → 1 ≤ B → B ≤ 1021 → (x : Float) → T (fits binary64 x) → in_range B x ≡ true → nat_abs (rate_factor x).exp ≤ B
-in-range-exponent zero some small x f w = absurd (omega arith)
-in-range-exponent (suc k) some small x f w = next-exponent k small x f w

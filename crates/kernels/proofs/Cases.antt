@@ -8,52 +8,35 @@ use lib.Ieee.{nan, fin, size, odd, to_bits, is_nan}
 use Rattle.floats.specs.Rounding.{delivered, rounded}
 use Rattle.floats.specs.Product.{product}
 use Rattle.floats.specs.Fields.{of_parts, value_of, bad_bits, factor_of}
-use Rattle.floats.specs.Formats.{f64_format, f32_format}
-use Rattle.floats.specs.Splitting.{bad_in, factor_in, split_in}
+use Rattle.floats.specs.Splitting.{is_bad, rate_factor, split}
 use Rattle.accumulator.specs.Joining.{identity_acc}
 use Rattle.kernels.specs.Lanes.{feed, in_order, every, some}
-use Rattle.kernels.specs.Blocks.{unsplit_step, split_step_in, in_range, renorm_lane, renorm, unsplit, block, blocks, lane_in, lanes_in, contiguous_in, contiguous}
+use Rattle.kernels.specs.InnerLanes.{in_bounds}
+use Rattle.kernels.specs.Blocks.{unsplit_step, split_step, in_range, renorm_lane, renorm, unsplit, block, blocks, lane_in, lanes_in, contiguous}
 
--- the bounds of a block of f64: 2^120 is in, the next double above is not; likewise 2^-120 and the next below
-pub bound-in : in_range f64_format.bound (fin true 1 (pos 120)) ≡ true
+-- the bounds of a block: 2^120 is in, the next double above is not; likewise 2^-120 and the next below
+pub bound-in : in_bounds (fin true 1 (pos 120)) ≡ true
 unfolding in_range
 bound-in = refl
 
-pub bound-out : in_range f64_format.bound (fin false (2 ^ 52 + 1) (pos 68)) ≡ false
+pub bound-out : in_bounds (fin false (2 ^ 52 + 1) (pos 68)) ≡ false
 unfolding in_range
 bound-out = refl
 
-pub bound-in-low : in_range f64_format.bound (fin false 1 (negsuc 119)) ≡ true
+pub bound-in-low : in_bounds (fin false 1 (negsuc 119)) ≡ true
 unfolding in_range
 bound-in-low = refl
 
-pub bound-out-low : in_range f64_format.bound (fin false (2 ^ 53 - 1) (negsuc 172)) ≡ false
+pub bound-out-low : in_bounds (fin false (2 ^ 53 - 1) (negsuc 172)) ≡ false
 unfolding in_range
 bound-out-low = refl
 
--- and of f32: 2^30 is in, the next f32 above is not; likewise 2^-30 and the next below
-pub bound-in-32 : in_range f32_format.bound (fin true 1 (pos 30)) ≡ true
-unfolding in_range
-bound-in-32 = refl
-
-pub bound-out-32 : in_range f32_format.bound (fin false (2 ^ 23 + 1) (pos 7)) ≡ false
-unfolding in_range
-bound-out-32 = refl
-
-pub bound-in-low-32 : in_range f32_format.bound (fin false 1 (negsuc 29)) ≡ true
-unfolding in_range
-bound-in-low-32 = refl
-
-pub bound-out-low-32 : in_range f32_format.bound (fin false (2 ^ 24 - 1) (negsuc 53)) ≡ false
-unfolding in_range
-bound-out-low-32 = refl
-
-pub bound-nan : in_range f64_format.bound nan ≡ false
+pub bound-nan : in_bounds nan ≡ false
 unfolding in_range
 bound-nan = refl
 
 -- no value at all: the identity, as the Rust returns at once
 pub none-blocks : contiguous [] ≡ identity_acc
-unfolding contiguous_in blocks block unsplit renorm renorm_lane in_order feed split_step_in unsplit_step in_range every some lane_in lanes_in split_in factor_in factor_of to_bits value_of of_parts
-    delivered bad_in bad_bits product rounded size odd is_nan
+unfolding contiguous blocks block unsplit renorm renorm_lane in_order feed split_step unsplit_step in_range every some lane_in lanes_in split rate_factor factor_of to_bits value_of of_parts
+    delivered is_bad bad_bits product rounded size odd is_nan
 none-blocks = refl

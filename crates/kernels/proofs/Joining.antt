@@ -7,18 +7,17 @@ use lib.Ieee.{Float, binary64, fits}
 use Rattle.floats.specs.Product.{product_of}
 use Rattle.floats.specs.Factor.{Factor, Normalised, unit, times, float_of}
 use Rattle.floats.specs.Magnitude.{in_unit, two_or_more, factor_at, with_exponent}
-use Rattle.floats.specs.Formats.{RateFormat, Lawful}
-use Rattle.floats.specs.Splitting.{bad_in, factor_in, split_in}
+use Rattle.floats.specs.Splitting.{is_bad, rate_factor, split}
 use Rattle.floats.proofs.Bridge.{float_of-fits}
 use Rattle.floats.proofs.Magnitude.{unit-float, factor-at-float, float_at}
-use Rattle.floats.proofs.AnyFormat.{split-in-bad}
+use Rattle.floats.proofs.Splitting.{split-bad}
 use Rattle.accumulator.specs.declared.StableProductFloatAcc.{StableProductFloatAcc}
 use Rattle.accumulator.specs.Joining.{identity_acc, factor_of_acc, multiplied, combined}
 use Rattle.accumulator.proofs.Combining.{acc-same, combined-bad, combined-good, multiplied-two, multiplied-less}
 use Rattle.accumulator.proofs.Joins.{multiplied-unit, multiplied-fits, multiplied-times}
 use Rattle.kernels.specs.Stepped.{rate_acc}
-use Rattle.kernels.specs.Pieces.{GoodRateIn, acc_of}
-use Rattle.kernels.proofs.Standing.{represents-rate-in, represents-one, represents-acc}
+use Rattle.kernels.specs.Pieces.{GoodRate, acc_of}
+use Rattle.kernels.proofs.Standing.{represents-rate, represents-one, represents-acc}
 
 -- ---- the mark
 multiplied-mark : (a b : StableProductFloatAcc) → (multiplied a b).bad ≡ false
@@ -82,13 +81,12 @@ pub identity-is : identity_acc ≡ acc_of (unit 52)
 identity-is = represents-acc identity_acc.m identity_acc.e (unit 52) represents-one
 
 -- a rate that is not bad is the accumulator of its factor
-pub rate-is : (F : RateFormat) → Lawful F → (x : Float) → GoodRateIn F x → rate_acc F x ≡ acc_of (factor_in F x)
+pub rate-is : (x : Float) → GoodRate x → rate_acc x ≡ acc_of (rate_factor x)
 unfolding rate_acc
-rate-is F L x r =
-    let p = split_in F x in
-    ap (λ (b : Bool). record { m = p.m; e = p.e; bad = b }) (split-in-bad F x ∙ r.good)
-    ∙ represents-acc p.m p.e (factor_in F x) (represents-rate-in F L x)
+rate-is x r =
+    ap (λ (b : Bool). record { m = (split x).m; e = (split x).e; bad = b }) (split-bad x ∙ r.good)
+    ∙ represents-acc (split x).m (split x).e (rate_factor x) (represents-rate x)
 
-pub rate-mark : (F : RateFormat) (x : Float) → (rate_acc F x).bad ≡ bad_in F x
+pub rate-mark : (x : Float) → (rate_acc x).bad ≡ is_bad x
 unfolding rate_acc
-rate-mark F x = split-in-bad F x
+rate-mark x = split-bad x

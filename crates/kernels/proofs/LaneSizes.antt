@@ -10,13 +10,12 @@ use lib.Ieee.{Float, nan}
 use lib.Seq.{get_or-set_other}
 use Rattle.floats.specs.Product.{product_of}
 use Rattle.floats.specs.Splitting.{split}
-use Rattle.floats.proofs.AnyFormat.{farthest}
+use Rattle.floats.proofs.Splitting.{farthest}
 use Rattle.floats.proofs.Factor.{add-size}
 use Rattle.kernels.specs.declared.lanes.Lanes.{Lanes}
 use Rattle.kernels.specs.Lanes.{feed, lane_of, in_order}
-use Rattle.kernels.specs.Blocks.{m_of, e_of, unsplit_step, split_step_in, renorm_lane}
+use Rattle.kernels.specs.Blocks.{m_of, e_of, unsplit_step, split_step, renorm_lane}
 use Rattle.kernels.specs.InnerLanes.{SmallLanes}
-use Rattle.kernels.specs.InnerDoubles.{split_step}
 use Rattle.kernels.proofs.Feeding.{feed-holds, order-keeps}
 use Rattle.kernels.proofs.Sizes.{set-either, split-size}
 
@@ -31,7 +30,7 @@ module _ (n : ℕ) (s : Lanes) (h : SmallLanes n s) where
       (le_trans (add-size (e_of s j) (split x).e) (add-le-add (h.at j) (split-size x))) (le_trans (h.at k) (omega arith))
 
   pub step_small : (i : ℕ) (x : Float) → SmallLanes (n + farthest) (split_step i s x)
-  unfolding split_step_in
+  unfolding split_step
   step_small i x = record { at = λ k. added (lane_of i) k x }
 
   pub renorm-lane-small : (j : ℕ) → SmallLanes (n + farthest) (renorm_lane j s)
@@ -73,5 +72,5 @@ unfolding unsplit_step
 unsplit-eight = feed-holds unsplit_step Eight (λ i s x h. length-set s.m (lane_of i) (product_of 11 52 (m_of s (lane_of i)) x) ∙ h)
 
 pub split-eight : (i : ℕ) (s : Lanes) (xs : List Float) → Eight s → Eight (feed split_step i s xs)
-unfolding split_step_in
+unfolding split_step
 split-eight = feed-holds split_step Eight (λ i s x h. length-set s.m (lane_of i) (product_of 11 52 (m_of s (lane_of i)) (split x).m) ∙ h)

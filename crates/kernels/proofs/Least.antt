@@ -21,7 +21,7 @@ use Rattle.integers.proofs.Difference.{ints, atoms}
 use Rattle.floats.specs.Rounding.{delivered}
 use Rattle.floats.specs.Factor.{Factor}
 use Rattle.floats.specs.Fields.{sign_field, exp_field, fraction, of_parts}
-use Rattle.floats.specs.Splitting.{bad_in, bits_of, is_bad, rate_factor}
+use Rattle.floats.specs.Splitting.{bits_of, is_bad, rate_factor}
 use Rattle.floats.specs.InnerKinds.{is_subnormal}
 use Rattle.floats.proofs.Fields.{fraction-lt, field_lt}
 use Rattle.floats.proofs.Bridge.{delivered-units, room, float_of-value}
@@ -104,7 +104,7 @@ module _ (B : ℕ) (small : B ≤ 1021) (x : Float) (f : T (fits binary64 x)) (w
   reaching-normal = field-normal (sign_field 11 52 (bits_of x)) (exp_field 11 52 (bits_of x)) (fraction 52 (bits_of x)) (fraction-lt 52 (bits_of x)) refl (rate-parts x f)
 
   pub reaching-good : is_bad x ≡ false
-  unfolding bad_in
+  unfolding is_bad
   reaching-good = normal-good 11 52 (bits_of x) reaching-normal
 
 -- ---- subnormal: a number below 2^-1022 that is no zero
@@ -153,7 +153,7 @@ module _ (x : Float) (f : T (fits binary64 x)) (some : reaches 1074 x ≡ true) 
 -- a normal number, by its factor
 pub rate-value : (x : Float) → T (fits binary64 x) → (n : Normal x)
     → HasValue x (rate_factor x).sign ((rate_factor x).sig * 2 ^ (rate-range x n).place) (2 ^ 1074)
-unfolding bad_in
+unfolding is_bad
 rate-value x f n =
     let g = rate_factor x in
     let R = rate-range x n in

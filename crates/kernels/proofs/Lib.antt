@@ -10,8 +10,6 @@ pub mod Least
 pub mod Bounds
 pub mod Blocking
 pub mod Sizes
-pub mod AnyFormat
-pub mod Shifting
 pub mod Bounded
 pub mod Agreement
 pub mod Theorems

@@ -11,9 +11,7 @@ use lib.Ieee.{Float}
 use Rattle.floats.specs.Product.{product_of}
 use Rattle.floats.specs.Magnitude.{two_or_more}
 use Rattle.floats.specs.Splitting.{split}
-use Rattle.floats.specs.Formats.{f64_format}
-use Rattle.floats.proofs.AnyFormat.{farthest}
-use Rattle.floats.proofs.Splitting.{rate-size, split-e}
+use Rattle.floats.proofs.Splitting.{farthest, rate-size, split-e}
 use Rattle.floats.proofs.Factor.{add-size}
 use Rattle.accumulator.specs.declared.StableProductFloatAcc.{StableProductFloatAcc}
 use Rattle.accumulator.specs.Joining.{combined, multiplied}
@@ -44,7 +42,7 @@ in_list = farthest + 10
 pub split-size : (x : Float) → nat_abs (split x).e ≤ farthest
 split-size x = subst (λ (z : ℤ). nat_abs z ≤ farthest) (sym (split-e x)) (rate-size x)
 
-pub rate-acc-size : (x : Float) → nat_abs (rate_acc f64_format x).e ≤ farthest
+pub rate-acc-size : (x : Float) → nat_abs (rate_acc x).e ≤ farthest
 unfolding rate_acc
 rate-acc-size x = split-size x
 

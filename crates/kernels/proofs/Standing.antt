@@ -12,14 +12,12 @@ use Rattle.integers.proofs.Difference.{ints, atoms, is-diff, at-pos}
 use Rattle.floats.specs.Product.{product_of}
 use Rattle.floats.specs.Factor.{Factor, Normalised, NormalExponent, unit, carry, times, float_of}
 use Rattle.floats.specs.Magnitude.{with_exponent}
-use Rattle.floats.specs.Formats.{RateFormat, f64_format, Lawful}
-use Rattle.floats.specs.Splitting.{factor_in, split_in, is_bad, rate_factor, split}
+use Rattle.floats.specs.Splitting.{is_bad, rate_factor, split}
 use Rattle.floats.proofs.Factor.{factor-same, unit-normal, times-normal, carry-le, add-size}
 use Rattle.floats.proofs.Bridge.{product-times}
 use Rattle.floats.proofs.Magnitude.{moved-normal}
 use Rattle.floats.specs.InnerKinds.{is_subnormal}
-use Rattle.floats.proofs.AnyFormat.{factor-in-normal, split-in-m, split-in-e}
-use Rattle.floats.proofs.Splitting.{f64-lawful, split-m, split-e, rate-normal, rate-float, float-rate, float-other}
+use Rattle.floats.proofs.Splitting.{split-m, split-e, rate-normal, rate-float, float-rate, float-other}
 use Rattle.accumulator.specs.declared.StableProductFloatAcc.{StableProductFloatAcc}
 use Rattle.accumulator.proofs.Combining.{acc-same}
 use Rattle.kernels.specs.Pieces.{acc_of}
@@ -86,18 +84,9 @@ pub represents-split : (B : ℕ) (m : Float) (e : ℤ) (f : Factor) → B ≤ 10
 represents-split B m e f h s = range_split m e f s.off (near-in f s.off (le_trans s.near h)) s.m_is s.e_is s.normal
 
 -- ---- rates
--- a rate of a lawful format, split
-pub represents-rate-in : (F : RateFormat) → Lawful F → (x : Float) → Represents 0 (split_in F x).m (split_in F x).e (factor_in F x)
-represents-rate-in F L x = record {
-  off = pos 0;
-  near = le_refl 0;
-  m_is = split-in-m F L x;
-  e_is = sym (split-in-e F x) ∙ sym (+ℤ_idr (split_in F x).e);
-  normal = factor-in-normal F L x;
-}
-
+-- a rate, split
 pub represents-rate : (x : Float) → Represents 0 (split x).m (split x).e (rate_factor x)
-represents-rate = represents-rate-in f64_format f64-lawful
+represents-rate x = record { off = pos 0; near = le_refl 0; m_is = split-m x; e_is = sym (split-e x) ∙ sym (+ℤ_idr (split x).e); normal = rate-normal x }
 
 -- a rate as it is, at the exponent 0
 pub represents-whole : (C : ℕ) (x : Float) → T (fits binary64 x) → is_bad x ≡ false → nat_abs (rate_factor x).exp ≤ C → Represents C x (pos 0) (rate_factor x)

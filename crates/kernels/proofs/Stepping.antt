@@ -15,18 +15,16 @@ use borrow.Author.Tests.{ltb-true, ltb-false}
 use Rattle.floats.specs.Factor.{Factor, Normalised, unit, times}
 use Rattle.floats.specs.Splitting.{is_bad, rate_factor}
 use Rattle.floats.proofs.Factor.{unit-normal, times-normal}
-use Rattle.floats.specs.Formats.{f64_format}
-use Rattle.floats.proofs.Splitting.{f64-lawful, rate-normal}
+use Rattle.floats.proofs.Splitting.{rate-normal}
 use Rattle.accumulator.specs.declared.StableProductFloatAcc.{StableProductFloatAcc}
 use Rattle.accumulator.specs.Joining.{identity_acc, combined}
 use Rattle.accumulator.proofs.Combining.{combined-bad}
 use Rattle.laws.specs.Lists.{Each, none, more}
 use Rattle.kernels.specs.Lanes.{feed, lane_of, in_order, some}
 use Rattle.kernels.specs.InnerPlain.{lane_times, lanes, piece_product}
-use Rattle.kernels.specs.Stepped.{rate_acc, acc_at, lane_joined, stepped_lanes, lanes_joined, stepped_in}
+use Rattle.kernels.specs.Stepped.{rate_acc, acc_at, lane_joined, stepped_lanes, lanes_joined, stepped}
 use Rattle.kernels.specs.InnerStepped.{lower, bad_step, first_bad}
-use Rattle.kernels.specs.Pieces.{acc_of}
-use Rattle.kernels.specs.InnerDoubles.{stepped, GoodRate}
+use Rattle.kernels.specs.Pieces.{GoodRate, acc_of}
 use Rattle.kernels.proofs.Feeding.{order-keeps, each_map, some-append, some_one, some-set}
 use Rattle.kernels.proofs.Factors.{lane-lt, set_cases}
 use Rattle.kernels.proofs.Joining.{combined-mark, combined-times, identity-is, rate-is, rate-mark}
@@ -67,7 +65,7 @@ module _ (i : ℕ) (ls : List StableProductFloatAcc) (fs : List Factor) (k : ℕ
   l = lane_of i
 
   a : StableProductFloatAcc
-  a = combined (acc_at ls l) (rate_acc f64_format x)
+  a = combined (acc_at ls l) (rate_acc x)
 
   f : Factor
   f = times 52 (get_or fs l (unit 52)) (rate_factor x)
@@ -97,8 +95,8 @@ module _ (i : ℕ) (ls : List StableProductFloatAcc) (fs : List Factor) (k : ℕ
   unfolding a
   marked h =
       ap (λ (c : StableProductFloatAcc). c.bad) here.0
-      ∙ combined-mark (acc_at ls l) (rate_acc f64_format x)
-      ∙ ap (λ (b : Bool). (acc_at ls l).bad || b) (rate-mark f64_format x)
+      ∙ combined-mark (acc_at ls l) (rate_acc x)
+      ∙ ap (λ (b : Bool). (acc_at ls l).bad || b) (rate-mark x)
       ∙ h
 
   same : (j : ℕ) → j < k → (j ≡ l → ⊥) → GoodLane (set ls l a) (set fs l f) j
@@ -113,8 +111,8 @@ module _ (i : ℕ) (ls : List StableProductFloatAcc) (fs : List Factor) (k : ℕ
       let g = P.good l h in
       let w = get_or fs l (unit 52) in (
         here.0
-            ∙ ap (λ (c : StableProductFloatAcc). combined c (rate_acc f64_format x)) g.0
-            ∙ ap (combined (acc_of w)) (rate-is f64_format f64-lawful x (record { value = v; good = e }))
+            ∙ ap (λ (c : StableProductFloatAcc). combined c (rate_acc x)) g.0
+            ∙ ap (combined (acc_of w)) (rate-is x (record { value = v; good = e }))
             ∙ combined-times w (rate_factor x) g.1 (rate-normal x)
             ∙ ap acc_of (sym here.1),
         subst (Normalised 52) (sym here.1) (times-normal 52 w (rate_factor x) g.1 (rate-normal x)),
@@ -178,16 +176,16 @@ module _ (i : ℕ) (ls : List StableProductFloatAcc) (fs : List Factor) (k : ℕ
           ap (λ (m : ℕ). (acc_at (set ls l a) m).bad) (first (ltb-false k l p))
           ∙ marked (ap (λ (b : Bool). (acc_at ls l).bad || b) e ∙ or-true (acc_at ls l).bad)
 
-  parted-more : Parted (lane_joined f64_format i ls x) (lane_times 52 i fs (rate_factor x)) (bad_step i k x)
+  parted-more : Parted (lane_joined i ls x) (lane_times 52 i fs (rate_factor x)) (bad_step i k x)
   unfolding lane_joined l a f
   parted-more = next (is_bad x) refl
 
 parted-all : (i : ℕ) (ls : List StableProductFloatAcc) (fs : List Factor) (k : ℕ) {xs : List Float} → Each Value xs → Parted ls fs k
-    → Parted (feed (lane_joined f64_format) i ls xs) (feed (lane_times 52) i fs (map rate_factor xs)) (feed bad_step i k xs)
+    → Parted (feed lane_joined i ls xs) (feed (lane_times 52) i fs (map rate_factor xs)) (feed bad_step i k xs)
 unfolding feed
 parted-all i ls fs k none P = P
 parted-all i ls fs k (more {x = x} v vs) P =
-    parted-all (suc i) (lane_joined f64_format i ls x) (lane_times 52 i fs (rate_factor x)) (bad_step i k x) vs (parted-more i ls fs k x v P)
+    parted-all (suc i) (lane_joined i ls x) (lane_times 52 i fs (rate_factor x)) (bad_step i k x) vs (parted-more i ls fs k x v P)
 
 -- ---- joined in lane order: the factors' product before lane k, and its mark alone from there on
 abbrev joined_in : List StableProductFloatAcc → ℕ → StableProductFloatAcc → StableProductFloatAcc
@@ -238,18 +236,18 @@ abbrev bad : StableProductFloatAcc → Bool
 bad a = a.bad
 
 marks : (i : ℕ) (ls : List StableProductFloatAcc) (xs : List Float) → length ls ≡ 8
-    → (length (feed (lane_joined f64_format) i ls xs) ≡ 8) × (some bad (feed (lane_joined f64_format) i ls xs) ≡ (some bad ls || some is_bad xs))
+    → (length (feed lane_joined i ls xs) ≡ 8) × (some bad (feed lane_joined i ls xs) ≡ (some bad ls || some is_bad xs))
 unfolding feed lane_joined some
 marks i ls [] h = (h, sym (or-false (some bad ls)))
 marks i ls (x ∷ xs) h =
     let j = lane_of i in
-    let a = combined (acc_at ls j) (rate_acc f64_format x) in
+    let a = combined (acc_at ls j) (rate_acc x) in
     let r = marks (suc i) (set ls j a) xs (length-set ls j a ∙ h) in (
       r.0,
       r.1
           ∙ ap (λ (b : Bool). b || some is_bad xs)
           (some-set bad ls j no_acc a (is_bad x) (subst (λ (n : ℕ). j < n) (sym h) (lane-lt i))
-          (combined-mark (acc_at ls j) (rate_acc f64_format x) ∙ ap (λ (b : Bool). (acc_at ls j).bad || b) (rate-mark f64_format x)))
+          (combined-mark (acc_at ls j) (rate_acc x) ∙ ap (λ (b : Bool). (acc_at ls j).bad || b) (rate-mark x)))
           ∙ or_assoc (some bad ls) (is_bad x) (some is_bad xs),
     )
 
@@ -276,17 +274,17 @@ lanes-joined-mark ls h =
 
 -- the mark is set exactly if some rate of the piece is bad
 pub stepped-mark : (xs : List Float) → (stepped xs).bad ≡ some is_bad xs
-unfolding stepped_in stepped_lanes some
+unfolding stepped stepped_lanes some
 stepped-mark xs =
     let r = marks 0 (replicate 8 identity_acc) xs (length-replicate 8 identity_acc) in
-    lanes-joined-mark (feed (lane_joined f64_format) 0 (replicate 8 identity_acc) xs) r.0 ∙ r.1 ∙ ap (λ (b : Bool). b || some is_bad xs) none
+    lanes-joined-mark (feed lane_joined 0 (replicate 8 identity_acc) xs) r.0 ∙ r.1 ∙ ap (λ (b : Bool). b || some is_bad xs) none
   where
     none : some bad (replicate 8 identity_acc) ≡ false
     none = refl
 
 -- ---- a piece
 module _ (xs : List Float) (v : Each Value xs) where
-  parted : Parted (stepped_lanes f64_format xs) (lanes 52 (map rate_factor xs)) (first_bad xs)
+  parted : Parted (stepped_lanes xs) (lanes 52 (map rate_factor xs)) (first_bad xs)
   unfolding stepped_lanes lanes first_bad
   parted = parted-all 0 (replicate 8 identity_acc) (replicate 8 (unit 52)) 8 v parted-start
 
@@ -294,12 +292,12 @@ module _ (xs : List Float) (v : Each Value xs) where
   first-few = parted.few
 
   pub joined-before : first_bad xs < 8 → stepped xs ≡ marked_of (in_order (times-in (lanes 52 (map rate_factor xs))) (first_bad xs) (unit 52))
-  unfolding stepped_in lanes_joined
-  joined-before h = after (stepped_lanes f64_format xs) (lanes 52 (map rate_factor xs)) (first_bad xs) parted h 8 h
+  unfolding stepped lanes_joined
+  joined-before h = after (stepped_lanes xs) (lanes 52 (map rate_factor xs)) (first_bad xs) parted h 8 h
 
   -- with a bad value, some lane met it
   pub some_first : some is_bad xs ≡ true → first_bad xs < 8
-  unfolding stepped_in lanes_joined
+  unfolding stepped lanes_joined
   some_first e = go (ltb (first_bad xs) 8) refl
     where
       go : (t : Bool) → ltb (first_bad xs) 8 ≡ t → first_bad xs < 8
@@ -310,7 +308,7 @@ module _ (xs : List Float) (v : Each Value xs) where
           (sym e
           ∙ sym (stepped-mark xs)
           ∙ ap (λ (a : StableProductFloatAcc). a.bad)
-          (before (stepped_lanes f64_format xs) (lanes 52 (map rate_factor xs)) (first_bad xs) parted 8 (ltb-false (first_bad xs) 8 q)).0))
+          (before (stepped_lanes xs) (lanes 52 (map rate_factor xs)) (first_bad xs) parted 8 (ltb-false (first_bad xs) 8 q)).0))
 
 -- ---- no bad rate
 none_first : (i k : ℕ) {xs : List Float} → Each GoodRate xs → feed bad_step i k xs ≡ k
@@ -320,7 +318,7 @@ none_first i k (more {x = x} {xs = xs} r rs) = ap (λ (b : Bool). feed bad_step 
 
 -- with no bad rate, stepped lanes give the plain product of the piece
 pub stepped-agrees : {xs : List Float} → Each GoodRate xs → stepped xs ≡ acc_of (piece_product 52 (map rate_factor xs))
-unfolding stepped_in lanes_joined piece_product first_bad
+unfolding stepped lanes_joined piece_product first_bad
 stepped-agrees {xs} R =
-    (before (stepped_lanes f64_format xs) (lanes 52 (map rate_factor xs)) (first_bad xs) (parted xs (each_map GoodRate Value (λ x r. r.value) R)) 8
+    (before (stepped_lanes xs) (lanes 52 (map rate_factor xs)) (first_bad xs) (parted xs (each_map GoodRate Value (λ x r. r.value) R)) 8
     (le_of_eq (sym (none_first 0 8 R)))).0

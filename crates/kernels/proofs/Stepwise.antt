@@ -15,9 +15,8 @@ use Rattle.floats.specs.declared.Split.{Split}
 use Rattle.floats.proofs.Product.{mul-binary64}
 use Rattle.kernels.specs.declared.lanes.Lanes.{Lanes}
 use Rattle.kernels.specs.Lanes.{lane_of}
-use Rattle.kernels.specs.Blocks.{m_of, e_of, unsplit_step, split_step_in, renorm_lane}
+use Rattle.kernels.specs.Blocks.{m_of, e_of, unsplit_step, split_step, renorm_lane}
 use Rattle.kernels.specs.InnerLanes.{SmallLanes, split_into}
-use Rattle.kernels.specs.InnerDoubles.{split_step}
 use Rattle.accumulator.proofs.Exponents.{sum_fits, sum-exact}
 use Rattle.kernels.proofs.Factors.{lane-again}
 use Rattle.kernels.proofs.Sizes.{split-size}
@@ -63,7 +62,7 @@ split-near x p e = subst (λ (q : Split). nat_abs q.e ≤ 2 ^ 61) (sym e) (le_tr
 
 -- value i in its lane, and value k of a vector in lane k
 pub split-lane : (i : ℕ) (s : Lanes) (x : Float) (p : Split) → p ≡ split x → split_into (lane_of i) s p ≡ split_step i s x
-unfolding split_step_in
+unfolding split_step
 split-lane i s x p e = ap (split_into (lane_of i) s) e
 
 pub split-own : (k : ℕ) (s : Lanes) (x : Float) (p : Split) → k < 8 → p ≡ split x → split_into k s p ≡ split_step k s x

@@ -13,12 +13,11 @@ use lib.Ieee.{Float, nan, binary64, fits}
 use mir.Val.{SFits, to_z, of_z}
 use mir.ValLaws.{to_z-of_z}
 use mir.Syntax.{w64}
-use Rattle.integers.proofs.Places.{place-first, place-later}
+use Rattle.integers.proofs.Places.{place-first}
 use Rattle.integers.proofs.Difference.{ints, atoms}
 use Rattle.laws.specs.Lists.{Each, none, more}
 use Rattle.kernels.specs.InnerStrided.{strided, PlacesInside}
-use Rattle.floats.specs.Formats.{RateFormat, f64_format}
-use Rattle.kernels.proofs.Blocking.{Held, Value}
+use Rattle.kernels.proofs.Blocking.{Value}
 
 -- ---- places
 
@@ -87,21 +86,10 @@ strided-append xs s t (suc a) b =
     further = simp ints (simp atoms (omega arith))
 
 -- the values of a slice of f64 are values of binary64, and so are those that lie a stride apart
--- value i
-pub strided-at : (xs : List Float) (s d : ℤ) (n i : ℕ) → i < n → (y : Float) → get_or (strided xs s d n) i y ≡ get_or xs (nat_abs (s +ℤ d *ℤ pos i)) nan
-unfolding strided
-strided-at xs s d zero i h y = absurd (omega arith)
-strided-at xs s d (suc n) zero h y = ap (λ (z : ℤ). get_or xs (nat_abs z) nan) (place-first s d)
-strided-at xs s d (suc n) (suc i) h y = strided-at xs (s +ℤ d) d n i (omega arith) y ∙ ap (λ (z : ℤ). get_or xs (nat_abs z) nan) (place-later s d i)
-
--- values of a format
-pub strided-held : (F : RateFormat) (xs : List Float) → ((i : ℕ) → T (F.holds (get_or xs i nan))) → (s d : ℤ) (n : ℕ) → Each (Held F) (strided xs s d n)
-unfolding strided
-strided-held F xs v s d zero = none
-strided-held F xs v s d (suc n) = more (v (nat_abs s)) (strided-held F xs v (s +ℤ d) d n)
-
 pub strided-values : (xs : List Float) → ((i : ℕ) → T (fits binary64 (get_or xs i nan))) → (s d : ℤ) (n : ℕ) → Each Value (strided xs s d n)
-strided-values = strided-held f64_format
+unfolding strided
+strided-values xs v s d zero = none
+strided-values xs v s d (suc n) = more (v (nat_abs s)) (strided-values xs v (s +ℤ d) d n)
 
 -- ---- at stride 1 the values lie side by side
 pub strided-window : (xs : List Float) (at n : ℕ) → at + n ≤ length xs → take n (drop at xs) ≡ strided xs (pos at) (pos 1) n

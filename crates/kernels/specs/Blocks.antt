@@ -1,10 +1,10 @@
--- Rule A4, blocks (`stable_float_contiguous`), over the values of a piece, bad ones too: of a format, and of f64, whose blocks have 64 values.
+-- Rule A4, blocks of 64 (`stable_float_contiguous`), over the values of a piece, bad ones too.
 use Rattle.std.specs.Prelude.{ℕ, zero, suc, ◌*◌, ◌/◌, ◌^◌, List, Bool, false, not, cond, ◌&&◌, ◌||◌, length, get_or, set, take, drop, replicate, ℤ, pos, ◌+ℤ◌, leb, Float}
 use Rattle.std.specs.Float.{nan, inf, fin}
 use Rattle.std.specs.Float.Ieee.{up, down, is_nan}
-use Rattle.floats.specs.Formats.{RateFormat, f64_format}
+use Rattle.floats.specs.Formats.{f64_format}
 use Rattle.floats.specs.Product.{product_of}
-use Rattle.floats.specs.Splitting.{split_in, split}
+use Rattle.floats.specs.Splitting.{split}
 use Rattle.accumulator.specs.declared.StableProductFloatAcc.{StableProductFloatAcc}
 use Rattle.accumulator.specs.Joining.{identity_acc}
 use Rattle.kernels.specs.declared.lanes.Lanes.{Lanes}
@@ -25,11 +25,10 @@ unfoldable pub unsplit_step : ℕ → Lanes → Float → Lanes
 unsplit_step i s x = let k = lane_of i in record { m = set s.m k (product_of 11 52 (m_of s k) x); e = s.e; bad = s.bad }
 
 -- value i split: its m multiplied into lane i mod 8, its e added there, and its mark kept
-unfoldable pub split_step_in : RateFormat → ℕ → Lanes → Float → Lanes
-split_step_in F i s x =
+unfoldable pub split_step : ℕ → Lanes → Float → Lanes
+split_step i s x =
     let k = lane_of i in
-    let p = split_in F x in
-    record { m = set s.m k (product_of 11 52 (m_of s k) p.m); e = set s.e k (e_of s k +ℤ p.e); bad = s.bad || p.bad }
+    record { m = set s.m k (product_of 11 52 (m_of s k) (split x).m); e = set s.e k (e_of s k +ℤ (split x).e); bad = s.bad || (split x).bad }
 
 -- the magnitude lies in 2^-B to 2^B, both ends included; a NaN's does not
 unfoldable pub in_range : ℕ → Float → Bool
@@ -47,20 +46,20 @@ unfoldable pub renorm : Lanes → Lanes
 renorm s = in_order renorm_lane 8 s
 
 -- A block is multiplied unsplit exactly if every magnitude lies in the bounds and no tentative lane is NaN; otherwise each value is split.
-unfoldable pub unsplit : RateFormat → Lanes → List Float → Bool
-unsplit F s xs = every (in_range F.bound) xs && not (some is_nan (feed unsplit_step 0 s xs).m)
+unfoldable pub unsplit : Lanes → List Float → Bool
+unsplit s xs = every (in_range f64_format.bound) xs && not (some is_nan (feed unsplit_step 0 s xs).m)
 
-unfoldable pub block : RateFormat → Lanes → List Float → Lanes
-block F s xs = renorm (cond (unsplit F s xs) (feed unsplit_step 0 s xs) (feed (split_step_in F) 0 s xs))
+unfoldable pub block : Lanes → List Float → Lanes
+block s xs = renorm (cond (unsplit s xs) (feed unsplit_step 0 s xs) (feed split_step 0 s xs))
 
--- the values of a block: 64 of f64, 32 of f32
-abbrev pub block_length : RateFormat → ℕ
-block_length F = 8 * F.each
+-- the values of a block: 64
+abbrev pub block_length : ℕ
+block_length = 8 * f64_format.each
 
--- n blocks, and then the values that are left, split
-unfoldable pub blocks : RateFormat → ℕ → Lanes → List Float → Lanes
-blocks F zero s xs = renorm (feed (split_step_in F) 0 s xs)
-blocks F (suc n) s xs = blocks F n (block F s (take (block_length F) xs)) (drop (block_length F) xs)
+-- n blocks of 64, and then the values that are left, split
+unfoldable pub blocks : ℕ → Lanes → List Float → Lanes
+blocks zero s xs = renorm (feed split_step 0 s xs)
+blocks (suc n) s xs = blocks n (block s (take block_length xs)) (drop block_length xs)
 
 -- the product so far times lane k, brought back likewise
 unfoldable pub lane_in : Lanes → ℕ → StableProductFloatAcc → StableProductFloatAcc
@@ -72,9 +71,5 @@ lane_in s k a =
 unfoldable pub lanes_in : Lanes → StableProductFloatAcc
 lanes_in s = in_order (lane_in s) 8 (record { m = identity_acc.m; e = identity_acc.e; bad = s.bad })
 
-unfoldable pub contiguous_in : RateFormat → List Float → StableProductFloatAcc
-contiguous_in F xs = lanes_in (blocks F (length xs / block_length F) start_lanes xs)
-
--- the same of f64
-abbrev pub contiguous : List Float → StableProductFloatAcc
-contiguous = contiguous_in f64_format
+unfoldable pub contiguous : List Float → StableProductFloatAcc
+contiguous xs = lanes_in (blocks (length xs / block_length) start_lanes xs)

@@ -3,15 +3,19 @@ use Rattle.std.specs.Prelude.{ℕ, ◌≤◌, ◌<◌, List, map, Bool, false, �
 use Rattle.std.specs.Float.{nan}
 use Rattle.floats.specs.declared.Split.{Split}
 use Rattle.floats.specs.Product.{product_of}
-use Rattle.floats.specs.Splitting.{factor_in, is_bad}
+use Rattle.floats.specs.Splitting.{is_bad, rate_factor}
 use Rattle.floats.specs.InnerKinds.{is_subnormal}
 use Rattle.kernels.specs.declared.lanes.Lanes.{Lanes}
 use Rattle.kernels.specs.Lanes.{feed, some}
 use Rattle.floats.specs.Factor.{Factor, Normalised, unit, float_of}
 use Rattle.floats.specs.Magnitude.{with_exponent}
 use Rattle.kernels.specs.InnerPlain.{lane_times}
-use Rattle.kernels.specs.Blocks.{m_of, e_of}
-use Rattle.floats.specs.Formats.{RateFormat, f64_format}
+use Rattle.kernels.specs.Blocks.{m_of, e_of, in_range}
+use Rattle.floats.specs.Formats.{f64_format}
+
+-- the bounds of a block of f64
+abbrev pub in_bounds : Float → Bool
+in_bounds = in_range f64_format.bound
 
 -- a value that is split as p, put into lane k
 abbrev pub split_into : ℕ → Lanes → Split → Lanes
@@ -53,11 +57,8 @@ abbrev pub zeros : ℕ → ℕ
 zeros k = 0
 
 -- what the rates xs make of the factors of eight plain lanes
-abbrev pub plain_after_in : RateFormat → List Factor → List Float → List Factor
-plain_after_in F fs xs = feed (lane_times 52) 0 fs (map (factor_in F) xs)
-
 abbrev pub plain_after : List Factor → List Float → List Factor
-plain_after = plain_after_in f64_format
+plain_after fs xs = feed (lane_times 52) 0 fs (map rate_factor xs)
 
 -- r is what lanes s in [1, 2) become by the values xs, in whatever way: the factors are the plain lanes', in [1, 2) again, and every bad value sets the mark
 pub record LanesAfter (s : Lanes) (xs : List Float) (r : Lanes) : Type 0 where

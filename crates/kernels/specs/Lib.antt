@@ -5,9 +5,7 @@ pub mod Stepped
 pub mod Blocks
 pub mod Pieces
 pub mod Theorems
-pub mod InnerDoubles
 pub mod InnerPlain
 pub mod InnerStrided
 pub mod InnerStepped
 pub mod InnerLanes
-pub mod InnerShift

@@ -1,8 +1,8 @@
 -- Rule W2, the plain product of a list of pieces, in whole numbers: no float is in it, and its lanes and their order are in words of its own.
--- Over factors for a fraction of any width t; over rates as bit patterns for the widths w and t of their format, each factor widened to 53 digits.
+-- Over factors for a fraction of any width t; over rates as bit patterns for the widths w and t (the rule has 11 and 52).
 use Rattle.std.specs.Prelude.{ℕ, zero, suc}
 use mathlib.Core.List.{List, [], ◌∷◌, map, foldl}
-use Rattle.floats.specs.Factor.{Factor, widened, unit, times}
+use Rattle.floats.specs.Factor.{Factor, unit, times}
 use Rattle.floats.specs.Fields.{factor_of}
 
 -- the rates of a lane: `skip` rates are left out, the next is taken, and after it every eighth
@@ -24,10 +24,6 @@ unfoldable pub list_product : ℕ → List (List Factor) → Factor
 list_product t [] = unit t
 list_product t (p ∷ ps) = foldl (times t) (plain_piece t p) (map (plain_piece t) ps)
 
--- the factor of a rate's pattern, as it is multiplied
-abbrev pub wide_factor : ℕ → ℕ → ℕ → Factor
-wide_factor w t b = widened t (factor_of w t b)
-
 -- The plain product of a list of pieces, each a list of rates as bit patterns, none of them bad.
 unfoldable pub plain_product : ℕ → ℕ → List (List ℕ) → Factor
-plain_product w t ps = list_product 52 (map (map (wide_factor w t)) ps)
+plain_product w t ps = list_product t (map (map (factor_of w t)) ps)

@@ -1,9 +1,8 @@
 // The lanes of a piece: a value split into its lane, and lanes brought back to [1, 2).
 ghost use Rattle.std.specs.Prelude.{◌≡◌, ◌^◌, ◌≤◌, ◌<◌, nat_abs, false};
-ghost use Rattle.kernels.specs.Blocks.{start_lanes, m_of, renorm_lane, renorm};
+ghost use Rattle.kernels.specs.Blocks.{start_lanes, m_of, split_step, renorm_lane, renorm};
 ghost use Rattle.floats.specs.InnerKinds.{is_subnormal};
 ghost use Rattle.kernels.specs.InnerLanes.{SmallLanes, NoneSubnormal, split_into};
-ghost use Rattle.kernels.specs.InnerDoubles.{split_step};
 
 use accumulator::StableProductFloatAcc;
 use floats::Split;

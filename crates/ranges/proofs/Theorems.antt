@@ -8,7 +8,6 @@ use lib.ListN.{length, get_or, take}
 use lib.Dec.{T, eqb}
 use lib.IntN.{ℤ, pos}
 use lib.Ieee.{Float, nan, binary64, fits}
-use Rattle.floats.specs.Formats.{f64_format}
 use Rattle.refusals.specs.Refusals.{first_of}
 use Rattle.refusals.proofs.Buffers.{buffer-first, buffer-at}
 use Rattle.layout.specs.declared.traversal.FullTraversal.{FullTraversal}
@@ -85,7 +84,7 @@ module _ (ns : List ℕ) (ss : List ℤ) (base : ℤ) (starts ends : List ℕ) (
     place-rule =
         record {
           own =
-              reduce-accepted f64_format ns ss base (get_or starts i 0) (get_or ends i 0) values (range-accepted ns ss base starts ends values ms es bads allowed i h)
+              reduce-accepted ns ss base (get_or starts i 0) (get_or ends i 0) values (range-accepted ns ss base starts ends values ms es bads allowed i h)
               ∙ ap (λ (m : Float). accumulator m own.e own.bad) (sym m-at)
               ∙ ap (λ (e : ℤ). accumulator (get_or (ms_after ns ss base starts ends values ms es bads) i nan) e own.bad) (sym e-at)
               ∙ ap (accumulator (get_or (ms_after ns ss base starts ends values ms es bads) i nan) (get_or (es_after ns ss base starts ends values ms es bads) i (pos 0)))
@@ -139,7 +138,7 @@ module _ (ns : List ℕ) (ss : List ℤ) (base : ℤ) (values : List Float) (v :
       let d = rule-D3 ns ss base r.0 r.1 values v (range-code r.0 r.1 w.forward w.inside) in
       let here = offsets_from (axes_of ns ss) base r.0 (r.1 - r.0) in
       let rest = offsets_over ns ss base rs in
-      ap (λ (b : Bool). b || some (eqb 1) (map acc-byte (map product-of rs))) (one_byte a.bad ∙ d.range.mark)
+      ap (λ (b : Bool). b || some (eqb 1) (map acc-byte (map product-of rs))) (one_byte a.bad ∙ d.mark)
       ∙ ap (λ (b : Bool). some is_bad (map (value_at values) here) || b) (marks rs (each_tail total r rs e))
       ∙ sym (ap (some is_bad) (map-append (value_at values) here rest) ∙ some-append is_bad (map (value_at values) here) (map (value_at values) rest))
 
@@ -154,9 +153,9 @@ module _ (ns : List ℕ) (ss : List ℤ) (base : ℤ) (values : List Float) (v :
     whole-rule bads b =
         let d = rule-D3 ns ss base 0 total values v (range-code 0 total h (omega arith)) in
         record {
-          whole = d.range.answer;
+          whole = d.answer;
           offsets = all-offsets;
-          mark = ap (some (eqb 1)) b ∙ marks rs e ∙ ap (λ (zs : List ℤ). some is_bad (map (value_at values) zs)) (chain q e).1 ∙ sym d.range.mark;
+          mark = ap (some (eqb 1)) b ∙ marks rs e ∙ ap (λ (zs : List ℤ). some is_bad (map (value_at values) zs)) (chain q e).1 ∙ sym d.mark;
         }
 
 module _ (ns : List ℕ) (ss : List ℤ) (base : ℤ) (starts ends : List ℕ) (values ms : List Float) (es : List ℤ) (bads : List ℕ)

@@ -17,32 +17,32 @@ use Rattle.floats.specs.Rounding.{delivered, rounded}
 use Rattle.floats.specs.Product.{product}
 use Rattle.floats.specs.Fields.{of_parts, value_of, bad_bits, factor_of}
 use Rattle.floats.specs.Magnitude.{two_or_more}
-use Rattle.floats.specs.Splitting.{bad_in, factor_in, split_in}
+use Rattle.floats.specs.Splitting.{is_bad, rate_factor, split}
 use Rattle.accumulator.specs.Joining.{multiplied, combined}
 use Rattle.kernels.specs.Lanes as lanes
-use Rattle.kernels.specs.Stepped.{rate_acc, lane_joined, stepped_lanes, lanes_joined, stepped_in}
+use Rattle.kernels.specs.Stepped.{rate_acc, lane_joined, stepped_lanes, lanes_joined, stepped}
 use Rattle.kernels.specs.Blocks as blocks
-use Rattle.kernels.specs.Pieces.{joined_pieces_in}
+use Rattle.kernels.specs.Pieces.{joined_pieces}
 use Rattle.finishing.proofs.Cases.{finishing-table, limits-deciding}
-use Rattle.reduction.specs.Ranges.{pieces_from, reduce_in}
+use Rattle.reduction.specs.Ranges.{pieces_from, reduce_of}
 use Rattle.reduction.specs.Cases.{ProductTable, SubnormalTable, CaseTable, LanesDeciding, PiecesDeciding, DecidingTable}
 
 product-table : ProductTable
 unfolding fits_i64 eq_z span axis_of reset_fits places_of kept_axes rank precedes insert_axis order_from axes_of resets_fit reach join_of fuse_from fuse total_from
     total_of fused_of layout_of empty_layout traversal_at traversal_of first_of overflows above_most compile_refusals layout_beside compile_of digits shift
-    offset inside_values every_below all_inside total_in range_refusals range_code offsets_from run_of outer_of pieces_from reduce_in joined_pieces_in
-    blocks.contiguous_in blocks.blocks blocks.block blocks.unsplit blocks.renorm blocks.renorm_lane lanes.in_order lanes.feed blocks.split_step_in
-    blocks.unsplit_step blocks.in_range lanes.every lanes.some blocks.lane_in blocks.lanes_in split_in factor_in factor_of to_bits value_of of_parts delivered bad_in bad_bits product
-    rounded size odd is_nan stepped_in stepped_lanes lanes_joined lane_joined rate_acc combined multiplied two_or_more
+    offset inside_values every_below all_inside total_in range_refusals range_code offsets_from run_of outer_of pieces_from reduce_of joined_pieces
+    blocks.contiguous blocks.blocks blocks.block blocks.unsplit blocks.renorm blocks.renorm_lane lanes.in_order lanes.feed blocks.split_step
+    blocks.unsplit_step blocks.in_range lanes.every lanes.some blocks.lane_in blocks.lanes_in split rate_factor factor_of to_bits value_of of_parts delivered is_bad bad_bits product
+    rounded size odd is_nan stepped stepped_lanes lanes_joined lane_joined rate_acc combined multiplied two_or_more
 product-table = (refl, refl, refl, refl, refl, refl)
 
 pub subnormal-table : SubnormalTable
 unfolding fits_i64 eq_z span axis_of reset_fits places_of kept_axes rank precedes insert_axis order_from axes_of resets_fit reach join_of fuse_from fuse total_from
     total_of fused_of layout_of empty_layout traversal_at traversal_of first_of overflows above_most compile_refusals layout_beside compile_of digits shift
-    offset inside_values every_below all_inside total_in range_refusals range_code offsets_from run_of outer_of pieces_from reduce_in joined_pieces_in
-    blocks.contiguous_in blocks.blocks blocks.block blocks.unsplit blocks.renorm blocks.renorm_lane lanes.in_order lanes.feed blocks.split_step_in
-    blocks.unsplit_step blocks.in_range lanes.every lanes.some blocks.lane_in blocks.lanes_in split_in factor_in factor_of to_bits value_of of_parts delivered bad_in bad_bits product
-    rounded size odd is_nan stepped_in stepped_lanes lanes_joined lane_joined rate_acc combined multiplied two_or_more
+    offset inside_values every_below all_inside total_in range_refusals range_code offsets_from run_of outer_of pieces_from reduce_of joined_pieces
+    blocks.contiguous blocks.blocks blocks.block blocks.unsplit blocks.renorm blocks.renorm_lane lanes.in_order lanes.feed blocks.split_step
+    blocks.unsplit_step blocks.in_range lanes.every lanes.some blocks.lane_in blocks.lanes_in split rate_factor factor_of to_bits value_of of_parts delivered is_bad bad_bits product
+    rounded size odd is_nan stepped stepped_lanes lanes_joined lane_joined rate_acc combined multiplied two_or_more
 subnormal-table = (refl, refl, refl, refl, refl, refl, refl, refl)
 
 pub case-table : CaseTable
@@ -51,19 +51,19 @@ case-table = (layout-table, product-table, finishing-table)
 lanes-deciding : LanesDeciding
 unfolding fits_i64 eq_z span axis_of reset_fits places_of kept_axes rank precedes insert_axis order_from axes_of resets_fit reach join_of fuse_from fuse total_from
     total_of fused_of layout_of empty_layout traversal_at traversal_of first_of overflows above_most compile_refusals layout_beside compile_of digits shift
-    offset inside_values every_below all_inside total_in range_refusals range_code offsets_from run_of outer_of pieces_from reduce_in joined_pieces_in
-    blocks.contiguous_in blocks.blocks blocks.block blocks.unsplit blocks.renorm blocks.renorm_lane lanes.in_order lanes.feed blocks.split_step_in
-    blocks.unsplit_step blocks.in_range lanes.every lanes.some blocks.lane_in blocks.lanes_in split_in factor_in factor_of to_bits value_of of_parts delivered bad_in bad_bits product
-    rounded size odd is_nan stepped_in stepped_lanes lanes_joined lane_joined rate_acc combined multiplied two_or_more
+    offset inside_values every_below all_inside total_in range_refusals range_code offsets_from run_of outer_of pieces_from reduce_of joined_pieces
+    blocks.contiguous blocks.blocks blocks.block blocks.unsplit blocks.renorm blocks.renorm_lane lanes.in_order lanes.feed blocks.split_step
+    blocks.unsplit_step blocks.in_range lanes.every lanes.some blocks.lane_in blocks.lanes_in split rate_factor factor_of to_bits value_of of_parts delivered is_bad bad_bits product
+    rounded size odd is_nan stepped stepped_lanes lanes_joined lane_joined rate_acc combined multiplied two_or_more
 lanes-deciding = (refl, refl, refl, refl)
 
 pieces-deciding : PiecesDeciding
 unfolding fits_i64 eq_z span axis_of reset_fits places_of kept_axes rank precedes insert_axis order_from axes_of resets_fit reach join_of fuse_from fuse total_from
     total_of fused_of layout_of empty_layout traversal_at traversal_of first_of overflows above_most compile_refusals layout_beside compile_of digits shift
-    offset inside_values every_below all_inside total_in range_refusals range_code offsets_from run_of outer_of pieces_from reduce_in joined_pieces_in
-    blocks.contiguous_in blocks.blocks blocks.block blocks.unsplit blocks.renorm blocks.renorm_lane lanes.in_order lanes.feed blocks.split_step_in
-    blocks.unsplit_step blocks.in_range lanes.every lanes.some blocks.lane_in blocks.lanes_in split_in factor_in factor_of to_bits value_of of_parts delivered bad_in bad_bits product
-    rounded size odd is_nan stepped_in stepped_lanes lanes_joined lane_joined rate_acc combined multiplied two_or_more
+    offset inside_values every_below all_inside total_in range_refusals range_code offsets_from run_of outer_of pieces_from reduce_of joined_pieces
+    blocks.contiguous blocks.blocks blocks.block blocks.unsplit blocks.renorm blocks.renorm_lane lanes.in_order lanes.feed blocks.split_step
+    blocks.unsplit_step blocks.in_range lanes.every lanes.some blocks.lane_in blocks.lanes_in split rate_factor factor_of to_bits value_of of_parts delivered is_bad bad_bits product
+    rounded size odd is_nan stepped stepped_lanes lanes_joined lane_joined rate_acc combined multiplied two_or_more
 pieces-deciding = (refl, refl, refl, refl)
 
 pub deciding-table : DecidingTable

@@ -1,5 +1,4 @@
 -- Laws of a range's pieces.
-pub mod Rates
 pub mod Pieces
 pub mod Ranges
 pub mod Lines

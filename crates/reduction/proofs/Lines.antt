@@ -27,8 +27,7 @@ use Rattle.offsets.specs.Pieces.{run_of, outer_of, piece_length}
 use Rattle.offsets.specs.InnerPieces.{range_at, piece_of}
 use Rattle.offsets.proofs.Stepping.{Small, small-fits, share-fits}
 use Rattle.offsets.proofs.Walking.{PieceHere, piece-here}
-use Rattle.floats.specs.Formats.{RateFormat}
-use Rattle.kernels.specs.Pieces.{Piece, worked_in, joined_pieces_in}
+use Rattle.kernels.specs.Pieces.{Piece, worked, joined_pieces}
 use Rattle.kernels.specs.InnerStrided.{strided, PlacesInside}
 use Rattle.reduction.specs.Ranges.{piece_at, pieces_of}
 use Rattle.reduction.proofs.Pieces.{pieces_none}
@@ -59,7 +58,7 @@ module _ (l : FullTraversal) (t : Traversal l) (none : l.axis_count ≡ 0) where
         ring : (b y : ℤ) → b +ℤ (y +ℤ pos 0) ≡ b +ℤ y
         ring b y = simp ints (simp atoms (omega arith))
 
-  module _ (F : RateFormat) (base : ℤ) (b : Bounded (run_of l ∷ outer_of l) base) (values : List Float)
+  module _ (base : ℤ) (b : Bounded (run_of l ∷ outer_of l) base) (values : List Float)
       (w : all_inside (run_of l ∷ outer_of l) l.total base (length values) ≡ true) (end : ℕ) (few : end ≤ l.total) where
     module _ (k : ℕ) (h : k < end) where
       abbrev piece : RangePiece
@@ -69,9 +68,9 @@ module _ (l : FullTraversal) (t : Traversal l) (none : l.axis_count ≡ 0) where
       unfolding range_at
       here = piece-here l t base b end (range_at l base k) refl h piece refl
 
-      all : PieceTaken F l base values end (range_at l base k) piece
+      all : PieceTaken l base values end (range_at l base k) piece
       unfolding range_at
-      all = taken F l t base b values w end few (range_at l base k) refl h piece refl
+      all = taken l t base b values w end few (range_at l base k) refl h piece refl
 
       piece-first : piece.first ≡ base +ℤ l.run_stride *ℤ pos k
       unfolding range_at
@@ -94,14 +93,14 @@ module _ (l : FullTraversal) (t : Traversal l) (none : l.axis_count ≡ 0) where
           ∙ ap (λ (ps : List Piece). piece_at l base values end k ∷ ps)
           (pieces_none l base values end (end - piece.next.at) piece.next.at (omega (arith, e, piece-len)))
 
-      pub line-joined : worked_in F (eq_z l.run_stride (pos 1)) (strided values (base +ℤ l.run_stride *ℤ pos k) l.run_stride (end - k))
-          ≡ joined_pieces_in F (pieces_of l base values k end)
-      unfolding range_at joined_pieces_in
+      pub line-joined : worked (eq_z l.run_stride (pos 1)) (strided values (base +ℤ l.run_stride *ℤ pos k) l.run_stride (end - k))
+          ≡ joined_pieces (pieces_of l base values k end)
+      unfolding range_at joined_pieces
       line-joined =
-          ap (λ (z : ℤ). worked_in F (eq_z l.run_stride (pos 1)) (strided values z l.run_stride (end - k))) (sym piece-first)
-          ∙ ap (λ (n : ℕ). worked_in F (eq_z l.run_stride (pos 1)) (strided values piece.first l.run_stride n)) (sym piece-len)
+          ap (λ (z : ℤ). worked (eq_z l.run_stride (pos 1)) (strided values z l.run_stride (end - k))) (sym piece-first)
+          ∙ ap (λ (n : ℕ). worked (eq_z l.run_stride (pos 1)) (strided values piece.first l.run_stride n)) (sym piece-len)
           ∙ all.worked_is
-          ∙ ap (joined_pieces_in F) (sym one_piece)
+          ∙ ap joined_pieces (sym one_piece)
 
     pub line-inside : 0 < end → PlacesInside (length values) base l.run_stride end
     line-inside h =

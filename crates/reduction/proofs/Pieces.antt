@@ -9,7 +9,7 @@ use native.Mathlib.Nat.{le_trans}
 use lib.ListN.{get_or}
 use lib.Dec.{T, ltb}
 use lib.IntN.{ℤ, pos, nat_abs, ◌+ℤ◌}
-use lib.Ieee.{Float, nan}
+use lib.Ieee.{Float, nan, binary64, fits}
 use mir.Val.{SFits, to_z, of_z}
 use mir.ValLaws.{to_z-of_z}
 use mir.Syntax.{w64}
@@ -18,14 +18,13 @@ use borrow.Author.Tests.{lt-ltb, le-ltb, ltb-true}
 use Rattle.layout.specs.declared.traversal.FullTraversal.{FullTraversal}
 use Rattle.offsets.specs.InnerLists.{steps}
 use Rattle.offsets.specs.Pieces.{piece_length}
-use Rattle.floats.specs.Formats.{RateFormat, Lawful}
-use Rattle.kernels.specs.Pieces.{Piece, worked_in}
+use Rattle.kernels.specs.Pieces.{Piece, worked}
 use Rattle.kernels.specs.InnerStrided.{strided}
 use Rattle.kernels.proofs.Sizes.{in_piece}
 use Rattle.kernels.proofs.Striding.{length-strided}
 use Rattle.integers.specs.Integers.{eq_z}
 use Rattle.kernels.proofs.Bounded.{worked-size}
-use Rattle.kernels.proofs.Striding.{strided-held}
+use Rattle.kernels.proofs.Striding.{strided-values}
 use Rattle.offsets.specs.Values.{value_at}
 use Rattle.reduction.specs.Ranges.{piece_at, pieces_from, pieces_of}
 
@@ -80,9 +79,9 @@ strided-steps values z s zero = refl
 strided-steps values z s (suc n) = ap (λ (xs : List Float). value_at values z ∷ xs) (strided-steps values (z +ℤ s) s n)
 
 -- ---- exponents: at most `in_piece` for each value of a piece, either way
-pub strided-near : (F : RateFormat) → Lawful F → (values : List Float) → ((i : ℕ) → T (F.holds (get_or values i nan))) → (z s : ℤ) (n : ℕ) → 1 ≤ n
-    → nat_abs (worked_in F (eq_z s (pos 1)) (strided values z s n)).e ≤ in_piece * n
-strided-near F L values v z s n h =
+pub strided-near : (values : List Float) → ((i : ℕ) → T (fits binary64 (get_or values i nan))) → (z s : ℤ) (n : ℕ) → 1 ≤ n
+    → nat_abs (worked (eq_z s (pos 1)) (strided values z s n)).e ≤ in_piece * n
+strided-near values v z s n h =
     le_trans
-    (worked-size F L (record { in_blocks = eq_z s (pos 1); rates = strided values z s n }) (strided-held F values v z s n))
+    (worked-size (record { in_blocks = eq_z s (pos 1); rates = strided values z s n }) (strided-values values v z s n))
     (omega (arith, length-strided values z s n))

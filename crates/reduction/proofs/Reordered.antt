@@ -17,7 +17,7 @@ use Rattle.accumulator.specs.declared.StableProductFloatAcc.{StableProductFloatA
 use Rattle.accumulator.specs.Joining.{Answer, accumulator, refusal}
 use Rattle.kernels.specs.Pieces.{joined_pieces}
 use Rattle.finishing.specs.Finishing.{finished_of}
-use Rattle.reduction.specs.Ranges.{pieces_of, range_product, reduce_in, reduce_of}
+use Rattle.reduction.specs.Ranges.{pieces_of, range_product, reduce_of}
 use Rattle.reduction.specs.Theorems.{OneProduct}
 use Rattle.reduction.proofs.Whole.{answer-one}
 
@@ -26,7 +26,7 @@ module _ (ns ns' : List ℕ) (ss ss' : List ℤ) (w : SameAxes ns ss ns' ss') (b
   same-product = ap (λ (c : Compiled). joined_pieces (pieces_of c.traversal base values start end)) (same-record ns ns' ss ss' w)
 
   same-reduction : reduce_of ns ss base start end values ≡ reduce_of ns' ss' base start end values
-  unfolding reduce_in
+  unfolding reduce_of
   same-reduction =
       ap (by (range_product ns ss base start end values)) (same-range-code ns ns' ss ss' w base start end (length values))
       ∙ ap (λ (r : StableProductFloatAcc). by r (range_code ns' ss' base start end (length values))) same-product

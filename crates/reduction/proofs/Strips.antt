@@ -11,7 +11,7 @@ use lib.Arith.{digits_div, digits_mod}
 use lib.IntN.{ℤ, pos, nat_abs, ◌+ℤ◌, ◌*ℤ◌}
 use lib.Signed.{◌≤ℤ◌, ◌<ℤ◌}
 use lib.Dec.{T}
-use lib.Ieee.{Float, nan}
+use lib.Ieee.{Float, nan, binary64, fits}
 use mir.Val.{SFits}
 use mir.Syntax.{w64}
 use Rattle.integers.proofs.Places.{place-first, place-next, place-later}
@@ -28,13 +28,12 @@ use Rattle.offsets.specs.InnerPieces.{range_at, piece_of}
 use Rattle.offsets.proofs.Walking.{piece-len}
 use Rattle.offsets.proofs.Skipping.{first_axis}
 use Rattle.offsets.proofs.Runs.{run-some, runs-begin, runs-end, runs-at}
-use Rattle.floats.specs.Formats.{RateFormat, Lawful}
-use Rattle.kernels.specs.Pieces.{worked_in, worked_piece_in, joined_onto_in}
+use Rattle.kernels.specs.Pieces.{worked, worked_piece, joined_onto}
 use Rattle.kernels.specs.InnerStrided.{strided, PlacesInside}
 use Rattle.kernels.specs.InnerStepped.{Sound}
 use Rattle.kernels.proofs.Sizes.{in_list, combined-size}
 use Rattle.kernels.proofs.Bounded.{combined-sound, worked-sound}
-use Rattle.kernels.proofs.Striding.{strided-held}
+use Rattle.kernels.proofs.Striding.{strided-values}
 use Rattle.reduction.specs.Ranges.{piece_at, pieces_of}
 use Rattle.reduction.specs.InnerStrips.{strip}
 use Rattle.reduction.proofs.Pieces.{strided-near}
@@ -48,55 +47,55 @@ place-inside-fits size z stride len i h m = go (i.least 0 h) (i.most 0 h) m
     go = simp ints (simp atoms (omega arith))
 
 -- before the first run, all of the strip is left
-pub strip-first : (F : RateFormat) (values : List Float) (step stride : ℤ) (len count : ℕ) (z : ℤ) (a : StableProductFloatAcc)
-    → strip F values step stride len (count - 0) (z +ℤ step *ℤ pos 0) a ≡ strip F values step stride len count z a
-strip-first F values step stride len count z a =
-    ap (λ (n : ℕ). strip F values step stride len n (z +ℤ step *ℤ pos 0) a) (sub-zero count)
-    ∙ ap (λ (y : ℤ). strip F values step stride len count y a) (sym (place-first z step))
+pub strip-first : (values : List Float) (step stride : ℤ) (len count : ℕ) (z : ℤ) (a : StableProductFloatAcc)
+    → strip values step stride len (count - 0) (z +ℤ step *ℤ pos 0) a ≡ strip values step stride len count z a
+strip-first values step stride len count z a =
+    ap (λ (n : ℕ). strip values step stride len n (z +ℤ step *ℤ pos 0) a) (sub-zero count)
+    ∙ ap (λ (y : ℤ). strip values step stride len count y a) (sym (place-first z step))
 
 -- run j of count is in: what is left begins a step further
-pub strip-next : (F : RateFormat) (values : List Float) (step stride : ℤ) (len count j : ℕ) (z : ℤ) (a r : StableProductFloatAcc) → j < count
-    → r ≡ combined a (worked_in F (eq_z stride (pos 1)) (strided values (z +ℤ step *ℤ pos j) stride len))
-    → strip F values step stride len (count - (j + 1)) (z +ℤ step *ℤ pos (j + 1)) r ≡ strip F values step stride len (count - j) (z +ℤ step *ℤ pos j) a
+pub strip-next : (values : List Float) (step stride : ℤ) (len count j : ℕ) (z : ℤ) (a r : StableProductFloatAcc) → j < count
+    → r ≡ combined a (worked (eq_z stride (pos 1)) (strided values (z +ℤ step *ℤ pos j) stride len))
+    → strip values step stride len (count - (j + 1)) (z +ℤ step *ℤ pos (j + 1)) r ≡ strip values step stride len (count - j) (z +ℤ step *ℤ pos j) a
 unfolding strip
-strip-next F values step stride len count j z a r h e =
-    ap (strip F values step stride len (count - (j + 1)) (z +ℤ step *ℤ pos (j + 1))) e
+strip-next values step stride len count j z a r h e =
+    ap (strip values step stride len (count - (j + 1)) (z +ℤ step *ℤ pos (j + 1))) e
     ∙ ap
-    (λ (y : ℤ). strip F values step stride len (count - (j + 1)) y (combined a (worked_in F (eq_z stride (pos 1)) (strided values (z +ℤ step *ℤ pos j) stride len))))
+    (λ (y : ℤ). strip values step stride len (count - (j + 1)) y (combined a (worked (eq_z stride (pos 1)) (strided values (z +ℤ step *ℤ pos j) stride len))))
     (sym (place-next z step j))
-    ∙ ap (λ (n : ℕ). strip F values step stride len n (z +ℤ step *ℤ pos j) a) one
+    ∙ ap (λ (n : ℕ). strip values step stride len n (z +ℤ step *ℤ pos j) a) one
   where
     one : suc (count - (j + 1)) ≡ count - j
     one = omega arith
 
 -- ---- exponents: at most `in_list` more for each value
-pub strip-small : (F : RateFormat) → Lawful F → (values : List Float) → ((i : ℕ) → T (F.holds (get_or values i nan))) → (step stride : ℤ) (len : ℕ) → 1 ≤ len
-    → (n : ℕ) (z : ℤ) (acc : StableProductFloatAcc) → nat_abs (strip F values step stride len n z acc).e ≤ nat_abs acc.e + in_list * (n * len)
+pub strip-small : (values : List Float) → ((i : ℕ) → T (fits binary64 (get_or values i nan))) → (step stride : ℤ) (len : ℕ) → 1 ≤ len
+    → (n : ℕ) (z : ℤ) (acc : StableProductFloatAcc) → nat_abs (strip values step stride len n z acc).e ≤ nat_abs acc.e + in_list * (n * len)
 unfolding strip
-strip-small F L values v step stride len h zero z acc = omega arith
-strip-small F L values v step stride len h (suc n) z acc =
-    let b = worked_in F (eq_z stride (pos 1)) (strided values z stride len) in
-    le_trans (strip-small F L values v step stride len h n (z +ℤ step) (combined acc b)) (omega (arith, combined-size acc b, strided-near F L values v z stride len h))
+strip-small values v step stride len h zero z acc = omega arith
+strip-small values v step stride len h (suc n) z acc =
+    let b = worked (eq_z stride (pos 1)) (strided values z stride len) in
+    le_trans (strip-small values v step stride len h n (z +ℤ step) (combined acc b)) (omega (arith, combined-size acc b, strided-near values v z stride len h))
 
 -- ---- run q of a range
-pub record Run (F : RateFormat) (l : FullTraversal) (base : ℤ) (values : List Float) (end q : ℕ) : Type 0 where
+pub record Run (l : FullTraversal) (base : ℤ) (values : List Float) (end q : ℕ) : Type 0 where
   pub inside : PlacesInside (length values) (offset (outer_of l) base q) l.run_stride l.run_len
-  pub worked_is : worked_in F (eq_z l.run_stride (pos 1)) (strided values (offset (outer_of l) base q) l.run_stride l.run_len)
-      ≡ worked_piece_in F (piece_at l base values end (q * l.run_len))
+  pub worked_is : worked (eq_z l.run_stride (pos 1)) (strided values (offset (outer_of l) base q) l.run_stride l.run_len)
+      ≡ worked_piece (piece_at l base values end (q * l.run_len))
   pub pieces : pieces_of l base values (q * l.run_len) end
       ≡ piece_at l base values end (q * l.run_len) ∷ pieces_of l base values ((q + 1) * l.run_len) end
 
 -- |m| stays in [1, 2)
-pub strip-sound : (F : RateFormat) → Lawful F → (values : List Float) → ((i : ℕ) → T (F.holds (get_or values i nan)))
-    → (step stride : ℤ) (len n : ℕ) (z : ℤ) (acc : StableProductFloatAcc) → Sound acc → Sound (strip F values step stride len n z acc)
+pub strip-sound : (values : List Float) → ((i : ℕ) → T (fits binary64 (get_or values i nan)))
+    → (step stride : ℤ) (len n : ℕ) (z : ℤ) (acc : StableProductFloatAcc) → Sound acc → Sound (strip values step stride len n z acc)
 unfolding strip
-strip-sound F L values v step stride len zero z acc s = s
-strip-sound F L values v step stride len (suc n) z acc s =
-    strip-sound F L values v step stride len n (z +ℤ step) (combined acc (worked_in F (eq_z stride (pos 1)) (strided values z stride len)))
-    (combined-sound acc (worked_in F (eq_z stride (pos 1)) (strided values z stride len)) s
-    (worked-sound F L (record { in_blocks = eq_z stride (pos 1); rates = strided values z stride len }) (strided-held F values v z stride len)))
+strip-sound values v step stride len zero z acc s = s
+strip-sound values v step stride len (suc n) z acc s =
+    strip-sound values v step stride len n (z +ℤ step) (combined acc (worked (eq_z stride (pos 1)) (strided values z stride len)))
+    (combined-sound acc (worked (eq_z stride (pos 1)) (strided values z stride len)) s
+    (worked-sound (record { in_blocks = eq_z stride (pos 1); rates = strided values z stride len }) (strided-values values v z stride len)))
 
-module _ (F : RateFormat) (l : FullTraversal) (t : Traversal l) (base : ℤ) (b : Bounded (run_of l ∷ outer_of l) base) (values : List Float)
+module _ (l : FullTraversal) (t : Traversal l) (base : ℤ) (b : Bounded (run_of l ∷ outer_of l) base) (values : List Float)
     (w : all_inside (run_of l ∷ outer_of l) l.total base (length values) ≡ true) (end : ℕ) (few : end ≤ l.total) where
   module _ (q : ℕ) (h : q * l.run_len + l.run_len ≤ end) where
     run-div : q * l.run_len / l.run_len ≡ q
@@ -108,9 +107,9 @@ module _ (F : RateFormat) (l : FullTraversal) (t : Traversal l) (base : ℤ) (b 
     before-end : q * l.run_len < end
     before-end = omega (arith, run-some l t)
 
-    run-taken : PieceTaken F l base values end (range_at l base (q * l.run_len)) (piece_of l end (range_at l base (q * l.run_len)))
+    run-taken : PieceTaken l base values end (range_at l base (q * l.run_len)) (piece_of l end (range_at l base (q * l.run_len)))
     unfolding range_at
-    run-taken = taken F l t base b values w end few (range_at l base (q * l.run_len)) refl before-end (piece_of l end (range_at l base (q * l.run_len))) refl
+    run-taken = taken l t base b values w end few (range_at l base (q * l.run_len)) refl before-end (piece_of l end (range_at l base (q * l.run_len))) refl
 
     at-is : (range_at l base (q * l.run_len)).at ≡ q * l.run_len
     unfolding range_at
@@ -129,11 +128,11 @@ module _ (F : RateFormat) (l : FullTraversal) (t : Traversal l) (base : ℤ) (b 
     next-is : (piece_of l end (range_at l base (q * l.run_len))).next.at ≡ (q + 1) * l.run_len
     next-is = run-taken.next_at ∙ omega (arith, at-is, len_is)
 
-    pub run : Run F l base values end q
+    pub run : Run l base values end q
     run =
         record {
           inside = rw (len_is, first-is) at run-taken.inside;
-          worked_is = (rw (len_is, first-is) at run-taken.worked_is) ∙ ap (λ (k : ℕ). worked_piece_in F (piece_at l base values end k)) at-is;
+          worked_is = (rw (len_is, first-is) at run-taken.worked_is) ∙ ap (λ (k : ℕ). worked_piece (piece_at l base values end k)) at-is;
           pieces = rw (next-is, at-is) at run-taken.pieces;
         }
 
@@ -147,29 +146,29 @@ module _ (F : RateFormat) (l : FullTraversal) (t : Traversal l) (base : ℤ) (b 
 
     pub strip-joins : (n q : ℕ) (z : ℤ) (acc : StableProductFloatAcc) → (q + n) * l.run_len ≤ end
         → ((j : ℕ) → j < n → z +ℤ step *ℤ pos j ≡ offset (outer_of l) base (q + j))
-        → joined_onto_in F (strip F values step l.run_stride l.run_len n z acc) (pieces_of l base values ((q + n) * l.run_len) end)
-        ≡ joined_onto_in F acc (pieces_of l base values (q * l.run_len) end)
+        → joined_onto (strip values step l.run_stride l.run_len n z acc) (pieces_of l base values ((q + n) * l.run_len) end)
+        ≡ joined_onto acc (pieces_of l base values (q * l.run_len) end)
     unfolding strip
-    strip-joins zero q z acc h lies = ap (λ (m : ℕ). joined_onto_in F acc (pieces_of l base values (m * l.run_len) end)) (add-zero q)
+    strip-joins zero q z acc h lies = ap (λ (m : ℕ). joined_onto acc (pieces_of l base values (m * l.run_len) end)) (add-zero q)
     strip-joins (suc n) q z acc h lies =
         let r = run q (omega arith) in
-        let c = combined acc (worked_in F (eq_z l.run_stride (pos 1)) (strided values z l.run_stride l.run_len)) in
+        let c = combined acc (worked (eq_z l.run_stride (pos 1)) (strided values z l.run_stride l.run_len)) in
         let e : q + suc n ≡ q + 1 + n = omega arith in
-        ap (λ (m : ℕ). joined_onto_in F (strip F values step l.run_stride l.run_len n (z +ℤ step) c)
+        ap (λ (m : ℕ). joined_onto (strip values step l.run_stride l.run_len n (z +ℤ step) c)
         (pieces_of l base values (m * l.run_len) end)) e
         ∙ strip-joins n (q + 1) (z +ℤ step) c (omega arith) (λ j k. place-later z step j ∙ lies (suc j) (omega arith) ∙ ap (offset (outer_of l) base) (one j))
-        ∙ ap (λ (y : ℤ). joined_onto_in F (combined acc (worked_in F (eq_z l.run_stride (pos 1)) (strided values y l.run_stride l.run_len)))
+        ∙ ap (λ (y : ℤ). joined_onto (combined acc (worked (eq_z l.run_stride (pos 1)) (strided values y l.run_stride l.run_len)))
         (pieces_of l base values ((q + 1) * l.run_len) end))
         (place-first z step ∙ lies 0 (omega arith) ∙ ap (offset (outer_of l) base) (add-zero q))
-        ∙ ap (λ (a : StableProductFloatAcc). joined_onto_in F (combined acc a) (pieces_of l base values ((q + 1) * l.run_len) end))
+        ∙ ap (λ (a : StableProductFloatAcc). joined_onto (combined acc a) (pieces_of l base values ((q + 1) * l.run_len) end))
         r.worked_is
-        ∙ ap (joined_onto_in F acc) (sym r.pieces)
+        ∙ ap (joined_onto acc) (sym r.pieces)
       where
         one : (j : ℕ) → q + suc j ≡ q + 1 + j
         one j = omega arith
 
 -- ---- n whole runs from a cursor on
-module _ (F : RateFormat) (L : Lawful F) (l : FullTraversal) (t : Traversal l) (base : ℤ) (b : Bounded (run_of l ∷ outer_of l) base) (values : List Float)
+module _ (l : FullTraversal) (t : Traversal l) (base : ℤ) (b : Bounded (run_of l ∷ outer_of l) base) (values : List Float)
     (w : all_inside (run_of l ∷ outer_of l) l.total base (length values) ≡ true) (end : ℕ) (few : end ≤ l.total)
     (c : RangeCursor) (cursor-is : c ≡ range_at l base c.at) (n : ℕ)
     (some-axis : 0 < l.axis_count) (at-run : c.at % l.run_len ≡ 0) (left : c.at / l.run_len % (first_axis l).extent + n ≤ (first_axis l).extent)
@@ -183,29 +182,29 @@ module _ (F : RateFormat) (L : Lawful F) (l : FullTraversal) (t : Traversal l) (
   pub runs-inside : (j : ℕ) → j < n
       → PlacesInside (length values) (c.runs.source_offset +ℤ (first_axis l).source_step *ℤ pos j) l.run_stride l.run_len
   runs-inside =
-      strip-inside F l t base b values w end few (first_axis l).source_step n (c.at / l.run_len) c.runs.source_offset (omega (arith, ends)) lie
+      strip-inside l t base b values w end few (first_axis l).source_step n (c.at / l.run_len) c.runs.source_offset (omega (arith, ends)) lie
 
-  pub reducing-strip : ((i : ℕ) → T (F.holds (get_or values i nan))) → (whole acc : StableProductFloatAcc)
-      → Reducing F l base values end whole acc c → (r : StableProductFloatAcc)
-      → r ≡ strip F values (first_axis l).source_step l.run_stride l.run_len n c.runs.source_offset acc
-      → (d : RangeCursor) → d.at ≡ c.at + n * l.run_len → (d.at < end → d ≡ range_at l base d.at) → Reducing F l base values end whole r d
+  pub reducing-strip : ((i : ℕ) → T (fits binary64 (get_or values i nan))) → (whole acc : StableProductFloatAcc)
+      → Reducing l base values end whole acc c → (r : StableProductFloatAcc)
+      → r ≡ strip values (first_axis l).source_step l.run_stride l.run_len n c.runs.source_offset acc
+      → (d : RangeCursor) → d.at ≡ c.at + n * l.run_len → (d.at < end → d ≡ range_at l base d.at) → Reducing l base values end whole r d
   reducing-strip v whole acc s r g d next-at e =
       record {
         upto = omega arith;
         cursor_is = e;
         small =
             subst (λ (a : StableProductFloatAcc). nat_abs a.e ≤ 2 ^ 53 + in_list * d.at) (sym g)
-            (le_trans (strip-small F L values v _ _ _ (run-some l t) n _ acc) (omega (arith, next-at, s.small)));
+            (le_trans (strip-small values v _ _ _ (run-some l t) n _ acc) (omega (arith, next-at, s.small)));
         sound =
             subst Sound (sym g)
-            (strip-sound F L values v (first_axis l).source_step l.run_stride l.run_len n c.runs.source_offset acc s.sound);
+            (strip-sound values v (first_axis l).source_step l.run_stride l.run_len n c.runs.source_offset acc s.sound);
         rest =
-            ap (λ (a : StableProductFloatAcc). joined_onto_in F a (pieces_of l base values d.at end)) g
-            ∙ ap (λ (k : ℕ). joined_onto_in F (strip F values (first_axis l).source_step l.run_stride l.run_len n c.runs.source_offset acc)
+            ap (λ (a : StableProductFloatAcc). joined_onto a (pieces_of l base values d.at end)) g
+            ∙ ap (λ (k : ℕ). joined_onto (strip values (first_axis l).source_step l.run_stride l.run_len n c.runs.source_offset acc)
             (pieces_of l base values k end)) (next-at ∙ sym ends)
-            ∙ strip-joins F l t base b values w end few (first_axis l).source_step n (c.at / l.run_len) c.runs.source_offset acc (omega (arith, ends))
+            ∙ strip-joins l t base b values w end few (first_axis l).source_step n (c.at / l.run_len) c.runs.source_offset acc (omega (arith, ends))
             lie
-            ∙ ap (λ (k : ℕ). joined_onto_in F acc (pieces_of l base values k end))
+            ∙ ap (λ (k : ℕ). joined_onto acc (pieces_of l base values k end))
             (sym (runs-begin l t base b end c cursor-is n some-axis at-run left room))
             ∙ s.rest;
       }

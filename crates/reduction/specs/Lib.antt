@@ -2,5 +2,4 @@
 pub mod Ranges
 pub mod Cases
 pub mod InnerStrips
-pub mod InnerRates
 pub mod Theorems

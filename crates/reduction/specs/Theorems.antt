@@ -8,8 +8,7 @@ use Rattle.layout.specs.Compile.{compile_of}
 use Rattle.layout.specs.Reordered.{SameAxes}
 use Rattle.offsets.specs.Lists.{range_code}
 use Rattle.floats.specs.Magnitude.{in_unit}
-use Rattle.floats.specs.Formats.{RateFormat, f64_format, Lawful}
-use Rattle.floats.specs.Splitting.{bad_in}
+use Rattle.floats.specs.Splitting.{is_bad}
 use Rattle.accumulator.specs.declared.StableProductFloatAcc.{StableProductFloatAcc}
 use Rattle.accumulator.specs.declared.Reduced.{Reduced}
 use Rattle.accumulator.specs.declared.Reduced.TheVariants.{Acc}
@@ -17,36 +16,24 @@ use Rattle.accumulator.specs.Joining.{answer_of, factor_of_acc}
 use Rattle.laws.specs.Lists.{Each}
 use Rattle.kernels.specs.Lanes.{some}
 use Rattle.kernels.specs.Plain.{plain_product}
-use Rattle.kernels.specs.Pieces.{patterns_in, acc_of, rates_of}
+use Rattle.kernels.specs.Pieces.{patterns_of, acc_of, rates_of}
 use Rattle.finishing.specs.Once.{rounded_once}
 use Rattle.finishing.specs.Finishing.{value, finished_of}
 use Rattle.offsets.specs.Values.{visited_rates}
-use Rattle.reduction.specs.Ranges.{pieces_of, range_product_in, reduce_in, range_product, reduce_of}
+use Rattle.reduction.specs.Ranges.{pieces_of, range_product, reduce_of}
 
--- what rule D3 says of the answer `a` to a range of a format's rates, before it is finished
-pub record RangeLaw (F : RateFormat) (ns : List ℕ) (ss : List ℤ) (base : ℤ) (start end : ℕ) (values : List Float) (a : StableProductFloatAcc) : Type 0 where
+-- what rule D3 says of the answer `a` to a range
+pub record RuleD3 (ns : List ℕ) (ss : List ℤ) (base : ℤ) (start end : ℕ) (values : List Float) (a : StableProductFloatAcc) : Type 0 where
   -- the call is accepted, and this is its answer
-  pub answer : reduce_in F ns ss base start end values ≡ answer_of (Acc a)
+  pub answer : reduce_of ns ss base start end values ≡ answer_of (Acc a)
   -- the pieces hold the visited rates, in order
   pub rates : rates_of (pieces_of (compile_of PLACES ns ss).traversal base values start end) ≡ visited_rates ns ss base start end values
   -- the mark is set exactly if a visited rate is zero, infinite or NaN
-  pub mark : a.bad ≡ some (bad_in F) (visited_rates ns ss base start end values)
+  pub mark : a.bad ≡ some is_bad (visited_rates ns ss base start end values)
   -- not bad: m and e are the plain product's over the pieces
-  pub plain : a.bad ≡ false
-      → a ≡ acc_of (plain_product F.w F.t (patterns_in F (pieces_of (compile_of PLACES ns ss).traversal base values start end)))
+  pub plain : a.bad ≡ false → a ≡ acc_of (plain_product 11 52 (patterns_of (pieces_of (compile_of PLACES ns ss).traversal base values start end)))
   -- 1 <= |m| < 2, bad or not
   pub unit : in_unit a.m ≡ true
-
--- it holds of every accepted range, over values of a lawful format, as every f64 and every f32 is of its own
-abbrev pub RangeLaws : Type 0
-RangeLaws =
-    (F : RateFormat) → Lawful F → (ns : List ℕ) (ss : List ℤ) (base : ℤ) (start end : ℕ) (values : List Float)
-    → Each (λ (x : Float). T (F.holds x)) values → range_code ns ss base start end (length values) ≡ 0
-    → RangeLaw F ns ss base start end values (range_product_in F ns ss base start end values)
-
--- what rule D3 says of the answer `a` to a range of f64
-pub record RuleD3 (ns : List ℕ) (ss : List ℤ) (base : ℤ) (start end : ℕ) (values : List Float) (a : StableProductFloatAcc) : Type 0 where
-  pub range : RangeLaw f64_format ns ss base start end values a
   -- finishing the answer gives m × 2^e rounded once, or the NaN of a bad mark; never a refusal
   pub once : (r : Reduced) → answer_of r ≡ reduce_of ns ss base start end values → a.bad ≡ false → finished_of r ≡ value (rounded_once (factor_of_acc a))
   pub marked : (r : Reduced) → answer_of r ≡ reduce_of ns ss base start end values → a.bad ≡ true → finished_of r ≡ value nan

@@ -1,3 +1,2 @@
 // The product of a range: its pieces, each worked in one of the two ways, joined left to right.
 pub mod full;
-pub mod runs;

@@ -4,7 +4,6 @@ ghost use Rattle.std.specs.Prelude.{◌+◌, ◌≤◌, length};
 use crate::float::ReadFloat;
 use accumulator::{Reduced, StableProductFloatAcc};
 use finishing::Finished;
-use finishing32::Finished32;
 use search::{BadRate, Search};
 use text::word::{ReadI64, ReadU64};
 
@@ -49,28 +48,8 @@ pub fn put_finished(r: Finished, out: &mut [u8]) -> usize
     ensures { result ≤ 262144 }
 {
     match r {
-        Finished::Number(value) => put_number(
-            b"number",
-            crate::float::bits_of(value),
-            crate::float::DIGITS,
-            &mut *out,
-        ),
+        Finished::Number(value) => put_number(value, &mut *out),
         Finished::Refused(code) => put_refused(code, &mut *out),
-    }
-}
-
-pub fn put_finished32(r: Finished32, out: &mut [u8]) -> usize
-    requires { 262144 ≤ length out.old }
-    ensures { result ≤ 262144 }
-{
-    match r {
-        Finished32::Number(value) => put_number(
-            b"number32",
-            crate::single::bits_of(value) as u64,
-            crate::single::DIGITS,
-            &mut *out,
-        ),
-        Finished32::Refused(code) => put_refused(code, &mut *out),
     }
 }
 
@@ -100,23 +79,17 @@ pub fn put_fields(a: StableProductFloatAcc, out: &mut [u8], from: usize) -> usiz
     requires { from + 60 ≤ length out.old }
     ensures { result ≤ from + 60 }
 {
-    let mut at = text::print::put_bits(
-        &mut *out,
-        from,
-        crate::float::bits_of(a.m),
-        crate::float::DIGITS,
-    );
+    let mut at = text::print::put_bits(&mut *out, from, crate::float::bits_of(a.m));
     at = text::print::put_i64(&mut *out, at, a.e);
     text::print::put_u64(&mut *out, at, mark_of(a.bad))
 }
 
-// A number of so many hex digits, behind its word.
-fn put_number(word: &[u8], bits: u64, digits: usize, out: &mut [u8]) -> usize
-    requires { (length word.now ≤ 100) × (digits ≤ 16) × (262144 ≤ length out.old) }
+fn put_number(value: f64, out: &mut [u8]) -> usize
+    requires { 262144 ≤ length out.old }
     ensures { result ≤ 262144 }
 {
-    let mut at = text::print::put(&mut *out, 0, word);
-    at = text::print::put_bits(&mut *out, at, bits, digits);
+    let mut at = text::print::put(&mut *out, 0, b"number");
+    at = text::print::put_bits(&mut *out, at, crate::float::bits_of(value));
     text::print::put(&mut *out, at, b"\n")
 }
 

@@ -25,30 +25,19 @@ pub fn answer(line: &[u8], out: &mut [u8]) -> usize
     ensures { result ≤ 262144 }
 {
     let end = text::word::find(line, 0, b' ');
-    answer_call(&line[..end], line, end + 1, &mut *out)
-}
-
-// By the call's word, which leads the line, and what stands behind it.
-fn answer_call(call: &[u8], line: &[u8], at: usize, out: &mut [u8]) -> usize
-    requires { 262144 ≤ length out.old }
-    ensures { result ≤ 262144 }
-{
-    if check::same(call, b"join") {
-        return put_answer(crate::product::read_join(line, at), &mut *out);
+    if check::same(&line[..end], b"join") {
+        return put_answer(crate::product::read_join(line, end + 1), &mut *out);
     }
-    if check::same(call, b"finish") {
-        return put_answer(crate::product::read_finish(line, at), &mut *out);
+    if check::same(&line[..end], b"finish") {
+        return put_answer(crate::product::read_finish(line, end + 1), &mut *out);
     }
-    if check::same(call, b"finish32") {
-        return put_answer(crate::product32::read_finish(line, at), &mut *out);
+    if check::same(&line[..end], b"read") {
+        return crate::job::answer_read(line, end + 1, &mut *out);
     }
-    if check::same(call, b"read") {
-        return crate::job::answer_read(line, at, &mut *out);
+    if check::same(&line[..end], b"windows") {
+        return crate::moving::answer_windows(line, end + 1, &mut *out);
     }
-    if check::same(call, b"windows") {
-        return crate::moving::answer_windows(line, at, &mut *out);
-    }
-    answer_axes(call, line, at, &mut *out)
+    answer_axes(&line[..end], line, end + 1, &mut *out)
 }
 
 fn put_answer(r: ReadAnswer, out: &mut [u8]) -> usize
@@ -58,7 +47,6 @@ fn put_answer(r: ReadAnswer, out: &mut [u8]) -> usize
     match r {
         ReadAnswer::Reduced(answer) => crate::acc::put_reduced(answer, &mut *out),
         ReadAnswer::Finished(answer) => crate::acc::put_finished(answer, &mut *out),
-        ReadAnswer::Finished32(answer) => crate::acc::put_finished32(answer, &mut *out),
         ReadAnswer::Search(answer) => crate::acc::put_search(answer, &mut *out),
         ReadAnswer::Step(answer) => crate::step::put_step(answer, &mut *out),
         ReadAnswer::Malformed => malformed(&mut *out),
@@ -107,14 +95,6 @@ fn answer_layout(
     }
     if check::same(call, b"ranges") {
         return crate::many::answer_ranges(sizes, strides, line, at, &mut *out);
-    }
-    if check::same(call, b"reduce32") {
-        let answer = crate::product32::read_reduce(sizes, strides, line, at);
-        return put_answer(answer, &mut *out);
-    }
-    if check::same(call, b"product32") {
-        let answer = crate::product32::read_product(sizes, strides, line, at);
-        return put_answer(answer, &mut *out);
     }
     answer_range(call, sizes, strides, line, at, &mut *out)
 }

@@ -3,9 +3,6 @@ ghost use Rattle.std.specs.Prelude.{◌+◌, ◌*◌, ◌≤◌, length};
 
 use text::word::{Items, ReadU64};
 
-// How many digits a float takes.
-pub const DIGITS: usize = 16;
-
 // The highest bit is the sign. What is above the bits of infinity, without it, is a NaN.
 const SIGN: u64 = 0x8000_0000_0000_0000;
 
@@ -37,7 +34,7 @@ pub fn bits_of(value: f64) -> u64 {
 }
 
 pub fn read_float(line: &[u8], at: usize) -> ReadFloat {
-    let ReadU64::Is(bits, next) = text::word::read_bits(line, at, DIGITS) else {
+    let ReadU64::Is(bits, next) = text::word::read_bits(line, at) else {
         return ReadFloat::Malformed;
     };
     ReadFloat::Is(float_of(bits), next)
@@ -77,7 +74,7 @@ pub fn put_floats(out: &mut [u8], from: usize, items: &[f64]) -> usize
     let mut at = from;
     let mut i: usize = 0;
     while i < items.len() {
-        at = text::print::put_bits(&mut *out, at, bits_of(items[i]), DIGITS);
+        at = text::print::put_bits(&mut *out, at, bits_of(items[i]));
         i += 1;
     }
     at

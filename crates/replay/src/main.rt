@@ -8,9 +8,7 @@ mod job;
 mod many;
 mod moving;
 mod product;
-mod product32;
 mod range;
-mod single;
 mod step;
 
 fn main() {

@@ -4,14 +4,13 @@ use crate::range::{Range, ReadRange};
 use accumulator::Reduced;
 use bookmarks::{Bookmark, Step};
 use finishing::Finished;
-use finishing32::Finished32;
 use search::Search;
 use text::word::ReadU64;
 
 // How many values a line may have.
-pub const VALUES: usize = 4096;
+const VALUES: usize = 4096;
 
-pub const U32_MAX: u64 = 0xffff_ffff;
+const U32_MAX: u64 = 0xffff_ffff;
 
 // The calls over a range and its values. A step has a bookmark and a count besides.
 #[derive(Drop)]
@@ -36,15 +35,14 @@ pub enum ReadCall {
 pub enum ReadAnswer {
     Reduced(Reduced),
     Finished(Finished),
-    Finished32(Finished32),
     Search(Search),
     Step(Step),
     Malformed,
 }
 
-// The answer of a reduction, unless the line was malformed.
+// What the line of a `finish` gives.
 #[derive(Drop)]
-pub enum ReadReduced {
+enum ReadReduced {
     Is(Reduced),
     Malformed,
 }
@@ -167,7 +165,7 @@ pub fn read_finish(line: &[u8], at: usize) -> ReadAnswer {
 }
 
 // `acc M E BAD` or `refused N`.
-pub fn given(line: &[u8], at: usize) -> ReadReduced {
+fn given(line: &[u8], at: usize) -> ReadReduced {
     if line.len() < at {
         return ReadReduced::Malformed;
     }

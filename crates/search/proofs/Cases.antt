@@ -12,7 +12,7 @@ use Rattle.offsets.specs.Elements.{digits, shift, offset, inside_values, every_b
 use Rattle.offsets.specs.Lists.{total_in, range_refusals, range_code, offsets_from}
 use Rattle.floats.specs.Rounding.{delivered}
 use Rattle.floats.specs.Fields.{of_parts, value_of, bad_bits}
-use Rattle.floats.specs.Splitting.{bad_in}
+use Rattle.floats.specs.Splitting.{is_bad}
 use Rattle.search.specs.Searching.{lowest_bad, search_of}
 use Rattle.search.specs.Cases.{BadTable, FirstTable}
 
@@ -20,12 +20,12 @@ pub bad-table : BadTable
 unfolding fits_i64 eq_z span axis_of reset_fits places_of kept_axes rank precedes insert_axis order_from axes_of resets_fit reach join_of fuse_from fuse total_from
     total_of fused_of layout_of empty_layout traversal_at traversal_of first_of overflows above_most compile_refusals layout_beside compile_of digits shift
     offset inside_values every_below all_inside total_in range_refusals range_code offsets_from
-    size odd to_bits delivered of_parts value_of bad_bits bad_in lowest_bad search_of
+    size odd to_bits delivered of_parts value_of bad_bits is_bad lowest_bad search_of
 bad-table = (refl, refl, refl, refl, refl, refl, refl, refl, refl, refl, refl, refl, refl, refl)
 
 pub first-table : FirstTable
 unfolding fits_i64 eq_z span axis_of reset_fits places_of kept_axes rank precedes insert_axis order_from axes_of resets_fit reach join_of fuse_from fuse total_from
     total_of fused_of layout_of empty_layout traversal_at traversal_of first_of overflows above_most compile_refusals layout_beside compile_of digits shift
     offset inside_values every_below all_inside total_in range_refusals range_code offsets_from
-    size odd to_bits delivered of_parts value_of bad_bits bad_in lowest_bad search_of
+    size odd to_bits delivered of_parts value_of bad_bits is_bad lowest_bad search_of
 first-table = (refl, refl, refl, refl, refl, refl, refl, refl, refl)

@@ -11,7 +11,7 @@ use lib.Ieee.{Float}
 use Rattle.floats.specs.Splitting.{is_bad}
 use Rattle.laws.specs.Lists.{Each}
 use Rattle.kernels.specs.Lanes.{feed, every, some}
-use Rattle.kernels.specs.InnerDoubles.{GoodRate}
+use Rattle.kernels.specs.Pieces.{GoodRate}
 use Rattle.kernels.proofs.Blocking.{Value}
 use Rattle.kernels.proofs.Feeding.{each_map, some-none}
 use Rattle.vectors.specs.declared.vector.Waiting.{Waiting}

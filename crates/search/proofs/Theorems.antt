@@ -10,7 +10,6 @@ use lib.Dec.{T, eqb}
 use lib.IntN.{ℤ, pos}
 use lib.Ieee.{Float, binary64, fits}
 use borrow.Author.Tests.{eqb-true, eqb-false}
-use Rattle.floats.specs.Formats.{f64_format}
 use Rattle.layout.specs.declared.axis.ReduceOuterAxis.{ReduceOuterAxis}
 use Rattle.layout.specs.Order.{axes_of}
 use Rattle.offsets.specs.Elements.{offset}
@@ -122,7 +121,7 @@ module _ (ns : List ℕ) (ss : List ℤ) (base : ℤ) (start end : ℕ) (values 
   refused : (code ≡ 0 → ⊥) → RuleS1 ns ss base start end values
   refused n =
       let s = search-refused ns ss base start end values n in
-      let r = reduce-refused f64_format ns ss base start end values n in
+      let r = reduce-refused ns ss base start end values n in
       record {
         first = λ k z e. absurd (true≢false (sym (ap is_found (sym s ∙ e))));
         none = λ e. absurd (true≢false (ap is-refused (sym s ∙ e)));
@@ -136,7 +135,7 @@ module _ (ns : List ℕ) (ss : List ℤ) (base : ℤ) (start end : ℕ) (values 
   accepted : code ≡ 0 → RuleS1 ns ss base start end values
   accepted q =
       let s = search-accepted ns ss base start end values q in
-      let r = reduce-accepted f64_format ns ss base start end values q in
+      let r = reduce-accepted ns ss base start end values q in
       let a = range_product ns ss base start end values in
       let d = rule-D3 ns ss base start end values v q in
       let h = (accepted-range ns ss base start end (length values) q).forward in
@@ -144,9 +143,9 @@ module _ (ns : List ℕ) (ss : List ℤ) (base : ℤ) (start end : ℕ) (values 
       record {
         first = λ k z e. first k z h (found_first (axes_of ns ss) base values (end - start) start k z (sym s ∙ e));
         none = λ e j x y. good-each (axes_of ns ss) base values (end - start) start (sym s ∙ e) j x (omega arith);
-        if_unset = λ m x e. s ∙ all-good values start zs (sym d.range.mark ∙ ap answer-bad (sym r ∙ e));
+        if_unset = λ m x e. s ∙ all-good values start zs (sym d.mark ∙ ap answer-bad (sym r ∙ e));
         then_unset = λ e.
-            (a.m, a.e, r ∙ ap (joining.accumulator a.m a.e) (d.range.mark ∙ none-bad values start zs (sym s ∙ e)));
+            (a.m, a.e, r ∙ ap (joining.accumulator a.m a.e) (d.mark ∙ none-bad values start zs (sym s ∙ e)));
         if_refused = λ k e. absurd (true≢false (ap is-accumulator (sym r ∙ e)));
         then_refused = λ k e. absurd (not-refused values start zs k (sym s ∙ e));
       }

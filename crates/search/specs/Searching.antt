@@ -3,7 +3,7 @@ use Rattle.std.specs.Prelude.{ℕ, suc, ◌-◌, cond, List, [], ◌∷◌, leng
 use Rattle.layout.specs.Order.{axes_of}
 use Rattle.offsets.specs.Lists.{range_code, offsets_from}
 use Rattle.offsets.specs.Values.{value_at}
-use Rattle.floats.specs.Splitting.{bad_in, is_bad}
+use Rattle.floats.specs.Splitting.{is_bad}
 use Rattle.search.specs.declared.Search.{Search}
 use Rattle.search.specs.declared.Search.TheVariants as search
 
@@ -20,7 +20,7 @@ search_answer_of (search.Refused n) = refusal n
 
 -- rule S1, of elements k, k + 1 and so on with these offsets: the first whose value is bad
 unfoldable pub lowest_bad : List Float → ℕ → List ℤ → SearchAnswer
-unfolding bad_in
+unfolding is_bad
 lowest_bad values k [] = none_bad
 lowest_bad values k (z ∷ zs) = cond (is_bad (value_at values z)) (found k z) (lowest_bad values (suc k) zs)
 

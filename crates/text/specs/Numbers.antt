@@ -58,6 +58,6 @@ abbrev pub signed_of : List ℕ → ParsedI64
 signed_of [] = MalformedSigned
 signed_of (b ∷ bs) = pick (eqb b 45) (negative (number_of bs)) (positive (number_of (b ∷ bs)))
 
--- Exactly so many hex digits.
-abbrev pub hex_of : ℕ → List ℕ → ParsedU64
-hex_of count w = pick (eqb (length w) count) (read_on (digit_step 16) (Is 0) w) Malformed
+-- Exactly 16 hex digits.
+abbrev pub hex_of : List ℕ → ParsedU64
+hex_of w = pick (eqb (length w) 16) (read_on (digit_step 16) (Is 0) w) Malformed

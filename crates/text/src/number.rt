@@ -131,11 +131,11 @@ pub fn parse_i64(word: &[u8]) -> ParsedI64
     from_positive(n)
 }
 
-// Exactly `count` lower-case hex digits.
-pub fn parse_bits(word: &[u8], count: usize) -> ParsedU64
-    ensures { result ≡ hex_of count word.now }
+// Exactly 16 lower-case hex digits.
+pub fn parse_bits(word: &[u8]) -> ParsedU64
+    ensures { result ≡ hex_of word.now }
 {
-    if word.len() != count {
+    if word.len() != 16 {
         return ParsedU64::Malformed;
     }
     digits(16, word)

@@ -57,29 +57,29 @@ fn hex_byte(digit: u64) -> u8
     87 + digit as u8
 }
 
-// A space, and the last `count` hex digits of a bit pattern.
-pub fn put_bits(out: &mut [u8], at: usize, bits: u64, count: usize) -> usize
-    requires { at + 1 + count ≤ length out.old }
-    ensures { result ≤ at + 1 + count }
+// A space, and the 16 hex digits of a bit pattern.
+pub fn put_bits(out: &mut [u8], at: usize, bits: u64) -> usize
+    requires { at + 17 ≤ length out.old }
+    ensures { result ≤ at + 17 }
 {
     let digits = put(&mut *out, at, b" ");
-    put_hex(&mut *out, digits, bits, count)
+    put_hex(&mut *out, digits, bits)
 }
 
 // The last digit is put first.
-fn put_hex(out: &mut [u8], at: usize, bits: u64, count: usize) -> usize
-    requires { at + count ≤ length out.old }
-    ensures { result ≤ at + count }
+fn put_hex(out: &mut [u8], at: usize, bits: u64) -> usize
+    requires { at + 16 ≤ length out.old }
+    ensures { result ≤ at + 16 }
 {
     let mut rest = bits;
-    let mut i = count;
+    let mut i: usize = 16;
     while 0 < i {
         i -= 1;
         let digit = hex_byte(rest % 16);
         out[at + i] = digit;
         rest /= 16;
     }
-    at + count
+    at + 16
 }
 
 // Numbers one after the other, each with a space before it.

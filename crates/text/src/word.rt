@@ -85,13 +85,13 @@ pub fn read_byte(line: &[u8], at: usize) -> ReadByte {
     ReadByte::Is(n as u8, next)
 }
 
-// The `count` hex digits of a bit pattern.
-pub fn read_bits(line: &[u8], at: usize, count: usize) -> ReadU64 {
+// The 16 hex digits of a bit pattern.
+pub fn read_bits(line: &[u8], at: usize) -> ReadU64 {
     if line.len() < at {
         return ReadU64::Malformed;
     }
     let end = find(line, at, b' ');
-    let ParsedU64::Is(n) = crate::number::parse_bits(&line[at..end], count) else {
+    let ParsedU64::Is(n) = crate::number::parse_bits(&line[at..end]) else {
         return ReadU64::Malformed;
     };
     ReadU64::Is(n, end + 1)

@@ -12,36 +12,33 @@ use lib.Dec.{ltb, lit≤}
 use borrow.Author.Tests.{ltb-true, ltb-false}
 use lib.Ieee.{Float, to_bits, size, odd}
 use Rattle.floats.specs.Factor.{Factor, Normalised, unit, times}
-use Rattle.floats.specs.Fields.{bad_bits, factor_of}
-use Rattle.floats.specs.Formats.{f64_format}
-use Rattle.floats.specs.Splitting.{bad_in, factor_in, is_bad, rate_factor, split}
+use Rattle.floats.specs.Splitting.{is_bad, rate_factor, split}
 use Rattle.floats.proofs.Factor.{times-unit-right}
-use Rattle.floats.proofs.AnyFormat.{farthest}
-use Rattle.floats.proofs.Splitting.{f64-lawful, rate-normal}
+use Rattle.floats.proofs.Splitting.{farthest, rate-normal}
 use Rattle.accumulator.specs.declared.StableProductFloatAcc.{StableProductFloatAcc}
 use Rattle.kernels.specs.declared.lanes.Lanes.{Lanes}
 use Rattle.laws.specs.Lists.{Each, none, more}
 use Rattle.kernels.specs.Lanes.{feed, lane_of, some}
 use Rattle.kernels.specs.InnerPlain.{lane_times, lanes, piece_product}
-use Rattle.kernels.specs.Pieces.{acc_of}
+use Rattle.kernels.specs.Stepped.{stepped}
+use Rattle.kernels.specs.Pieces.{GoodRate, acc_of, worked}
 use Rattle.kernels.specs.Blocks.{start_lanes, m_of, e_of, contiguous}
 use Rattle.kernels.specs.InnerLanes.{SmallLanes, LanesRepresent, LanesAfter, zeros, plain_after}
 use Rattle.kernels.specs.InnerStrided.{strided}
-use Rattle.kernels.specs.InnerDoubles.{stepped, worked}
 use Rattle.kernels.proofs.Feeding.{feed-append, some-append}
 use Rattle.kernels.proofs.Factors.{NormalLanes, lane-normal, lane-lt}
 use Rattle.kernels.proofs.Standing.{represents-split, represents-acc}
-use Rattle.kernels.proofs.Blocking.{Value, lanes-append, represent-start, contiguous-is}
-use Rattle.kernels.proofs.Agreement.{unmarked-worked}
+use Rattle.kernels.proofs.Stepping.{stepped-agrees}
+use Rattle.kernels.proofs.Blocking.{Value, each-rate, lanes-append, represent-start, contiguous-is, contiguous-mark, contiguous-agrees}
 use Rattle.kernels.proofs.Striding.{length-strided}
-use Rattle.kernels.proofs.Bounded.{Short, lane-size, factor-short}
+use Rattle.kernels.proofs.Bounded.{Short, lane-size, rate-short}
 use Rattle.vectors.specs.InnerWaiting.{one, chained, exponents_of, lanes_product}
 use Rattle.vectors.proofs.Chaining.{chain-represents}
 
 -- ---- one list after another
 pub fed-append : (s r q : Lanes) (xs ys : List Float) (n : ℕ) → length xs ≡ 8 * n → LanesAfter s xs r → LanesAfter r ys q → LanesAfter s (xs ++ ys) q
 fed-append s r q xs ys n l F G = record {
-  represent = λ fs H. subst (LanesRepresent zeros q) (sym (lanes-append f64_format n fs xs ys l)) (G.represent (plain_after fs xs) (F.represent fs H));
+  represent = λ fs H. subst (LanesRepresent zeros q) (sym (lanes-append n fs xs ys l)) (G.represent (plain_after fs xs) (F.represent fs H));
   mark = λ fs H.
       G.mark (plain_after fs xs) (F.represent fs H)
       ∙ ap (λ (b : Bool). b || some is_bad ys) (F.mark fs H)
@@ -56,11 +53,11 @@ fed-none s = record { represent = λ fs H. H; mark = λ fs H. sym (or-false s.ba
 
 -- ---- 1.0 changes nothing
 one-rate : rate_factor one ≡ unit 52
-unfolding factor_in factor_of to_bits size odd
+unfolding rate_factor to_bits size odd
 one-rate = refl
 
 one-good : is_bad one ≡ false
-unfolding bad_in bad_bits to_bits size odd
+unfolding is_bad to_bits size odd
 one-good = refl
 
 ones-times : (n i : ℕ) (gs : List Factor) → ((k : ℕ) → k < 8 → Normalised 52 (get_or gs k (unit 52)))
@@ -125,7 +122,7 @@ module _ (xs : List Float) (r : Lanes) (F : LanesAfter start_lanes xs r) where
 
   short-rates : (ys : List Float) → Each (Short 52 farthest) (map rate_factor ys)
   short-rates [] = none
-  short-rates (y ∷ ys) = more (factor-short f64_format f64-lawful y) (short-rates ys)
+  short-rates (y ∷ ys) = more (rate-short y) (short-rates ys)
 
   pub fed-small : (n : ℕ) → suc farthest * length xs ≤ n → SmallLanes n r
   fed-small n h = record { at = λ k. go k (ltb k 8) refl }
@@ -149,7 +146,15 @@ module _ (xs : List Float) (r : Lanes) (F : LanesAfter start_lanes xs r) where
       ap (λ (a : StableProductFloatAcc). record { m = a.m; e = a.e; bad = r.bad })
       (represents-acc (split p).m (exponents_of r +ℤ (split p).e) (piece_product 52 (map rate_factor xs)) S)
       ∙ ap (λ (b : Bool). record { m = (acc_of (piece_product 52 (map rate_factor xs))).m; e = (piece_product 52 (map rate_factor xs)).exp; bad = b }) mark
-      ∙ sym (contiguous-is f64_format f64-lawful v)
+      ∙ sym (contiguous-is v)
+
+-- with no bad value, both ways give the same
+pub unmarked-worked : (b : Bool) (xs : List Float) → Each Value xs → (contiguous xs).bad ≡ false → contiguous xs ≡ worked b xs
+unmarked-worked true xs v e = refl
+unmarked-worked false xs v e = contiguous-agrees rates ∙ sym (stepped-agrees rates)
+  where
+    rates : Each GoodRate xs
+    rates = each-rate v (sym (contiguous-mark xs v) ∙ e)
 
 pub stepped-worked : (b : Bool) (xs : List Float) (a : StableProductFloatAcc) → not b ≡ true → a ≡ stepped xs → a ≡ worked b xs
 stepped-worked true xs a e p = absurd (true≢false (sym e))
@@ -161,7 +166,7 @@ unfolding lanes_product
 fed-worked true xs r F v e = fed-contiguous xs r F v
 fed-worked false xs r F v e =
     let c = fed-contiguous xs r F v in
-    c ∙ unmarked-worked f64_format f64-lawful false xs v (ap (λ (a : StableProductFloatAcc). a.bad) (sym c) ∙ e)
+    c ∙ unmarked-worked false xs v (ap (λ (a : StableProductFloatAcc). a.bad) (sym c) ∙ e)
 
 -- the lanes of at most 2^40 values are far from the ends of i64
 pub vectors-small : (xs : List Float) (b d : ℤ) (n : ℕ) (s : Lanes) → n ≤ 2 ^ 40 → LanesAfter start_lanes (strided xs b d n) s → SmallLanes (2 ^ 56) s

@@ -8,15 +8,14 @@ use native.Mathlib.Omega.{arith}
 use lib.ListN.{length, get_or}
 use lib.Ieee.{Float}
 use Rattle.floats.specs.Factor.{Factor, unit}
-use Rattle.floats.specs.Formats.{f64_format}
 use Rattle.floats.specs.Splitting.{is_bad}
 use Rattle.kernels.specs.declared.lanes.Lanes.{Lanes}
 use Rattle.laws.specs.Lists.{Each}
 use Rattle.kernels.specs.Lanes.{feed, every, some}
+use Rattle.kernels.specs.Pieces.{GoodRate}
 use Rattle.kernels.specs.Blocks.{m_of, e_of, renorm}
 use Rattle.floats.specs.InnerKinds.{is_subnormal}
 use Rattle.kernels.specs.InnerLanes.{NoneSubnormal, LanesRepresent, LanesAfter, zeros, plain_after}
-use Rattle.kernels.specs.InnerDoubles.{GoodRate}
 use Rattle.kernels.proofs.Lanewise.{depth}
 use Rattle.kernels.proofs.Blocking.{Value, rates-mark, renorm-each, renorm-mark}
 use Rattle.vectors.specs.declared.vector.Waiting.{Waiting}
@@ -61,7 +60,7 @@ module _ (signs : Bool) (k n : ℕ) (few : k ≤ 510) (room : suc k * n ≤ 1022
 
       mark : Each GoodRate xs ⊎ LostLane (feed (wait_step signs) 0 w xs).m → (renorm kept).bad ≡ (s.bad || some is_bad xs)
       mark (inr l) = absurd (none-lost (feed (wait_step signs) 0 w xs).m p l)
-      mark (inl R) = renorm-mark kept ∙ rates-mark f64_format s.bad R
+      mark (inl R) = renorm-mark kept ∙ rates-mark s.bad R
 
   -- and until then no lane is subnormal
   pub waited-whole : every not_past (feed (wait_step signs) 0 w xs).m ≡ true → (fs : List Factor) → LanesRepresent zeros s fs → NoneSubnormal kept

@@ -5,7 +5,6 @@ use mathlib.Core.Path.{◌≡◌, refl, sym, ap, ◌∙◌, subst}
 use mathlib.Core.Bool.{Bool, true, false, not, cond, ◌&&◌, ◌||◌, true≢false, or-false, or_assoc}
 use mathlib.Core.List.{List, [], ◌++◌, map}
 use mathlib.Core.Logic.{◌⊎◌, inl, inr}
-use native.Mathlib.Nat.{le_trans}
 use native.Mathlib.Omega.{arith}
 use lib.ListN.{length, get_or, set, length-append}
 use lib.IntN.{◌+ℤ◌}
@@ -13,15 +12,14 @@ use lib.Dec.{lit≤}
 use lib.Ieee.{Float}
 use Rattle.floats.specs.Product.{product_of}
 use Rattle.floats.specs.Factor.{Factor, unit}
-use Rattle.floats.specs.Formats.{f64_format}
 use Rattle.floats.specs.Splitting.{is_bad, rate_factor, split}
-use Rattle.floats.proofs.Splitting.{f64-lawful}
-use Rattle.floats.proofs.AnyFormat.{farthest}
+use Rattle.floats.proofs.Splitting.{farthest}
 use Rattle.kernels.specs.declared.lanes.Lanes.{Lanes}
 use Rattle.laws.specs.Lists.{Each}
 use Rattle.kernels.specs.Lanes.{feed, lane_of, every, some}
 use Rattle.kernels.specs.InnerPlain.{lane_times}
-use Rattle.kernels.specs.Blocks.{m_of, e_of, unsplit_step, split_step_in, renorm}
+use Rattle.kernels.specs.Pieces.{GoodRate}
+use Rattle.kernels.specs.Blocks.{m_of, e_of, unsplit_step, split_step, renorm}
 use Rattle.kernels.specs.InnerLanes.{SmallLanes, NoneSubnormal, LanesRepresent, LanesAfter, zeros, plain_after}
 use Rattle.floats.specs.InnerKinds.{is_subnormal}
 use Rattle.kernels.proofs.Feeding.{feed-related, feed-holds, feed-eights, some-append}
@@ -31,7 +29,6 @@ use Rattle.kernels.proofs.Lanewise.{depth, lanes-widen}
 use Rattle.kernels.proofs.Stepwise.{unsplit-again}
 use Rattle.kernels.proofs.Standing.{represents-more, represents-other, represents-rate}
 use Rattle.kernels.specs.InnerLanes.{Represents}
-use Rattle.kernels.specs.InnerDoubles.{GoodRate, split_step}
 use Rattle.kernels.proofs.Blocking.{Value, rates-mark, lanes-append, split-more, renorm-represent, renorm-each, renorm-mark, split-mark, unsplit-mark}
 use Rattle.vectors.specs.InnerWaiting.{not_past, not_low, guarded}
 use Rattle.vectors.proofs.Vectorwise.{guarded-outside}
@@ -50,14 +47,14 @@ Marked all s xs t = (t.bad ≡ (s.bad || some is_bad xs)) ⊎ (LostLane t.m × (
 -- ---- values that are split
 split-out : (i : ℕ) (s : Lanes) (fs : List Factor) (x : Float) → i < 512 → Value x → LanesOut i s fs
     → LanesOut (suc i) (split_step i s x) (lane_times 52 i fs (rate_factor x))
-unfolding split_step_in
+unfolding split_step
 split-out i s fs x l v (inl h) =
     value_out 15 64 (lit≤ tt) i s.m s.e fs (split x).m (split x).e (rate_factor x) l
     (waits-more 0 15 (split x).m (split x).e (rate_factor x) zero-le (represents-waits (split x).m (split x).e (rate_factor x) (represents-rate x))) h
 split-out i s fs x l v (inr p) = inr (lost-stays s.m (lane_of i) (lane-lt i) (split x).m p)
 
 split-lost : (i : ℕ) (s : Lanes) (xs : List Float) → LostLane s.m → LostLane (feed split_step i s xs).m
-unfolding split_step_in
+unfolding split_step
 split-lost = feed-holds split_step (λ (s : Lanes). LostLane s.m) (λ i s x. lost-stays s.m (lane_of i) (lane-lt i) (split x).m)
 
 -- ---- values that are not
@@ -83,7 +80,7 @@ module _ (i : ℕ) (s : Lanes) where
 
 -- ---- a vector
 split-again : (i : ℕ) (s : Lanes) (x : Float) → split_step (i + 8) s x ≡ split_step i s x
-unfolding split_step_in
+unfolding split_step
 split-again i s x =
     ap (λ (k : ℕ). record { m = set s.m k (product_of 11 52 (m_of s k) (split x).m); e = set s.e k (e_of s k +ℤ (split x).e); bad = s.bad || (split x).bad })
     (lane-again i)
@@ -133,7 +130,7 @@ module _ (i : ℕ) (t : Lanes) (gs : List Factor) (vector : List Float) (eight :
   vector-represent : LanesRepresent (depth 1 (8 * i)) t gs → LanesRepresent (depth 1 (8 * suc i)) (feed split_step 0 t vector) (plain_after gs vector)
   vector-represent h =
       shifted (λ (n : ℕ). LanesRepresent (depth 1 n)) split_step split-again
-      (feed-related split_step (lane_times 52) rate_factor Value (λ (n : ℕ). LanesRepresent (depth 1 n)) (8 * 968) (split-more f64_format f64-lawful) (8 * i) t gs v (le_trans within (lit≤ tt)) h)
+      (feed-related split_step (lane_times 52) rate_factor Value (λ (n : ℕ). LanesRepresent (depth 1 n)) 512 split-more (8 * i) t gs v within h)
 
   vector-out : (all : Bool) → length t.m ≡ 8 → LanesOut (8 * i) t gs → LanesOut (8 * suc i) (guarded all t vector) (plain_after gs vector)
   vector-out all long h =
@@ -147,10 +144,10 @@ module _ (i : ℕ) (t : Lanes) (gs : List Factor) (vector : List Float) (eight :
   vector-mark : (all : Bool) → length t.m ≡ 8 → Marked all t vector (guarded all t vector)
   vector-mark all long =
       guarded-by all t vector (Marked all t vector) (λ a e. low a (vector-low vector eight v e))
-      (inl (split-mark f64_format 0 t vector))
+      (inl (split-mark 0 t vector))
     where
       good : all ≡ false → Each GoodRate vector ⊎ LostLane (feed unsplit_step 0 t vector).m → Marked all t vector (feed unsplit_step 0 t vector)
-      good a (inl R) = inl (unsplit-mark 0 t vector ∙ rates-mark f64_format t.bad R)
+      good a (inl R) = inl (unsplit-mark 0 t vector ∙ rates-mark t.bad R)
       good a (inr k) = inr (k, a)
 
       low : all ≡ false → Each (Guarded 14) vector ⊎ Hit vector → Marked all t vector (feed unsplit_step 0 t vector)
@@ -196,7 +193,7 @@ mixed-more all n s xs i t u vector R l e v g =
     })
   where
     whole : (fs : List Factor) → plain_after fs (xs ++ vector) ≡ plain_after (plain_after fs xs) vector
-    whole fs = lanes-append f64_format i fs xs vector R.count_is
+    whole fs = lanes-append i fs xs vector R.count_is
 
     marked : Marked all s xs t → Marked all t vector (guarded all t vector)
         → Marked all s (xs ++ vector) (guarded all t vector)

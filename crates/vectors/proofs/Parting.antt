@@ -18,10 +18,10 @@ use Rattle.laws.specs.Lists.{Each}
 use Rattle.kernels.specs.Lanes.{feed, lane_of, in_order}
 use Rattle.kernels.specs.InnerPlain.{lanes}
 use Rattle.kernels.specs.Blocks.{start_lanes, e_of}
+use Rattle.kernels.specs.Stepped.{stepped}
 use Rattle.kernels.specs.InnerLanes.{LanesRepresent, LanesAfter, zeros}
 use Rattle.kernels.specs.InnerStrided.{strided}
 use Rattle.kernels.specs.InnerStepped.{lower, bad_step, first_bad}
-use Rattle.kernels.specs.InnerDoubles.{stepped}
 use Rattle.kernels.proofs.Feeding.{feed-holds, feed-append}
 use Rattle.kernels.proofs.Striding.{length-strided, strided-append}
 use Rattle.kernels.proofs.Joining.{identity-is}

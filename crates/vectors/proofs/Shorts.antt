@@ -12,19 +12,16 @@ use lib.Dec.{T}
 use lib.Ieee.{Float, binary64, fits}
 use Rattle.floats.specs.Factor.{Factor, unit}
 use Rattle.floats.specs.declared.Split.{Split}
-use Rattle.floats.specs.Formats.{f64_format}
 use Rattle.floats.specs.Splitting.{rate_factor, split}
-use Rattle.floats.proofs.Splitting.{f64-lawful}
 use Rattle.floats.specs.InnerKinds.{is_subnormal}
 use Rattle.floats.proofs.Overflow.{is_lost}
 use Rattle.accumulator.specs.declared.StableProductFloatAcc.{StableProductFloatAcc}
 use Rattle.laws.specs.Lists.{Each, none, more}
 use Rattle.kernels.specs.Lanes.{feed, in_order, every}
 use Rattle.kernels.specs.InnerPlain.{lanes, piece_product}
-use Rattle.kernels.specs.Pieces.{acc_of}
+use Rattle.kernels.specs.Pieces.{GoodRate, acc_of}
 use Rattle.kernels.specs.Blocks.{start_lanes, contiguous}
 use Rattle.kernels.specs.InnerLanes.{plain_after}
-use Rattle.kernels.specs.InnerDoubles.{GoodRate}
 use Rattle.kernels.proofs.Factors.{units-normal}
 use Rattle.kernels.proofs.Sizes.{replicate-either}
 use Rattle.kernels.proofs.Standing.{represents-acc}
@@ -92,8 +89,8 @@ module _ (k n : ℕ) (room : 8 * (suc k * n) ≤ 1022) (xs ys : List Float) (v :
           ∙ represents-acc (split p).m (pos 0 +ℤ (split p).e) (piece_product 52 (map rate_factor xs))
           (waits-split deep p (pos 0) (piece_product 52 (map rate_factor xs)) W)
           ∙ ap (λ (c : Bool). record { m = (acc_of (piece_product 52 (map rate_factor xs))).m; e = (piece_product 52 (map rate_factor xs)).exp; bad = c })
-          (sym (rates-good f64_format (back R)))
-          ∙ sym (contiguous-is f64_format f64-lawful v)
+          (sym (rates-good (back R)))
+          ∙ sym (contiguous-is v)
 
       chained-up : Each GoodRate ys → Waits deep p (pos 0) (in_order (times-in fs) 8 (unit 52)) ⊎ (is_lost p ≡ true) → Brought
       chained-up R (inl W) = stood R (subst (λ (gs : List Factor). Waits deep p (pos 0) (in_order (times-in gs) 8 (unit 52))) plain W)

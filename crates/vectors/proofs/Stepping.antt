@@ -10,7 +10,7 @@ use lib.IntN.{ℤ, pos, ◌+ℤ◌, ◌*ℤ◌}
 use lib.Dec.{T, ltb, lit≤}
 use lib.Ieee.{Float, nan, binary64, fits}
 use borrow.Author.Tests.{ltb-true, ltb-false}
-use Rattle.floats.proofs.AnyFormat.{farthest}
+use Rattle.floats.proofs.Splitting.{farthest}
 use Rattle.kernels.specs.declared.lanes.Lanes.{Lanes}
 use Rattle.laws.specs.Lists.{Each}
 use Rattle.kernels.specs.Lanes.{every}
@@ -90,11 +90,11 @@ module _ (all : Bool) (N : ℕ) (s : Lanes) (xs : List Float) (b d : ℤ) (n : �
           }
 
 -- ---- one step after another: i values are whole vectors
-pub fed-step : (q : Lanes) (xs : List Float) (b d : ℤ) (i n : ℕ) (s r : Lanes) → i % 8 ≡ 0 → LanesAfter q (strided xs b d i) s
-    → LanesAfter s (strided xs (b +ℤ d *ℤ pos i) d n) r → LanesAfter q (strided xs b d (i + n)) r
-fed-step q xs b d i n s r e F G =
-    subst (λ (ys : List Float). LanesAfter q ys r) (sym (strided-append xs b d i n))
-    (fed-append q s r (strided xs b d i) (strided xs (b +ℤ d *ℤ pos i) d n) (i / 8)
+pub fed-step : (xs : List Float) (b d : ℤ) (i n : ℕ) (s r : Lanes) → i % 8 ≡ 0 → LanesAfter start_lanes (strided xs b d i) s
+    → LanesAfter s (strided xs (b +ℤ d *ℤ pos i) d n) r → LanesAfter start_lanes (strided xs b d (i + n)) r
+fed-step xs b d i n s r e F G =
+    subst (λ (ys : List Float). LanesAfter start_lanes ys r) (sym (strided-append xs b d i n))
+    (fed-append start_lanes s r (strided xs b d i) (strided xs (b +ℤ d *ℤ pos i) d n) (i / 8)
     (length-strided xs b d i ∙ (let z : i ≡ 8 * (i / 8) = omega arith in z)) F G)
 
 -- lanes that are brought back already stay as they are

@@ -20,9 +20,8 @@ use Rattle.floats.specs.InnerKinds.{ZERO}
 use Rattle.floats.proofs.Product.{mul-binary64}
 use Rattle.kernels.specs.declared.lanes.Lanes.{Lanes}
 use Rattle.kernels.specs.Lanes.{feed}
-use Rattle.kernels.specs.Blocks.{unsplit_step}
+use Rattle.kernels.specs.Blocks.{unsplit_step, split_step}
 use Rattle.kernels.specs.InnerStrided.{strided, PlacesInside}
-use Rattle.kernels.specs.InnerDoubles.{split_step}
 use Rattle.kernels.proofs.Feeding.{feed-append}
 use Rattle.kernels.proofs.Striding.{length-strided, first-natural, first_below, strided-append, inside-part}
 use Rattle.vectors.specs.declared.vector.Waiting.{Waiting}

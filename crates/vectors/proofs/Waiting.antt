@@ -18,7 +18,7 @@ use Rattle.floats.proofs.Overflow.{is_lost, lost-product, lost-factor}
 use Rattle.laws.specs.Lists.{Each, none, more}
 use Rattle.kernels.specs.Lanes.{feed, lane_of, every}
 use Rattle.kernels.specs.InnerPlain.{lane_times}
-use Rattle.kernels.specs.InnerDoubles.{GoodRate}
+use Rattle.kernels.specs.Pieces.{GoodRate}
 use Rattle.kernels.proofs.Feeding.{feed-holds, feed-related}
 use Rattle.kernels.proofs.Factors.{lane-lt, set_cases}
 use Rattle.kernels.proofs.Lanewise.{depth, turn_small, lanes-turn, exponents-same}

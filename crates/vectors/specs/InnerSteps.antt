@@ -1,9 +1,9 @@
 -- Inner: the steps of a piece: what each makes of the lanes, and that it comes to an end.
-use Rattle.std.specs.Prelude.{ℕ, zero, suc, ◌+◌, ◌-◌, ◌*◌, ◌%◌, ◌^◌, ◌≤◌, ◌<◌, ◌≡◌, ◌⊎◌, List, length, Float}
+use Rattle.std.specs.Prelude.{ℕ, zero, suc, ◌-◌, ◌*◌, ◌%◌, ◌^◌, ◌≤◌, ◌<◌, ◌≡◌, ◌⊎◌, List, Float}
 use Rattle.kernels.specs.declared.lanes.Lanes.{Lanes}
 use Rattle.vectors.specs.declared.feeding.Try.{Try}
 use Rattle.floats.specs.Factor.{Factor}
-use Rattle.kernels.specs.Blocks.{start_lanes, renorm}
+use Rattle.kernels.specs.Blocks.{renorm}
 use Rattle.kernels.specs.InnerLanes.{SmallLanes, NoneSubnormal, LanesRepresent, LanesAfter, zeros}
 
 -- lanes that, brought back, are what the values xs make of the lanes s
@@ -29,11 +29,3 @@ pub record SoundTry (y : Try) : Type 0 where
 unfoldable pub patience : ℕ → ℕ → ℕ
 patience zero way = suc (5 - way)
 patience (suc hold) way = 0
-
--- lanes that whole vectors of a piece went to, before n more values of it
-pub record Underway (s : Lanes) (n : ℕ) : Type 0 where
-  pub rates : List Float
-  pub vectors : ℕ
-  pub long : length rates ≡ 8 * vectors
-  pub fed : LanesAfter start_lanes rates s
-  pub few : length rates + n ≤ 2 ^ 40

@@ -8,8 +8,7 @@ use Rattle.floats.specs.InnerKinds.{ZERO}
 use Rattle.accumulator.specs.declared.StableProductFloatAcc.{StableProductFloatAcc}
 use Rattle.kernels.specs.declared.lanes.Lanes.{Lanes}
 use Rattle.kernels.specs.Lanes.{feed, lane_of, in_order, every}
-use Rattle.kernels.specs.Blocks.{e_of, unsplit_step}
-use Rattle.kernels.specs.InnerDoubles.{split_step}
+use Rattle.kernels.specs.Blocks.{e_of, unsplit_step, split_step}
 use Rattle.vectors.specs.declared.vector.Waiting.{Waiting}
 
 abbrev pub one : Float

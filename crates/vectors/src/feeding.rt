@@ -5,7 +5,7 @@ ghost use Rattle.kernels.specs.InnerLanes.{SmallLanes, LanesAfter};
 ghost use Rattle.kernels.specs.InnerStrided.{strided, PlacesInside};
 ghost use Rattle.kernels.specs.Blocks.{start_lanes};
 ghost use Rattle.vectors.specs.InnerVectors.{EightApart, last_vector};
-ghost use Rattle.vectors.specs.InnerSteps.{NotYetNormalised, Progress, SoundTry, patience, Underway};
+ghost use Rattle.vectors.specs.InnerSteps.{NotYetNormalised, Progress, SoundTry, patience};
 ghost use Rattle.vectors.specs.InnerWaiting.{not_past, exponents_of, lanes_product};
 
 use crate::vector::Vector;
@@ -44,13 +44,6 @@ pub struct Pace {
     pub hold: usize,
     pub rising: bool,
     pub again: bool,
-}
-
-// Lanes in [1, 2) that some values went to, and how the next are tried.
-#[derive(Drop)]
-pub struct Fed {
-    pub lanes: Lanes,
-    pub pace: Pace,
 }
 
 // By the values themselves: keep rates, any but low ones, low or large ones. Then by squares, where signs may be mixed: any but low ones, low or large
@@ -264,30 +257,20 @@ fn first_way(len: usize) -> usize {
     if len <= 480 { LAST_WAY } else { 0 }
 }
 
-// Before the first value, which is tried in this way.
-pub fn start_fed(way: usize) -> Fed
-    ensures { result.lanes ≡ start_lanes }
+// The lanes of a whole piece, `eight` being the stride of eight values.
+pub fn fed_lanes(values: &[f64], start: i64, stride: i64, eight: i64, len: usize) -> Lanes
+    requires { (len ≤ 2 ^ 40) × EightApart stride len eight × PlacesInside (length values.now) start stride len }
+    ensures { LanesAfter start_lanes (strided values.now start stride len) result }
 {
-    Fed {
-        lanes: kernels::lanes::start_lanes(),
-        pace: Pace {
-            way,
-            hold: 0,
-            rising: false,
-            again: false,
-        },
-    }
-}
-
-// The next values of a piece, `eight` being the stride of eight values. Whole vectors of it went before.
-pub fn fed_on(from: Fed, values: &[f64], start: i64, stride: i64, eight: i64, len: usize) -> Fed
-    requires { Underway from.lanes len × EightApart stride len eight × PlacesInside (length values.now) start stride len }
-    ensures { LanesAfter from.lanes (strided values.now start stride len) result.lanes }
-{
-    let mut s = from.lanes;
+    let mut s = kernels::lanes::start_lanes();
     let mut at = start;
     let mut i: usize = 0;
-    let mut pace = from.pace;
+    let mut pace = Pace {
+        way: first_way(len),
+        hold: 0,
+        rising: false,
+        again: false,
+    };
     while i < len {
         let t = next_step(s, values, at, stride, eight, len - i, pace);
         s = kernels::lanes::stable_renorm(t.lanes);
@@ -297,16 +280,7 @@ pub fn fed_on(from: Fed, values: &[f64], start: i64, stride: i64, eight: i64, le
             at = crate::unsplit::behind(t.at, eight, t.done);
         }
     }
-    Fed { lanes: s, pace }
-}
-
-// The lanes of a whole piece.
-pub fn fed_lanes(values: &[f64], start: i64, stride: i64, eight: i64, len: usize) -> Lanes
-    requires { (len ≤ 2 ^ 40) × EightApart stride len eight × PlacesInside (length values.now) start stride len }
-    ensures { LanesAfter start_lanes (strided values.now start stride len) result }
-{
-    let r = fed_on(start_fed(first_way(len)), values, start, stride, eight, len);
-    r.lanes
+    s
 }
 
 fn exponents(s: Lanes) -> i64

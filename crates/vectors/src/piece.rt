@@ -3,7 +3,8 @@ ghost use Rattle.std.specs.Prelude.{◌≡◌, true, false, ◌+◌, ◌*◌, �
 ghost use Rattle.kernels.specs.Lanes.{feed};
 ghost use Rattle.kernels.specs.InnerStrided.{strided, PlacesInside};
 ghost use Rattle.kernels.specs.Blocks.{contiguous};
-ghost use Rattle.kernels.specs.InnerDoubles.{stepped, worked};
+ghost use Rattle.kernels.specs.Stepped.{stepped};
+ghost use Rattle.kernels.specs.Pieces.{worked};
 ghost use Rattle.vectors.specs.InnerVectors.{EightApart, last_vector};
 ghost use Rattle.vectors.specs.InnerWaiting.{one, wait_step, padded, start_waiting};
 ghost use Rattle.vectors.specs.InnerShort.{ShortLeast, ShortProduct};
@@ -149,7 +150,7 @@ pub fn short_piece(values: &[f64], start: i64, stride: i64, len: usize, least: f
 }
 
 // A piece of at most 480 values at any stride, tried by squares, likewise.
-pub fn middle_piece(values: &[f64], start: i64, stride: i64, eight: i64, len: usize) -> Short
+fn middle_piece(values: &[f64], start: i64, stride: i64, eight: i64, len: usize) -> Short
     requires { EightApart stride len eight × PlacesInside (length values.now) start stride len }
     ensures { result.ok ≡ true → ShortProduct (strided values.now start stride len) result }
 {

@@ -5,8 +5,7 @@ ghost use Rattle.std.specs.Int.{w64};
 ghost use Rattle.kernels.specs.Lanes.{feed, every};
 ghost use Rattle.kernels.specs.InnerLanes.{window, SmallLanes};
 ghost use Rattle.kernels.specs.InnerStrided.{strided, PlacesInside};
-ghost use Rattle.kernels.specs.Blocks.{unsplit_step};
-ghost use Rattle.kernels.specs.InnerDoubles.{split_step};
+ghost use Rattle.kernels.specs.Blocks.{unsplit_step, split_step};
 ghost use Rattle.vectors.specs.InnerWaiting.{vector_of, lesser, measure, wait_step, least_of, not_below, not_past, chained};
 ghost use Rattle.vectors.specs.InnerWaiting.{magnitude, magnitude_but, least_magnitude, not_low, none_low, all_ordinary, below_normal, all_subnormal, guarded};
 

@@ -7,8 +7,6 @@ use native.Mathlib.Omega.{arith}
 use lib.ListN.{length, get_or, take, drop}
 use lib.Dec.{T}
 use lib.Ieee.{Float, nan, binary64, fits}
-use Rattle.floats.specs.Formats.{f64_format}
-use Rattle.floats.proofs.Splitting.{f64-lawful}
 use Rattle.floats.specs.Splitting.{is_bad}
 use Rattle.laws.specs.Lists.{Each}
 use Rattle.kernels.specs.Lanes.{some}
@@ -46,7 +44,7 @@ module _ (values : List Float) (w i : ℕ) (v : Each (λ (x : Float). T (fits bi
   rates = take w (drop i values)
 
   mark : (contiguous rates).bad ≡ some is_bad rates
-  mark = contiguous-mark f64_format f64-lawful rates (each_take Value w (each-drop Value i v))
+  mark = contiguous-mark rates (each_take Value w (each-drop Value i v))
 
   found_within : Found is_bad nan rates → BadWithin values w i
   found_within f =

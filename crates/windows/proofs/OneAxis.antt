@@ -13,7 +13,6 @@ use lib.Ieee.{Float}
 use borrow.Author.Tests.{lt-ltb, le-leb}
 use mir.Val.{SFits}
 use mir.Syntax.{w64}
-use Rattle.floats.specs.Formats.{f64_format}
 use Rattle.refusals.specs.Refusals.{first_of}
 use Rattle.integers.specs.Integers.{eq_z}
 use Rattle.integers.proofs.Difference.{ints, atoms}
@@ -32,8 +31,8 @@ use Rattle.offsets.proofs.Ranges.{Clear, clear, place-0, tested, range-places, R
 use Rattle.accumulator.specs.declared.StableProductFloatAcc.{StableProductFloatAcc}
 use Rattle.accumulator.specs.Joining.{accumulator}
 use Rattle.kernels.specs.Blocks.{contiguous}
+use Rattle.kernels.specs.Pieces.{worked}
 use Rattle.kernels.specs.InnerStrided.{strided}
-use Rattle.kernels.specs.InnerDoubles.{worked}
 use Rattle.kernels.proofs.Striding.{strided-window}
 use Rattle.reduction.specs.Ranges.{range_product, reduce_of}
 use Rattle.reduction.proofs.Calls.{reduce-accepted}
@@ -117,7 +116,7 @@ module _ (w : ℕ) (some-rate : 0 < w) (few : w ≤ 2 ^ 40) where
         (strided values (pos i +ℤ layout.run_stride *ℤ pos 0) layout.run_stride (w - 0))
         ≡ range_product sizes strides (pos i) 0 w values
     one_piece =
-        line-joined layout (ranged-accepted sizes strides (pos i) 0 w (length values) range).traversal no_outer f64_format (pos i)
+        line-joined layout (ranged-accepted sizes strides (pos i) 0 w (length values) range).traversal no_outer (pos i)
         (ranged-bounded sizes strides (pos i) 0 w (length values) range) values
         (ranged-inside sizes strides (pos i) 0 w (length values) range) w (omega (arith, total-is)) 0 some-rate
 
@@ -138,5 +137,5 @@ pub one-axis : (values : List Float) (w i : ℕ) → 0 < w → w ≤ 2 ^ 40 → 
     → reduce_of (w ∷ []) (pos 1 ∷ []) (pos i) 0 w values
     ≡ accumulator (contiguous (take w (drop i values))).m (contiguous (take w (drop i values))).e (contiguous (take w (drop i values))).bad
 one-axis values w i some-rate few inside short =
-    reduce-accepted f64_format (w ∷ []) (pos 1 ∷ []) (pos i) 0 w values (accepted w some-rate few values i inside short)
+    reduce-accepted (w ∷ []) (pos 1 ∷ []) (pos i) 0 w values (accepted w some-rate few values i inside short)
     ∙ ap (λ (a : StableProductFloatAcc). accumulator a.m a.e a.bad) (product w some-rate few values i inside short)

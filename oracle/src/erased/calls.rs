@@ -52,56 +52,7 @@ impl Layout {
     }
 }
 
-/// The same for both widths.
 type SourceAcc = <f64 as StableProductScalar>::StableProductAcc;
-
-/// A rate as it is stored: binary64, or binary32 in the archives. Its bits are handed about in the last ones of a u64.
-pub trait Rate: Copy {
-    /// How many bits the fraction has. The exponent's field stands above it, and above that the sign.
-    const FRACTION: u32;
-    /// What is added to an exponent in its field.
-    const BIAS: u64;
-
-    /// The bits of the least normal number, of an infinity, of the one NaN, and of the sign.
-    const LEAST: u64 = 1 << Self::FRACTION;
-    const INFINITE: u64 = (2 * Self::BIAS + 1) * Self::LEAST;
-    const NAN: u64 = Self::INFINITE + Self::LEAST / 2;
-    const SIGN: u64 = Self::INFINITE + Self::LEAST;
-
-    fn bits(self) -> u64;
-    fn of_bits(bits: u64) -> Self;
-    /// What the source gives for a range whose elements all lie inside the values.
-    fn product(plan: &Plan, base: isize, range: Range<usize>, values: &[Self]) -> Answer;
-    /// The source's finishing. The accumulator is as that of `finish`.
-    fn finished(acc: Acc) -> Self;
-}
-
-macro_rules! rate {
-    ($float:ty, $bits:ty, $fraction:literal, $bias:literal) => {
-        impl Rate for $float {
-            const FRACTION: u32 = $fraction;
-            const BIAS: u64 = $bias;
-
-            #[inline]
-            fn bits(self) -> u64 {
-                u64::from(self.to_bits())
-            }
-            fn of_bits(bits: u64) -> $float {
-                <$float>::from_bits(bits as $bits)
-            }
-            #[inline]
-            fn product(plan: &Plan, base: isize, range: Range<usize>, values: &[$float]) -> Answer {
-                Answer(reduce::<$float, StableProductKernel>(plan, base, range, values))
-            }
-            fn finished(acc: Acc) -> $float {
-                <$float>::sp_finish(made(acc))
-            }
-        }
-    };
-}
-
-rate!(f64, u64, 52, 1023);
-rate!(f32, u32, 23, 127);
 
 /// What stands after each `name: ` in a debug print, up to the next separator.
 fn fields<'a>(print: &'a str, name: &str) -> Vec<&'a str> {
@@ -134,9 +85,8 @@ impl Plan {
     }
 
     /// The product of a range whose elements all lie inside the values.
-    #[inline]
-    pub fn product<T: Rate>(&self, base: isize, range: Range<usize>, values: &[T]) -> Answer {
-        T::product(self, base, range, values)
+    pub fn product(&self, base: isize, range: Range<usize>, values: &[f64]) -> Answer {
+        Answer(reduce::<f64, StableProductKernel>(self, base, range, values))
     }
 
     /// The ordered product of such a range. A NaN has the bits that the machine gives it.
@@ -237,7 +187,7 @@ pub fn visited(layout: &Layout, base: i64, range: (u64, u64), length: u64) -> Ve
 }
 
 /// The product of a range whose elements all lie inside the values.
-pub fn product<T: Rate>(layout: &Layout, base: i64, range: (u64, u64), values: &[T]) -> Acc {
+pub fn product(layout: &Layout, base: i64, range: (u64, u64), values: &[f64]) -> Acc {
     layout.plan.product(base as isize, range.0 as usize..range.1 as usize, values).read()
 }
 
@@ -281,6 +231,6 @@ pub fn join(left: Acc, right: Acc) -> Acc {
 }
 
 /// It has 1 <= |m| < 2 and |e| at most 2^52.
-pub fn finish<T: Rate>(acc: Acc) -> T {
-    T::finished(acc)
+pub fn finish(acc: Acc) -> f64 {
+    f64::sp_finish(made(acc))
 }

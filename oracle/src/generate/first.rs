@@ -51,7 +51,7 @@ pub fn drawn(dice: &mut Dice) -> Call {
 }
 
 /// A run of about a chunk or several, or rows of such runs, as many as a line has room for.
-pub fn long(dice: &mut Dice) -> Axes {
+fn long(dice: &mut Dice) -> Axes {
     let stride: i64 = dice.of(&[1, 1, 1, 1, -1, -1, 2, 2, -2, 3, 0]);
     let step = stride.unsigned_abs().max(1);
     let most = (LINE_VALUES as u64 - 1) / step + 1;

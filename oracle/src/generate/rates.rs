@@ -3,7 +3,6 @@
 
 use super::accumulator::{near_an_end, plain, short, with_zeros, ONE, SIGN};
 use super::Dice;
-use crate::erased::calls::Rate;
 
 /// The exponents of the bounds within which a block of 64 is multiplied unsplit, and of the normal numbers.
 const BLOCK: i64 = 120;
@@ -63,13 +62,8 @@ impl Minus {
     }
 
     pub fn sign(&self, dice: &mut Dice) -> u64 {
-        self.sign_of::<f64>(dice)
-    }
-
-    /// The sign's bit in a rate of this width.
-    pub fn sign_of<T: Rate>(&self, dice: &mut Dice) -> u64 {
         if self.0 > 0 && dice.once_in(self.0) {
-            T::SIGN
+            SIGN
         } else {
             0
         }
@@ -102,13 +96,13 @@ pub fn bad_of_any_pattern(dice: &mut Dice) -> u64 {
 
 /// The same rate with another exponent, as near to the wanted one as a normal number can have, and what is still
 /// wanted then. A subnormal stays as it is.
-pub fn moved<T: Rate>(rate: u64, wanted: i64) -> (u64, i64) {
-    let field = (rate % T::SIGN / T::LEAST) as i64;
+pub fn moved(rate: u64, wanted: i64) -> (u64, i64) {
+    let field = (rate >> 52 & 2047) as i64;
     if field == 0 {
         return (rate, wanted);
     }
-    let new = (field + wanted).clamp(1, 2 * T::BIAS as i64);
-    (rate - field as u64 * T::LEAST + new as u64 * T::LEAST, wanted - (new - field))
+    let new = (field + wanted).clamp(1, 2046);
+    (rate & !(2047 << 52) | (new as u64) << 52, wanted - (new - field))
 }
 
 pub fn rate(significand: u64, e: i64) -> u64 {

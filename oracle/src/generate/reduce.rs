@@ -4,10 +4,8 @@
 //! tail. Ranges begin and end anywhere, so that many do so inside a run.
 
 use super::axes::{self, Axes};
-use super::{digits_text, rates, Dice};
-use crate::erased::calls::Rate;
+use super::{floats_text, rates, Dice};
 use crate::rules::{self, Range};
-use std::marker::PhantomData;
 
 /// The most values that a layout of `reduce` or of `ordered` takes.
 pub const MOST_VALUES: i128 = 1100;
@@ -15,25 +13,7 @@ pub const MOST_VALUES: i128 = 1100;
 /// The most values of a line.
 pub const LINE_VALUES: i128 = 4096;
 
-/// What of a call is its width's own.
-pub trait Drawn: Rate {
-    /// So many values are a block.
-    const BLOCK: u64;
-    /// Exponents at which a finished number becomes zero, subnormal or infinite, or just not.
-    const LIMITS: &'static [i64];
-
-    /// So many rates as bits, none of them bad.
-    fn drawn(dice: &mut Dice, count: u64) -> Vec<u64>;
-}
-
-impl Drawn for f64 {
-    const BLOCK: u64 = 64;
-    const LIMITS: &'static [i64] = &[-1076, -1075, -1074, -1073, -1050, -1024, -1023, -1022, 1023, 1023, 1024];
-
-    fn drawn(dice: &mut Dice, count: u64) -> Vec<u64> {
-        rates::drawn(dice, count)
-    }
-}
+const BLOCK: u64 = 64;
 
 /// No range that is accepted visits more elements: a layout with stride 0 may have 2^40 of them.
 pub const MOST_VISITED: u64 = 5000;
@@ -160,13 +140,12 @@ fn fit(dice: &mut Dice, axes: &Axes, most: i128) -> (i64, u64) {
     ((before - low) as i64, (before + high - low + 1 + after) as u64)
 }
 
-/// A call with its values of one width, as bits. The word is that of its line.
-pub struct Call<T = f64> {
-    pub word: &'static str,
+/// A call with its values, as bits. The word is that of its line.
+pub struct Call {
+    word: &'static str,
     pub axes: Axes,
     pub range: Range,
     pub values: Vec<u64>,
-    of: PhantomData<T>,
 }
 
 impl Call {
@@ -183,28 +162,25 @@ impl Call {
         }
         call
     }
-}
 
-impl<T: Drawn> Call<T> {
     /// One of the words, over these axes, with values of which none is bad. Axes that take more than `most` values get
     /// too few.
-    pub fn over(dice: &mut Dice, axes: Axes, words: &[&'static str], most: i128) -> Call<T> {
+    pub fn over(dice: &mut Dice, axes: Axes, words: &[&'static str], most: i128) -> Call {
         let total = axes.total(dice);
         let (start, end) = stretch(dice, total);
         let (base, length) = fit(dice, &axes, most);
         let word = dice.of(words);
-        let values = T::drawn(dice, length);
-        Call { word, axes, range: Range { base, start, end, length }, values, of: PhantomData }
+        let values = rates::drawn(dice, length);
+        Call { word, axes, range: Range { base, start, end, length }, values }
     }
 
     pub fn text(&self) -> String {
         let Range { base, start, end, .. } = &self.range;
-        let values = digits_text(&self.values, 2 * size_of::<T>());
-        format!("{}{} {base} {start} {end}{values}", self.word, self.axes.text())
+        format!("{}{} {base} {start} {end}{}", self.word, self.axes.text(), floats_text(&self.values))
     }
 
     /// The values themselves.
-    pub fn floats(&self) -> Vec<T> {
+    pub fn floats(&self) -> Vec<f64> {
         super::floats(&self.values)
     }
 
@@ -262,7 +238,7 @@ impl<T: Drawn> Call<T> {
         let (start, end) = (self.range.start, self.range.end);
         let any = start + dice.below(end - start);
         let (first, past) = self.piece(any, run);
-        let tail = first + (past - first) / T::BLOCK * T::BLOCK;
+        let tail = first + (past - first) / BLOCK * BLOCK;
         match dice.below(10) {
             0 => start,
             1 => end - 1,
@@ -274,14 +250,14 @@ impl<T: Drawn> Call<T> {
         }
     }
 
-    /// Exponents are changed so that the product comes to a limit of its width, if none is visited twice.
-    pub fn aim(&mut self, dice: &mut Dice) {
+    /// Exponents are changed so that the product comes to a limit of the doubles, if none is visited twice.
+    fn aim(&mut self, dice: &mut Dice) {
         let (sizes, strides) = (&self.axes.sizes, &self.axes.strides);
         let Ok(acc) = rules::reduce(sizes, strides, &self.range, &self.floats()) else { return };
-        let mut wanted = dice.of(T::LIMITS) - acc.e;
+        let mut wanted = dice.of(&[-1076, -1075, -1074, -1073, -1050, -1024, -1023, -1022, 1023, 1023, 1024]) - acc.e;
         for element in self.range.start..self.range.end {
             let place = self.place(element);
-            (self.values[place], wanted) = rates::moved::<T>(self.values[place], wanted);
+            (self.values[place], wanted) = rates::moved(self.values[place], wanted);
         }
     }
 }

@@ -8,13 +8,12 @@ use mir.Val.{to_z, SFits}
 use mir.Facts.{to_z-of_z}
 use mir.Syntax.{w64}
 use borrow.Author.Rules.{rules}
-use Rattle.floats.specs.Formats.{f64_format}
 use Rattle.integers.specs.Integers.{eq_z}
 use Rattle.offsets.specs.declared.pieces.RangeCursor.{RangeCursor}
 use Rattle.offsets.specs.InnerPieces.{range_at}
 use Rattle.accumulator.specs.Joining.{Answer}
 use Rattle.kernels.specs.InnerStrided.{strided}
-use Rattle.kernels.specs.InnerDoubles.{worked}
+use Rattle.kernels.specs.Pieces.{worked}
 use Rattle.reduction.specs.Ranges.{pieces_of}
 use Rattle.reduction.proofs.Ranges.{PieceTaken, taken}
 use Rattle.bookmarks.specs.Steps.{joined_within}
@@ -69,12 +68,12 @@ next-piece-requires c κs =
 
 next-taken : (c : tie.After-next-piece invariant-loop decreases-loop)
     → let k = c.before.before.before in
-    let s = from-loop k in PieceTaken f64_format s.args.l s.args.base s.args.values.now s.args.end k.loop.c c.next-piece.result
+    let s = from-loop k in PieceTaken s.args.l s.args.base s.args.values.now s.args.end k.loop.c c.next-piece.result
 next-taken c =
     let t = c.before in
     let k = t.before.before in
     let s = from-loop k in
-    taken f64_format s.args.l s.pre.0 s.args.base s.pre.1 s.args.values.now s.pre.5 s.args.end s.pre.3 k.loop.c
+    taken s.args.l s.pre.0 s.args.base s.pre.1 s.args.values.now s.pre.5 s.args.end s.pre.3 k.loop.c
     ((joining k).cursor_is t.if1.true) t.if1.true c.next-piece.result c.next-piece.ensures
 
 first_fits : (c : tie.After-struct-told2 invariant-loop decreases-loop) → SFits w64 c.before.next-piece.result.first

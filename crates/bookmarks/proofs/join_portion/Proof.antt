@@ -9,8 +9,6 @@ use mir.Val.{SFits}
 use mir.Facts.{to_z-of_z}
 use mir.Syntax.{w64}
 use borrow.Author.Rules.{rules}
-use Rattle.floats.specs.Formats.{f64_format}
-use Rattle.floats.proofs.Splitting.{f64-lawful}
 use Rattle.offsets.specs.declared.pieces.RangeCursor.{RangeCursor}
 use Rattle.offsets.specs.InnerPieces.{range_at}
 use Rattle.accumulator.specs.declared.StableProductFloatAcc.{StableProductFloatAcc}
@@ -74,16 +72,16 @@ returns c =
     let t = b.before.before.before in
     let s = t.before.before in
     let few : s.args.end ≤ 2 ^ 40 = omega (arith, s.requires.3, s.requires.4) in
-    let v = values-fit f64_format s.args.values.now t.before.shared-slice-known.given in
+    let v = values-fit s.args.values.now t.before.shared-slice-known.given in
     let ps = pieces_of s.args.l s.args.base s.args.values.now s.args.k s.args.end in
     let rates : length (rates_of ps) ≡ s.args.end - s.args.k =
-    ap length (range-rates f64_format f64-lawful s.args.l s.requires.0 s.args.base s.requires.1 s.args.values.now v s.args.end s.args.k s.requires.2 few)
+    ap length (range-rates s.args.l s.requires.0 s.args.base s.requires.1 s.args.values.now v s.args.end s.args.k s.requires.2 few)
     ∙ length-rates s.args.l s.args.base s.args.values.now s.args.k (s.args.end - s.args.k) in
     ap (λ (a : StableProductFloatAcc). answer_of (Acc a))
     ((simp (to_z-of_z s.ranges.base) at c.join-pieces.ensures)
     ∙ ap (λ (k : ℕ). joined_onto s.args.acc (pieces_of s.args.l s.args.base s.args.values.now k s.args.end)) (at-is b))
     ∙ sym (joined-near s.args.acc
-    (full-pieces f64_format f64-lawful s.args.l s.requires.0 s.args.base s.requires.1 s.args.values.now v s.args.end (s.args.end - s.args.k) s.args.k)
+    (full-pieces s.args.l s.requires.0 s.args.base s.requires.1 s.args.values.now v s.args.end (s.args.end - s.args.k) s.args.k)
     (omega (arith, near b.before, rates, s.requires.3, s.requires.4)))
 
 join-each-requires : tie.Need-join-each-requires

@@ -5,7 +5,6 @@ use lib.ListN.{length}
 use lib.Ieee.{fits}
 use mir.Facts.{to_z-of_z}
 use borrow.Author.Rules.{rules}
-use Rattle.floats.specs.Formats.{f64_format}
 use Rattle.layout.specs.declared.traversal.FullTraversal.{FullTraversal}
 use Rattle.accumulator.specs.declared.StableProductFloatAcc.{StableProductFloatAcc}
 use Rattle.accumulator.specs.declared.Reduced.TheVariants.{Acc}
@@ -104,12 +103,12 @@ returns-3 c =
     let k = b.before.before.before in
     let s = k.before.before in
     let a = accepted b in
-    let v = values-fit f64_format s.args.values.now k.shared-slice-known2.given in
+    let v = values-fit s.args.values.now k.shared-slice-known2.given in
     let d = rule-D3 s.args.sizes.now s.args.strides.now s.args.base s.args.start s.args.end s.args.values.now v a.code in
     let o = rule-O4 s.args.sizes.now s.args.strides.now s.args.base s.args.start s.args.end s.args.values.now v a.code in
     c.finish.ensures
-    ∙ sym (o.finished (Acc r.reduce-full-range.result) (ap (λ (x : StableProductFloatAcc). answer_of (Acc x)) (reduced r) ∙ sym d.range.answer)
-    (sym d.range.mark ∙ sym (ap (λ (x : StableProductFloatAcc). x.bad) (reduced r)) ∙ t.if2.false))
+    ∙ sym (o.finished (Acc r.reduce-full-range.result) (ap (λ (x : StableProductFloatAcc). answer_of (Acc x)) (reduced r) ∙ sym d.answer)
+    (sym d.mark ∙ sym (ap (λ (x : StableProductFloatAcc). x.bad) (reduced r)) ∙ t.if2.false))
 
 pub figure-spec : {M : Type 1} → statement M
 figure-spec =

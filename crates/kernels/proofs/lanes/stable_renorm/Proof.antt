@@ -5,7 +5,7 @@ use mathlib.Core.Bool.{false}
 use native.Mathlib.Nat.{le_refl}
 use native.Mathlib.Omega.{arith}
 use Rattle.floats.specs.InnerKinds.{is_subnormal}
-use Rattle.floats.proofs.AnyFormat.{farthest}
+use Rattle.floats.proofs.Splitting.{farthest}
 use Rattle.kernels.specs.declared.lanes.Lanes.{Lanes}
 use Rattle.kernels.specs.Lanes.{in_order}
 use Rattle.kernels.specs.Blocks.{m_of, renorm_lane, renorm}

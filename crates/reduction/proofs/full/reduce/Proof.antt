@@ -1,17 +1,73 @@
--- `reduction::full::reduce` meets its contract, refused or not. Assumes nothing.
+-- `reduction::full::reduce` meets its contract, refused or not.
+-- Assumes nothing.
+use mathlib.Core.Path.{◌≡◌, sym, ◌∙◌, ap}
+use lib.ListN.{length}
 use mir.Facts.{to_z-of_z}
+use Rattle.layout.specs.declared.traversal.FullTraversal.{FullTraversal}
+use Rattle.accumulator.specs.declared.StableProductFloatAcc.{StableProductFloatAcc}
+use Rattle.accumulator.specs.declared.Reduced.TheVariants.{Acc}
+use Rattle.accumulator.specs.Joining.{answer_of, refusal}
+use Rattle.kernels.specs.Pieces.{joined_pieces}
+use Rattle.layout.specs.declared.traversal.Compiled.{Compiled}
+use Rattle.offsets.specs.Lists.{range_code}
+use Rattle.offsets.proofs.Checked.{Checked, checked}
+use Rattle.reduction.specs.Ranges.{pieces_of}
+use Rattle.reduction.proofs.Calls.{reduce-refused, reduce-accepted}
 use borrow.Author.Rules.{rules}
 use Rattle.reduction.proofs.full.reduce.Statement.{statement}
 use Rattle.reduction.proofs.full.reduce.Tie as tie
+use Rattle.reduction.proofs.full.reduce.Reads as reads
+use Rattle.reduction.proofs.full.reduce.Lts as lts
+use Rattle.layout.proofs.traversal.FullTraversal.compile.Reads as compile-reads
+use Rattle.offsets.proofs.list.range_code.Reads as range-code-reads
+use Rattle.reduction.proofs.full.reduce_full_range.Reads as reduce-full-range-reads
 
-slice-aggregate-reduce-either : tie.Need-slice-aggregate-reduce-either
-slice-aggregate-reduce-either c = search rules
+compile-requires : tie.Need-compile-requires
+compile-requires c κs = search rules
 
-reduce-either-requires : tie.Need-reduce-either-requires
-reduce-either-requires c κs = search rules
+range-code-requires : tie.Need-range-code-requires
+range-code-requires c κs =
+    let e = c.compile.ensures in (ap (λ (r : Compiled). r.code) e, ap (λ (r : Compiled). r.traversal.total) e)
+
+-- the range's code, over the arguments themselves
+code_of : (c : tie.After-range-code) → let s = c.before.before.before.before in
+    c.range-code.result
+    ≡ range_code s.args.sizes.now s.args.strides.now s.args.base s.args.start s.args.end (length s.args.values.now)
+code_of c = simp (to_z-of_z c.before.before.before.before.ranges.base) at c.range-code.ensures
+
+-- an accepted range
+accepted : (c : tie.Else1) → let s = c.before.before.before.before.before in
+    Checked s.args.sizes.now s.args.strides.now s.args.base s.args.start s.args.end (length s.args.values.now)
+    c.before.before.compile.result.traversal
+accepted c =
+    let m = c.before in
+    let k = m.before in
+    checked _ _ _ _ _ _ k.compile.result k.compile.ensures m.range-code.result (code_of m) c.if1.false
 
 returns : tie.Need-returns
-returns c = let s = c.before.before.before.before in simp (to_z-of_z s.ranges.base) at c.reduce-either.ensures
+returns c =
+    let m = c.before in
+    let s = m.before.before.before.before in
+    ap refusal (code_of m)
+    ∙ sym (reduce-refused s.args.sizes.now s.args.strides.now s.args.base s.args.start s.args.end s.args.values.now
+    (λ e. c.if1.true (code_of m ∙ e)))
+
+reduce-full-range-requires : tie.Need-reduce-full-range-requires
+reduce-full-range-requires c κs =
+    let s = c.before.before.before.before.before in
+    let a = accepted c in
+    simp (to_z-of_z s.ranges.base) (a.traversal, a.bounded, a.forward, a.inside, a.few, a.within)
+
+returns-2 : tie.Need-returns-2
+returns-2 c =
+    let b = c.before in
+    let s = b.before.before.before.before.before in
+    ap (λ (a : StableProductFloatAcc). answer_of (Acc a))
+    (simp (to_z-of_z s.ranges.base) at c.reduce-full-range.ensures
+    ∙ ap (λ (l : FullTraversal). joined_pieces (pieces_of l s.args.base s.args.values.now s.args.start s.args.end)) (accepted b).is)
+    ∙ sym
+    (reduce-accepted s.args.sizes.now s.args.strides.now s.args.base s.args.start s.args.end s.args.values.now (accepted b).code)
 
 pub reduce-spec : {M : Type 1} → statement M
-reduce-spec = tie.close (tie.spec slice-aggregate-reduce-either reduce-either-requires returns)
+reduce-spec =
+    tie.close (tie.spec compile-requires range-code-requires returns reduce-full-range-requires returns-2)

@@ -1,17 +1,42 @@
--- `reduction::full::reduce_full_range` meets its contract. Assumes nothing.
+-- `reduction::full::reduce_full_range` meets its contract: a layout without outer axes is one piece, any other goes run by run.
+-- Assumes nothing.
+use mathlib.Core.Path.{◌∙◌}
+use native.Mathlib.Omega.{arith}
+use mir.Val.{SFits}
 use mir.Facts.{to_z-of_z}
+use mir.Syntax.{w64}
+use Rattle.reduction.proofs.Lines.{line-inside, line-joined}
 use borrow.Author.Rules.{rules}
 use Rattle.reduction.proofs.full.reduce_full_range.Statement.{statement}
 use Rattle.reduction.proofs.full.reduce_full_range.Tie as tie
+use Rattle.reduction.proofs.full.reduce_full_range.Reads as reads
+use Rattle.reduction.proofs.full.reduce_full_range.Lts as lts
+use Rattle.reduction.proofs.full.reduce_line.Reads as reduce-line-reads
+use Rattle.reduction.proofs.full.reduce_runs.Reads as reduce-runs-reads
 
-slice-aggregate-reduce-rates : tie.Need-slice-aggregate-reduce-rates
-slice-aggregate-reduce-rates c = search rules
+stride-fits : (c : tie.After-struct-told) → SFits w64 c.before.before.before.before.args.l.run_stride
+stride-fits c = record { sfits = c.struct_told.given.1.1.0.1 }
 
-reduce-rates-requires : tie.Need-reduce-rates-requires
-reduce-rates-requires c κs = let s = c.before.before in simp (to_z-of_z s.ranges.base) s.requires
+reduce-line-requires : tie.Need-reduce-line-requires
+reduce-line-requires c κs =
+    let s = c.before.before.before.before in
+    let inside = line-inside s.args.l s.requires.0 c.before.if1.true s.args.base s.requires.1 s.args.values.now s.requires.5 s.args.end
+    s.requires.3 (omega (arith, s.requires.2)) in
+    simp (to_z-of_z s.ranges.base, to_z-of_z (stride-fits c)) (s.requires.2, inside, omega (arith, s.requires.3, s.requires.4))
 
 returns : tie.Need-returns
-returns c = let s = c.before.before.before in simp (to_z-of_z s.ranges.base) at c.reduce-rates.ensures
+returns c =
+    let t = c.before in
+    let s = t.before.before.before.before in
+    simp (to_z-of_z s.ranges.base, to_z-of_z (stride-fits t)) at c.reduce-line.ensures
+    ∙ line-joined s.args.l s.requires.0 t.before.if1.true s.args.base s.requires.1 s.args.values.now s.requires.5 s.args.end s.requires.3
+    s.args.start s.requires.2
+
+reduce-runs-requires : tie.Need-reduce-runs-requires
+reduce-runs-requires c κs = search rules
+
+returns-2 : tie.Need-returns-2
+returns-2 c = let s = c.before.before.before.before in simp (to_z-of_z s.ranges.base) at c.reduce_runs.ensures
 
 pub reduce-full-range-spec : {M : Type 1} → statement M
-reduce-full-range-spec = tie.close (tie.spec slice-aggregate-reduce-rates reduce-rates-requires returns)
+reduce-full-range-spec = tie.close (tie.spec reduce-line-requires returns reduce-runs-requires returns-2)

@@ -11,88 +11,67 @@ use Rattle.integers.specs.Integers.{eq_z}
 use Rattle.offsets.specs.declared.pieces.RangeCursor.{RangeCursor}
 use Rattle.offsets.specs.InnerPieces.{range_at}
 use Rattle.kernels.specs.InnerStrided.{strided}
-use Rattle.kernels.specs.Pieces.{worked_in, joined_pieces_in}
+use Rattle.kernels.specs.Pieces.{worked, joined_pieces}
 use Rattle.reduction.specs.Ranges.{pieces_of}
 use Rattle.reduction.proofs.Ranges.{PieceTaken, taken, near, piece-sound, joined-first}
 use Rattle.reduction.proofs.full.reduce_runs.Statement.{statement}
 use Rattle.reduction.proofs.full.reduce_runs.Tie as tie
-use lib.Ieee.{Float, nan}
-use lib.Dec.{T}
-use lib.ListN.{get_or}
-use Prim.Native.Nat.{ℕ}
-use mathlib.Core.List.{List}
-use Rattle.floats.specs.Formats.{RateFormat}
-use Rattle.reduction.specs.InnerRates.{format_of, rates_in}
-use Rattle.reduction.proofs.Rates.{lawful-of, rates-held}
-
--- the rates, of either width
-abbrev form : tie.Start → RateFormat
-form s = format_of s.args.single
-
-abbrev rates : tie.Start → List Float
-rates s = rates_in s.args.single s.args.values.now s.args.archive.now
 
 begin-requires : tie.Need-begin-requires
-begin-requires c κs = let s = c.before.before in simp (to_z-of_z s.ranges.base) (s.requires.0, s.requires.1)
+begin-requires c κs = let s = c.before in simp (to_z-of_z s.ranges.base) (s.requires.0, s.requires.1)
 
-began : (c : tie.After-begin) → let s = c.before.before.before in c.begin.result ≡ range_at s.args.l s.args.base s.args.start
-began c = simp (to_z-of_z c.before.before.before.ranges.base) at c.begin.ensures
+began : (c : tie.After-begin) → let s = c.before.before in c.begin.result ≡ range_at s.args.l s.args.base s.args.start
+began c = simp (to_z-of_z c.before.before.ranges.base) at c.begin.ensures
 
-start_is : (c : tie.After-begin) → c.begin.result.at ≡ c.before.before.before.args.start
+start_is : (c : tie.After-begin) → c.begin.result.at ≡ c.before.before.args.start
 unfolding range_at
 start_is c = ap (λ (x : RangeCursor). x.at) (began c)
 
-cursor-is : (c : tie.After-begin) → let s = c.before.before.before in c.begin.result ≡ range_at s.args.l s.args.base c.begin.result.at
-cursor-is c = let s = c.before.before.before in began c ∙ ap (range_at s.args.l s.args.base) (sym (start_is c))
+cursor-is : (c : tie.After-begin) → let s = c.before.before in c.begin.result ≡ range_at s.args.l s.args.base c.begin.result.at
+cursor-is c = let s = c.before.before in began c ∙ ap (range_at s.args.l s.args.base) (sym (start_is c))
 
-before-end : (c : tie.After-begin) → c.begin.result.at < c.before.before.before.args.end
-before-end c = omega (arith, start_is c, c.before.before.before.requires.2)
+before-end : (c : tie.After-begin) → c.begin.result.at < c.before.before.args.end
+before-end c = omega (arith, start_is c, c.before.before.requires.2)
 
 next-piece-requires : tie.Need-next-piece-requires
 next-piece-requires c κs =
-    let s = c.before.before.before in
+    let s = c.before.before in
     (s.requires.0, before-end c, record { base = s.args.base; bounded = s.requires.1; cursor_is = cursor-is c })
 
 first_taken : (c : tie.After-next-piece)
-    → let s = c.before.before.before.before in
-    PieceTaken (form s) s.args.l s.args.base (rates s) s.args.end c.before.begin.result c.next-piece.result
+    → let s = c.before.before.before in
+    PieceTaken s.args.l s.args.base s.args.values.now s.args.end c.before.begin.result c.next-piece.result
 first_taken c =
-    let s = c.before.before.before.before in
-    taken (form s) s.args.l s.requires.0 s.args.base s.requires.1 (rates s) s.requires.5 s.args.end s.requires.3 c.before.begin.result
+    let s = c.before.before.before in
+    taken s.args.l s.requires.0 s.args.base s.requires.1 s.args.values.now s.requires.5 s.args.end s.requires.3 c.before.begin.result
     (cursor-is c.before) (before-end c.before) c.next-piece.result c.next-piece.ensures
 
 first_fits : (c : tie.After-struct-told2) → SFits w64 c.before.before.next-piece.result.first
 first_fits c = record { sfits = c.before.struct_told.given.0.1 }
 
-stride-fits : (c : tie.After-struct-told2) → SFits w64 c.before.before.before.before.before.before.args.l.run_stride
+stride-fits : (c : tie.After-struct-told2) → SFits w64 c.before.before.before.before.before.args.l.run_stride
 stride-fits c = record { sfits = c.struct-told2.given.1.1.0.1 }
 
-rates-piece-requires : tie.Need-rates-piece-requires
-rates-piece-requires c κs =
+reduce-piece-requires : tie.Need-reduce-piece-requires
+reduce-piece-requires c κs =
     let n = c.before.before in
-    let s = n.before.before.before.before in
+    let s = n.before.before.before in
     let p = first_taken n in
     simp (to_z-of_z (first_fits c), to_z-of_z (stride-fits c)) (p.some_len, p.inside, omega (arith, p.ends, s.requires.3, s.requires.4))
 
-first-worked : (c : tie.After-rates-piece) → let n = c.before.before.before in
-    let s = n.before.before.before.before in
+first-worked : (c : tie.After-reduce-piece) → let n = c.before.before.before in
+    let s = n.before.before.before in
     let p = n.next-piece.result in
-    c.rates-piece.result ≡ worked_in (form s) (eq_z s.args.l.run_stride (pos 1)) (strided (rates s) p.first s.args.l.run_stride p.len)
-first-worked c = simp (to_z-of_z (first_fits c.before), to_z-of_z (stride-fits c.before)) at c.rates-piece.ensures
+    c.reduce-piece.result ≡ worked (eq_z s.args.l.run_stride (pos 1)) (strided s.args.values.now p.first s.args.l.run_stride p.len)
+first-worked c = simp (to_z-of_z (first_fits c.before), to_z-of_z (stride-fits c.before)) at c.reduce-piece.ensures
 
--- the rates are of their format
-held : (k : tie.After-shared-slice-known2) → let s = k.before.before in (i : ℕ) → T ((form s).holds (get_or (rates s) i nan))
-held k =
-    let s = k.before.before in
-    rates-held s.args.single s.args.values.now s.args.archive.now k.before.shared-slice-known.given k.shared-slice-known2.given
-
-join-rates-requires : tie.Need-join-rates-requires
-join-rates-requires c κs =
+join-pieces-requires : tie.Need-join-pieces-requires
+join-pieces-requires c κs =
     let n = c.before.before.before in
-    let s = n.before.before.before.before in
-    let v = held n.before.before in
+    let s = n.before.before.before in
+    let v = n.before.before.shared-slice-known.given in
     let p = first_taken n in
-    let m = near (form s) (lawful-of s.args.single) _ _ _ _ _ _ p c.rates-piece.result (first-worked c) v in
+    let m = near _ _ _ _ _ _ p c.reduce-piece.result (first-worked c) v in
     simp (to_z-of_z s.ranges.base) (
       s.requires.0,
       s.requires.1,
@@ -102,18 +81,18 @@ join-rates-requires c κs =
       s.requires.5,
       p.next_cursor_is,
       omega (arith, m, p.ends, s.requires.3, s.requires.4),
-      piece-sound (form s) (lawful-of s.args.single) _ _ _ _ _ _ p c.rates-piece.result (first-worked c) v,
+      piece-sound _ _ _ _ _ _ p c.reduce-piece.result (first-worked c) v,
     )
 
 returns : tie.Need-returns
 returns c =
     let r = c.before in
     let n = r.before.before.before in
-    let s = n.before.before.before.before in
-    simp (to_z-of_z s.ranges.base) at c.join-rates.ensures
-    ∙ joined-first (form s) (lawful-of s.args.single) s.args.l s.args.base (rates s) s.args.end n.before.begin.result n.next-piece.result (first_taken n)
-    r.rates-piece.result (first-worked r) (held n.before.before)
-    ∙ ap (λ k. joined_pieces_in (form s) (pieces_of s.args.l s.args.base (rates s) k s.args.end)) (start_is n.before)
+    let s = n.before.before.before in
+    simp (to_z-of_z s.ranges.base) at c.join-pieces.ensures
+    ∙ joined-first s.args.l s.args.base s.args.values.now s.args.end n.before.begin.result n.next-piece.result (first_taken n)
+    r.reduce-piece.result (first-worked r) n.before.before.shared-slice-known.given
+    ∙ ap (λ k. joined_pieces (pieces_of s.args.l s.args.base s.args.values.now k s.args.end)) (start_is n.before)
 
 pub reduce-runs-spec : {M : Type 1} → statement M
-reduce-runs-spec = tie.close (tie.spec begin-requires next-piece-requires rates-piece-requires join-rates-requires returns)
+reduce-runs-spec = tie.close (tie.spec begin-requires next-piece-requires reduce-piece-requires join-pieces-requires returns)

@@ -1,8 +1,12 @@
 -- `replay::float::float_of` meets its contract. A pattern is a NaN's exactly if it is above infinity's, its sign taken off.
 -- Assumes nothing.
+use mathlib.Core.Path.{sym, ◌∙◌, subst}
+use mathlib.Core.Bool.{Bool, not}
+use lib.Dec.{T}
 use lib.Ieee.{binary64}
+use lib.Ieee.Bits.{nan_bits_above}
 use borrow.Author.Rules.{rules}
-use Rattle.replay.proofs.Patterns.{no_nan}
+use borrow.Author.Tests.{le-ltb}
 use Rattle.replay.proofs.float.float_of.Statement.{statement}
 use Rattle.replay.proofs.float.float_of.Tie as tie
 
@@ -10,7 +14,9 @@ returns : tie.Need-returns
 returns c = search rules
 
 float-from-bits-result : tie.Need-float-from-bits-result
-float-from-bits-result c = no_nan binary64 c.before.args.bits c.if1.false
+float-from-bits-result c =
+    let b = c.before.args.bits in
+    subst (λ (t : Bool). T (not t)) (sym (nan_bits_above binary64 b ∙ le-ltb _ _ c.if1.false)) tt
 
 returns-2 : tie.Need-returns-2
 returns-2 c = search rules

@@ -1,4 +1,4 @@
--- `text::print::put_hex` meets its contract. The invariant: at most `count` digits are left to put, and the buffer is as long as it was.
+-- `text::print::put_hex` meets its contract. The invariant: at most 16 digits are left to put, and the buffer is as long as it was.
 -- Assumes nothing.
 use Prim.Native.Nat.{◌≤◌}
 use mathlib.Core.Path.{◌≡◌}
@@ -8,10 +8,10 @@ use Rattle.text.proofs.print.put_hex.Statement.{statement}
 use Rattle.text.proofs.print.put_hex.Tie as tie
 
 abbrev invariant-loop : tie.invariant-loop
-invariant-loop out₀ at bits count rest₀ i₀ out rest i = (i ≤ count) × (length out ≡ length out₀)
+invariant-loop out₀ at bits rest₀ i₀ out rest i = (i ≤ 16) × (length out ≡ length out₀)
 
 abbrev decreases-loop : tie.decreases-loop
-decreases-loop out₀ at bits count rest₀ i₀ out rest i = i
+decreases-loop out₀ at bits rest₀ i₀ out rest i = i
 
 loop-holds : tie.Need-loop-init invariant-loop decreases-loop
 loop-holds c = search rules

@@ -10,7 +10,7 @@ use lib.Dec.{lit≤}
 use mir.Val.{to_z, of_z}
 use mir.ValLaws.{to_z-of_z}
 use mir.Syntax.{w64}
-use Rattle.floats.proofs.AnyFormat.{farthest}
+use Rattle.floats.proofs.Splitting.{farthest}
 use Rattle.kernels.specs.declared.lanes.Lanes.{Lanes}
 use Rattle.kernels.specs.Lanes.{every}
 use Rattle.kernels.specs.InnerStrided.{strided, PlacesInside}

@@ -15,9 +15,6 @@ use borrow.Author.Rules.{rules}
 use Rattle.laws.proofs.Tests.{and_both}
 use Rattle.accumulator.specs.declared.StableProductFloatAcc.{StableProductFloatAcc}
 use Rattle.laws.specs.Lists.{Each}
-use Rattle.floats.specs.Formats.{f64_format}
-use Rattle.floats.proofs.Splitting.{f64-lawful}
-use Rattle.kernels.proofs.Agreement.{unmarked-worked}
 use Rattle.kernels.specs.InnerStrided.{strided}
 use Rattle.kernels.specs.Blocks.{start_lanes}
 use Rattle.kernels.specs.InnerLanes.{SmallLanes, LanesAfter}
@@ -27,7 +24,7 @@ use Rattle.kernels.specs.InnerStepped.{first_bad}
 use Rattle.vectors.specs.InnerVectors.{EightApart}
 use Rattle.vectors.specs.InnerMarked.{product_before}
 use Rattle.vectors.proofs.Vectorwise.{step_fits}
-use Rattle.vectors.proofs.Feds.{fed-eight, fed-worked, stepped-worked, vectors-small}
+use Rattle.vectors.proofs.Feds.{fed-eight, fed-worked, stepped-worked, unmarked-worked, vectors-small}
 use Rattle.kernels.proofs.Stepping.{first-few}
 use Rattle.vectors.proofs.Parting.{stepped-first, stepped-marked}
 use Rattle.vectors.proofs.piece.worked_piece.Statement.{statement}
@@ -69,7 +66,7 @@ returns c =
     simp (to_z-of_z w64 s.args.start s.ranges.start, to_z-of_z w64 s.args.stride s.ranges.stride) at (r.middle-piece.ensures t.if1.true) in
     ap (λ (z : ℤ). record { m = r.middle-piece.result.m; e = z; bad = false }) (to_z-of_z w64 r.middle-piece.result.e fits)
     ∙ e
-    ∙ unmarked-worked f64_format f64-lawful s.args.in_blocks (piece s) (values k) (ap (λ (a : StableProductFloatAcc). a.bad) (sym e))
+    ∙ unmarked-worked s.args.in_blocks (piece s) (values k) (ap (λ (a : StableProductFloatAcc). a.bad) (sym e))
 
 soon-bad-requires : tie.Need-soon-bad-requires
 soon-bad-requires c κs =

@@ -4,10 +4,10 @@ use mathlib.Core.Path.{refl, sym, ◌∙◌, subst}
 use native.Mathlib.Omega.{arith}
 use lib.ListN.{get_or}
 use lib.Ieee.{nan}
-use Rattle.floats.proofs.AnyFormat.{farthest}
+use Rattle.floats.proofs.Splitting.{farthest}
 use Rattle.kernels.proofs.Feeding.{Worked, worked-none, worked-more, over, worked-fed}
+use Rattle.kernels.specs.Blocks.{split_step}
 use Rattle.kernels.specs.InnerLanes.{SmallLanes}
-use Rattle.kernels.specs.InnerDoubles.{split_step}
 use Rattle.kernels.proofs.LaneSizes.{lanes-le, step_small}
 use Rattle.kernels.proofs.Stepwise.{split-near, split-own}
 use Rattle.vectors.proofs.Lows.{lane-ordinary}

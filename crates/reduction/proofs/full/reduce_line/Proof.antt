@@ -1,0 +1,67 @@
+-- `reduction::full::reduce_line` meets its contract.
+-- Assumes nothing.
+use Prim.Native.Nat.{◌-◌, ◌^◌, ◌≤◌, ◌<◌}
+use mathlib.Core.Path.{◌≡◌, refl, sym, ◌∙◌, ap, subst}
+use native.Mathlib.Omega.{arith}
+use lib.ListN.{length}
+use lib.IntN.{ℤ, pos, ◌+ℤ◌, ◌*ℤ◌}
+use mir.Val.{to_z, of_z, SFits}
+use mir.Facts.{to_z-of_z}
+use mir.Syntax.{w64}
+use Rattle.integers.proofs.Machine.{to_z-small}
+use Rattle.kernels.proofs.Striding.{inside-part}
+use Rattle.reduction.proofs.Lines.{way-fits, place-fits}
+use borrow.Author.Rules.{rules}
+use Rattle.reduction.proofs.full.reduce_line.Statement.{statement}
+use Rattle.reduction.proofs.full.reduce_line.Tie as tie
+use Rattle.reduction.proofs.full.reduce_line.Reads as reads
+use Rattle.reduction.proofs.full.reduce_line.Lts as lts
+use Rattle.reduction.proofs.full.reduce_piece.Reads as reduce-piece-reads
+
+few : (s : tie.Start) → length s.args.values.now ≤ 2 ^ 63
+few s = omega (arith, s.well-formed.0.1)
+
+start_small : (s : tie.Start) → s.args.start < 2 ^ 63
+start_small s = omega (arith, s.requires.0, s.requires.2)
+
+product-fits : (s : tie.Start) → SFits w64 (s.args.stride *ℤ pos s.args.start)
+product-fits s = way-fits _ s.args.base s.args.stride s.args.end s.requires.1 (few s) s.args.start s.requires.0
+
+sum_fits : (s : tie.Start) → SFits w64 (s.args.base +ℤ s.args.stride *ℤ pos s.args.start)
+sum_fits s = place-fits _ s.args.base s.args.stride s.args.end s.requires.1 (few s) s.args.start s.requires.0
+
+-- the sum as the machine forms it
+sum_is : (s : tie.Start)
+    → to_z w64 (of_z w64 s.args.base) +ℤ to_z w64 (of_z w64 (to_z w64 (of_z w64 s.args.stride) *ℤ to_z w64 s.args.start))
+    ≡ s.args.base +ℤ s.args.stride *ℤ pos s.args.start
+sum_is s = simp (to_z-of_z s.ranges.base, to_z-of_z s.ranges.stride, to_z-small _ (start_small s), to_z-of_z (product-fits s)) refl
+
+first-is : (s : tie.Start)
+    → to_z w64 (of_z w64 (to_z w64 (of_z w64 s.args.base) +ℤ to_z w64 (of_z w64 (to_z w64 (of_z w64 s.args.stride) *ℤ to_z w64 s.args.start))))
+    ≡ s.args.base +ℤ s.args.stride *ℤ pos s.args.start
+first-is s = ap (λ (z : ℤ). to_z w64 (of_z w64 z)) (sum_is s) ∙ to_z-of_z (sum_fits s)
+
+cast-first : tie.Need-overflow-cast-first
+cast-first c = search rules
+
+mul-first : tie.Need-overflow-mul-first
+mul-first c = let s = c.before in simp (to_z-of_z s.ranges.stride, to_z-small _ (start_small s)) (product-fits s)
+
+add-first : tie.Need-overflow-add-first
+add-first c = subst (SFits w64) (sym (sum_is c.before)) (sum_fits c.before)
+
+sub-reduce-piece : tie.Need-overflow-sub-reduce-piece
+sub-reduce-piece c = search rules
+
+reduce-piece-requires : tie.Need-reduce-piece-requires
+reduce-piece-requires c κs =
+    let s = c.before in
+    let n = s.args.end - s.args.start in
+    let inside = inside-part _ s.args.base s.args.stride s.args.end s.args.start n s.requires.1 (omega (arith, s.requires.0)) in
+    rw (first-is s, to_z-of_z s.ranges.stride) (omega (arith, s.requires.0), inside, omega (arith, s.requires.2))
+
+returns : tie.Need-returns
+returns c = let s = c.before.before in rw (first-is s, to_z-of_z s.ranges.stride) at c.reduce-piece.ensures
+
+pub reduce-line-spec : {M : Type 1} → statement M
+reduce-line-spec = tie.close (tie.spec cast-first mul-first add-first sub-reduce-piece reduce-piece-requires returns)

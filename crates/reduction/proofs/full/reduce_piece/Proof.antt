@@ -1,0 +1,108 @@
+-- `reduction::full::reduce_piece` meets its contract.
+-- Assumes nothing.
+use Prim.Native.Nat.{ℕ, ◌+◌, ◌-◌, ◌≤◌}
+use mathlib.Core.Path.{◌≡◌, sym, ◌∙◌, ap, subst}
+use mathlib.Core.Bool.{Bool}
+use native.Mathlib.Omega.{arith}
+use lib.ListN.{length, take, drop}
+use lib.IntN.{ℤ, pos, nat_abs}
+use mir.Val.{to_z, of_z}
+use mir.Facts.{to_z-of_z}
+use mir.Syntax.{w64}
+use Rattle.integers.specs.Integers.{eq_z}
+use Rattle.integers.proofs.Machine.{same_bits, ne-eq_z, pos-fits}
+use Rattle.kernels.specs.InnerStrided.{strided, PlacesInside}
+use Rattle.kernels.specs.Blocks.{contiguous}
+use Rattle.kernels.specs.Pieces.{worked}
+use Rattle.kernels.proofs.Striding.{first-natural, strided-window, at_first, at_last}
+use borrow.Author.Rules.{rules}
+use Rattle.reduction.proofs.Pieces.{handed}
+use Rattle.reduction.proofs.full.reduce_piece.Statement.{statement}
+use Rattle.reduction.proofs.full.reduce_piece.Tie as tie
+use Rattle.reduction.proofs.full.reduce_piece.Reads as reads
+use Rattle.reduction.proofs.full.reduce_piece.Lts as lts
+use Rattle.vectors.proofs.piece.stable_float_contiguous.Reads as stable-float-contiguous-reads
+use Rattle.vectors.proofs.piece.lanes_strided.Reads as lanes-strided-reads
+
+-- at stride 1 the piece is a part of the slice
+one : (c : tie.Then1) → c.before.before.args.stride ≡ pos 1
+one c = same_bits _ (pos 1) c.before.before.ranges.stride (pos-fits 1 (omega arith)) c.if1.true
+
+inside : (c : tie.Then1) → PlacesInside (length c.before.before.args.values.now) c.before.before.args.first (pos 1) c.before.before.args.len
+inside c =
+    let s = c.before.before in
+    subst (λ (z : ℤ). PlacesInside (length s.args.values.now) s.args.first z s.args.len) (one c) s.requires.1
+
+ends : (c : tie.Then1) → let s = c.before.before in
+    nat_abs (to_z w64 (of_z w64 s.args.first)) + s.args.len ≤ length s.args.values.now
+ends c =
+    let s = c.before.before in
+    at_last _ _ s.args.first s.args.len (inside c) s.requires.0 (sym (ap nat_abs (to_z-of_z s.ranges.first)))
+
+cast-at : tie.Need-overflow-cast-at
+cast-at c =
+    let s = c.before.before in
+    (rw (to_z-of_z s.ranges.first) (first-natural _ _ _ _ (inside c) s.requires.0), omega (arith, ends c, c.before.before.well-formed.0.1))
+
+add-part : tie.Need-overflow-add-part
+add-part c = omega (arith, ends c, c.before.before.well-formed.0.1)
+
+mul-part : tie.Need-overflow-mul-part
+mul-part c = omega (arith, ends c, c.before.before.well-formed.0.1)
+
+sub_part : tie.Need-overflow-sub-part
+sub_part c = search rules
+
+part-part-start : tie.Need-slice-bounds-part-start
+part-part-start c = search rules
+
+part-part-end : tie.Need-slice-bounds-part-end
+part-part-end c = ends c
+
+stable-float-contiguous-requires : tie.Need-stable-float-contiguous-requires
+stable-float-contiguous-requires c κs = search rules
+
+returns : tie.Need-returns
+unfolding eq_z
+returns c =
+    let r = c.before in
+    let t = r.before.before in
+    let s = t.before.before in
+    let at = nat_abs (to_z w64 (of_z w64 s.args.first)) in
+    handed r.stable-float-contiguous.result (record { sfits = c.struct_told.given.1.0.1 })
+    ∙ r.stable-float-contiguous.ensures
+    ∙ ap (λ (n : ℕ). contiguous (take n (drop at s.args.values.now))) (count at s.args.len)
+    ∙ ap contiguous (strided-window s.args.values.now at s.args.len (ends t))
+    ∙ ap (λ (z : ℤ). contiguous (strided s.args.values.now z (pos 1) s.args.len))
+    (sym (at_first _ at s.args.first s.args.len (inside t) s.requires.0 (sym (ap nat_abs (to_z-of_z s.ranges.first)))))
+    ∙ ap (λ (z : ℤ). worked (eq_z z (pos 1)) (strided s.args.values.now s.args.first z s.args.len)) (sym (one t))
+  where
+    count : (a n : ℕ) → a + n - a ≡ n
+    count a n = omega arith
+
+lanes-strided-requires : tie.Need-lanes-strided-requires
+lanes-strided-requires c κs = search rules
+
+returns-2 : tie.Need-returns-2
+returns-2 c =
+    let r = c.before in
+    let s = r.before.before.before in
+    handed r.lanes-strided.result (record { sfits = c.struct-told2.given.1.0.1 })
+    ∙ simp (to_z-of_z s.ranges.first, to_z-of_z s.ranges.stride) at r.lanes-strided.ensures
+    ∙ ap (λ (b : Bool). worked b (strided s.args.values.now s.args.first s.args.stride s.args.len))
+    (sym (ne-eq_z _ _ (λ q. r.before.if1.false (ap (of_z w64) q))))
+
+pub reduce-piece-spec : {M : Type 1} → statement M
+reduce-piece-spec =
+    tie.close
+    (tie.spec
+    cast-at
+    add-part
+    mul-part
+    sub_part
+    part-part-start
+    part-part-end
+    stable-float-contiguous-requires
+    returns
+    lanes-strided-requires
+    returns-2)
