@@ -1,4 +1,6 @@
 // The accumulator of a stable product, and joining two of them.
+#![tactic(auto)]
+
 ghost use Rattle.std.specs.Prelude.{◌≡◌, true, ◌^◌, ◌≤◌, nat_abs};
 ghost use Rattle.floats.specs.Magnitude.{in_unit, two_or_more};
 ghost use Rattle.accumulator.specs.Joining.{identity_acc, combined, within_limit, in_limits, answer_of, joined};
@@ -7,7 +9,7 @@ ghost use Rattle.accumulator.specs.Joining.{identity_acc, combined, within_limit
 const LIMIT: i64 = 4503599627370496;
 
 // A signed m with |m| in [1, 2), the exact exponent, and whether a bad factor entered.
-#[derive(Drop)]
+#[derive(Clone, Copy)]
 pub struct StableProductFloatAcc {
     pub m: f64,
     pub e: i64,
@@ -32,7 +34,7 @@ impl StableProductFloatAcc {
 }
 
 // An accumulator, or the number of a refusal.
-#[derive(Drop)]
+#[derive(Clone, Copy)]
 pub enum Reduced {
     Acc(StableProductFloatAcc),
     Refused(u32),

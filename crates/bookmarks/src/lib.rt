@@ -1,4 +1,6 @@
 // A reduction a few pieces at a time: each call takes a bookmark, and hands back the next one or the range's product.
+#![tactic(auto)]
+
 ghost use Rattle.std.specs.Prelude.{◌≡◌, true, ◌∷◌, ◌-◌, ◌^◌, ◌≤◌, ◌<◌, min, length, eqb, nat_abs};
 ghost use Rattle.refusals.specs.Refusals.{first_of};
 ghost use Rattle.offsets.specs.Elements.{all_inside};
@@ -17,14 +19,14 @@ use layout::traversal::FullTraversal;
 const NEAR: i64 = 2251799813685248;
 
 // Where a reduction goes on: the next element number, and the accumulator of the pieces before it.
-#[derive(Drop)]
+#[derive(Clone, Copy)]
 pub struct Bookmark {
     pub next: u64,
     pub acc: StableProductFloatAcc,
 }
 
 // The range's product, or a further bookmark, each with the number of pieces that were worked; or the number of a refusal.
-#[derive(Drop)]
+#[derive(Clone, Copy)]
 pub enum Step {
     Done(StableProductFloatAcc, u64),
     More(Bookmark, u64),
@@ -32,7 +34,7 @@ pub enum Step {
 }
 
 // The pieces of one call: the element number behind them, and how many they are.
-#[derive(Drop)]
+#[derive(Clone, Copy)]
 pub struct Portion {
     pub stop: u64,
     pub pieces: u64,

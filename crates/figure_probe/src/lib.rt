@@ -1,5 +1,7 @@
 // The calls over a range that give a number, on typed slices, for the benchmark and the comparison with the Rust. They are a library of their own: in one with
 // `probe_reduce` the reduction has two callers and is compiled into neither, and a call of 8 values takes a sixth longer.
+#![tactic(auto)]
+
 ghost use Rattle.std.specs.Prelude.{◌≡◌};
 ghost use Rattle.finishing.specs.Finishing.{final_answer_of};
 ghost use Rattle.ordered.specs.Ranges.{ordered_of};

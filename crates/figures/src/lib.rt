@@ -1,4 +1,6 @@
 // The figure of a range: a number even where a rate is bad.
+#![tactic(auto)]
+
 ghost use Rattle.std.specs.Prelude.{◌≡◌};
 ghost use Rattle.finishing.specs.Finishing.{final_answer_of};
 ghost use Rattle.figures.specs.Figures.{figure_of};

@@ -1,4 +1,6 @@
 // Finishing: the number that an accumulator stands for, m × 2^e rounded once.
+#![tactic(auto)]
+
 ghost use Rattle.std.specs.Prelude.{◌≡◌, true, false};
 ghost use Rattle.std.specs.Float.{fin};
 ghost use Rattle.floats.specs.Magnitude.{in_unit, factor_at};
@@ -17,7 +19,7 @@ const TWO_POW_1023: u64 = 2046u64 << 52;
 const INFINITE: u64 = 2047u64 << 52;
 
 // A number, or the number of a refusal.
-#[derive(Drop)]
+#[derive(Clone, Copy)]
 pub enum Finished {
     Number(f64),
     Refused(u32),

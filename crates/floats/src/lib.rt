@@ -1,4 +1,6 @@
 // Binary64 numbers: the product of IEEE 754-2019 and the whole-number rule (specs/), and splitting.
+#![tactic(auto)]
+
 ghost use Rattle.std.specs.Prelude.{◌≡◌, true, false, T};
 ghost use Rattle.std.specs.Float.{binary64};
 ghost use Rattle.std.specs.Float.Ieee.{fits};
@@ -15,7 +17,7 @@ const SIZE: u64 = 0x7fff_ffff_ffff_ffff;
 const LEADING: u64 = 0x0010_0000_0000_0000;
 
 // A rate taken apart: a signed m with |m| in [1, 2), an exact exponent, and whether the rate is bad.
-#[derive(Drop)]
+#[derive(Clone, Copy)]
 pub struct Split {
     pub m: f64,
     pub e: i64,

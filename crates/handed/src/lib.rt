@@ -1,1 +1,2 @@
 // What the static libraries hand out of an answer: definitions alone, in specs.
+#![tactic(auto)]

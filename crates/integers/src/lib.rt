@@ -1,4 +1,6 @@
 // Machine integers with checked steps: the magnitude of an i64, and products that say whether they fit.
+#![tactic(auto)]
+
 ghost use Rattle.std.specs.Prelude.{◌≡◌, ◌+◌, ◌*◌, ◌<◌, min, pos, neg_ℤ, nat_abs, ◌+ℤ◌, ◌*ℤ◌};
 ghost use Rattle.integers.specs.InnerChecked.{narrow_i64, narrow_u64};
 ghost use Rattle.integers.specs.InnerPlaces.{PlacesFit};
@@ -10,13 +12,13 @@ pub const U64_MAX: u64 = 0xffff_ffff_ffff_ffff;
 // The largest number of 32 bits.
 const HALF_MAX: u64 = 0xffff_ffff;
 
-#[derive(Drop)]
+#[derive(Clone, Copy)]
 pub struct CheckedU64 {
     pub ok: bool,
     pub value: u64,
 }
 
-#[derive(Drop)]
+#[derive(Clone, Copy)]
 pub struct CheckedI64 {
     pub ok: bool,
     pub value: i64,

@@ -1,4 +1,6 @@
 // The reader and the writer of jobs over typed slices, for the benchmark and the comparison with the oracle's own.
+#![tactic(auto)]
+
 ghost use Rattle.std.specs.Prelude.{◌≡◌, length};
 ghost use Rattle.jobs.specs.Reading.{read_of};
 ghost use Rattle.jobs.specs.Writing.{write_of, write_buffer};

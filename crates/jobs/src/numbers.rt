@@ -14,7 +14,7 @@ const TWO_PAYLOADS: u64 = 0x400_0000_0000_0000;
 const TOP_PAYLOADS: u64 = 0x40;
 
 // A number that was read, and the place behind it; or the refusal of a faulty word.
-#[derive(Drop)]
+#[derive(Clone, Copy)]
 pub struct Number {
     pub code: u32,
     pub value: u64,

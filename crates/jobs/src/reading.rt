@@ -7,7 +7,7 @@ use crate::words::{BASE, END, FINISH, PAYLOADS, SIZE, START, STRIDE, WORD_BYTES}
 use layout::axis::PLACES;
 
 // A job that was read, beside its code: 0, or the refusal, with zeros in all the rest. Places past the axes are 0.
-#[derive(Drop)]
+#[derive(Clone, Copy)]
 pub struct JobRead {
     pub code: u32,
     pub count: usize,
@@ -19,7 +19,7 @@ pub struct JobRead {
 }
 
 // What stands behind the axes.
-#[derive(Drop)]
+#[derive(Clone, Copy)]
 pub struct RangeRead {
     pub code: u32,
     pub base: i64,

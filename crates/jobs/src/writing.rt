@@ -9,7 +9,7 @@ use crate::words::{BASE, END, FINISH, SIZE, START, STRIDE, WORD_BYTES};
 use layout::axis::PLACES;
 
 // The code of a call, and the number of bytes that it wrote: 0 beside a refusal.
-#[derive(Drop)]
+#[derive(Clone, Copy)]
 pub struct JobWritten {
     pub code: u32,
     pub count: usize,

@@ -1,5 +1,7 @@
 // Joining and finishing for a C host, whose workers' accumulators come from several calls. A library of its own: in one with a reduction, joining would have
 // two callers.
+#![tactic(auto)]
+
 ghost use Rattle.std.specs.Prelude.{◌≡◌};
 ghost use Rattle.accumulator.specs.declared.Reduced.TheVariants.{Acc};
 ghost use Rattle.accumulator.specs.Joining.{joined};

@@ -10,7 +10,7 @@ use floats::Split;
 const LANES: usize = StableProductFloatAcc::LANES;
 
 // The lanes of a piece worked in blocks: each lane's m and e, and whether a bad value entered.
-#[derive(Drop)]
+#[derive(Clone, Copy)]
 pub struct Lanes {
     pub m: [f64; LANES],
     pub e: [i64; LANES],

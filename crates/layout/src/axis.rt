@@ -9,7 +9,7 @@ use integers::CheckedI64;
 // How many axes a layout may have, and a table holds.
 pub const PLACES: usize = 16;
 
-#[derive(Drop)]
+#[derive(Clone, Copy)]
 pub struct ReduceOuterAxis {
     pub extent: u64,
     pub source_step: i64,

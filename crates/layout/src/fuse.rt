@@ -8,7 +8,7 @@ ghost use Rattle.layout.specs.InnerAnswers.{next_of};
 use crate::axis::{PLACES, ReduceOuterAxis};
 use crate::order::Counted;
 
-#[derive(Drop)]
+#[derive(Clone, Copy)]
 pub enum Joined {
     One(ReduceOuterAxis),
     Two,
@@ -42,7 +42,7 @@ fn join_axes(a: ReduceOuterAxis, b: ReduceOuterAxis) -> Joined
 }
 
 // How many axes are done, and the axis so far.
-#[derive(Drop)]
+#[derive(Clone, Copy)]
 pub struct Fusing {
     pub ok: bool,
     pub done: usize,

@@ -12,7 +12,7 @@ use integers::CheckedU64;
 // The largest total that is accepted.
 pub const MOST_ELEMENTS: u64 = 0x100_0000_0000;
 
-#[derive(Drop)]
+#[derive(Clone, Copy)]
 pub struct FullTraversal {
     pub total: u64,
     pub run_len: u64,
@@ -22,7 +22,7 @@ pub struct FullTraversal {
 }
 
 // A compiled layout beside its code: 0, or the refusal.
-#[derive(Drop)]
+#[derive(Clone, Copy)]
 pub struct Compiled {
     pub code: u32,
     pub traversal: FullTraversal,

@@ -7,7 +7,7 @@ ghost use Rattle.offsets.specs.InnerBounds.{nowhere, widened, stay_inside};
 ghost use Rattle.offsets.specs.InnerCursors.{Axes};
 
 // The smallest and the largest offset so far, while both are inside.
-#[derive(Drop)]
+#[derive(Clone, Copy)]
 pub struct Span {
     pub ok: bool,
     pub low: u64,

@@ -5,7 +5,7 @@ ghost use Rattle.offsets.specs.InnerCursors.{Axes, Bounded, AtElement, cursor_at
 
 use layout::axis::{PLACES, ReduceOuterAxis};
 
-#[derive(Drop)]
+#[derive(Clone, Copy)]
 pub struct ReduceOuterCursor {
     pub source_offset: i64,
     pub digits: [u64; PLACES],

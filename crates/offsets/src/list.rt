@@ -1,5 +1,5 @@
 // The offset list, and the refusals of a range.
-ghost use Rattle.std.specs.Prelude.{◌≡◌, ◌∷◌, ◌++◌, ◌+◌, ◌-◌, ◌≤◌, ◌<◌, length, take, drop};
+ghost use Rattle.std.specs.Prelude.{◌≡◌, ◌∷◌, ◌++◌, ◌+◌, ◌-◌, ◌≤◌, ◌<◌, length, length as places, take, drop};
 ghost use Rattle.integers.specs.InnerPlaces.{PlacesFit};
 ghost use Rattle.layout.specs.Axes.{PLACES};
 ghost use Rattle.layout.specs.Compile.{compile_of};
@@ -84,7 +84,7 @@ pub fn offset_list(
     length: u64,
     out: &mut [i64],
 ) -> u32
-    ensures* result_value { do ⌜ result ≡ list_code sizes.now strides.now base start end length (← (⟦out.len()⟧).entry) ⌝ }
+    ensures result_value { result ≡ list_code sizes.now strides.now base start end length (places out.old) }
     ensures out_after { out.new ≡ list_buffer sizes.now strides.now base start end length out.old }
 {
     let compiled = FullTraversal::compile(sizes, strides);

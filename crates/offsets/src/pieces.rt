@@ -10,7 +10,7 @@ use layout::axis::PLACES;
 use layout::traversal::FullTraversal;
 
 // An element number of a range, with its column in the run and the cursor of the run.
-#[derive(Drop)]
+#[derive(Clone, Copy)]
 pub struct RangeCursor {
     pub at: u64,
     pub col: u64,
@@ -18,7 +18,7 @@ pub struct RangeCursor {
 }
 
 // A piece: the offset of its first element, how many elements it has, and where the next begins.
-#[derive(Drop)]
+#[derive(Clone, Copy)]
 pub struct RangePiece {
     pub first: i64,
     pub len: u64,
@@ -26,7 +26,7 @@ pub struct RangePiece {
 }
 
 // Runs that begin a step apart: the offset of the first, how many elements each has, how many they are, and where the next begins.
-#[derive(Drop)]
+#[derive(Clone, Copy)]
 pub struct RangeStrip {
     pub first: i64,
     pub step: i64,

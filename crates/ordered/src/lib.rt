@@ -1,5 +1,7 @@
 // The ordered product of a range (OrderedProductKernel): from 1.0, every visited value multiplied in from the right, in visiting order, one accumulator
 // carried through all runs. Nothing is split and nothing is put off, so zeros, subnormals and infinities are what IEEE 754 makes of them.
+#![tactic(auto)]
+
 ghost use Rattle.std.specs.Prelude.{◌≡◌, true, false, ◌∷◌, ℕ, ◌-◌, ◌^◌, ◌≤◌, ◌<◌, length, pos, ◌+ℤ◌, ◌*ℤ◌};
 ghost use Rattle.std.specs.Float.{fin};
 ghost use Rattle.offsets.specs.Elements.{inside_values, all_inside};

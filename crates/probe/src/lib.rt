@@ -1,5 +1,7 @@
 // The full reduction and the offset list over typed slices, for the benchmark and the comparison with the Rust.
-ghost use Rattle.std.specs.Prelude.{◌≡◌};
+#![tactic(auto)]
+
+ghost use Rattle.std.specs.Prelude.{◌≡◌, length as places};
 ghost use Rattle.offsets.specs.Lists.{list_code, list_buffer};
 ghost use Rattle.reduction.specs.Ranges.{reduce_of};
 ghost use Rattle.handed.specs.Answers.{code_given, m_given, e_given, bad_given};
@@ -49,7 +51,7 @@ pub extern "C" fn probe_list(
     length: u64,
     out: &mut [i64],
 ) -> u32
-    ensures* result_value { do ⌜ result ≡ list_code sizes.now strides.now base start end length (← (⟦out.len()⟧).entry) ⌝ }
+    ensures result_value { result ≡ list_code sizes.now strides.now base start end length (places out.old) }
     ensures out_after { out.new ≡ list_buffer sizes.now strides.now base start end length out.old }
 {
     offsets::list::offset_list(sizes, strides, base, start, end, length, &mut *out)

@@ -1,4 +1,6 @@
 // All workers' ranges in one call: every range is checked before anything is written, and the layout is compiled and tested once.
+#![tactic(auto)]
+
 ghost use Rattle.std.specs.Prelude.{◌≡◌, true, not, length};
 ghost use Rattle.refusals.specs.Refusals.{first_of};
 ghost use Rattle.layout.specs.Axes.{PLACES};

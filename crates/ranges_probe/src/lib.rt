@@ -1,5 +1,7 @@
 // All workers' ranges in one call over typed slices, for the benchmark, its host with threads and the comparison with the Rust. A library of its own, as for
 // the search.
+#![tactic(auto)]
+
 ghost use Rattle.std.specs.Prelude.{◌≡◌};
 ghost use Rattle.ranges.specs.Many.{many_code, ms_after, es_after, bads_after};
 

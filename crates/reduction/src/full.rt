@@ -46,7 +46,7 @@ pub fn reduce_piece(values: &[f64], first: i64, stride: i64, len: usize) -> Stab
 }
 
 // One run's product, how many of the next runs are not tried as short pieces, and how many if the next try fails.
-#[derive(Drop)]
+#[derive(Clone, Copy)]
 pub struct RunProduct {
     pub m: f64,
     pub e: i64,

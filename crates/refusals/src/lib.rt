@@ -1,5 +1,6 @@
 // The refusals of every call, one number and one name each (docs/RULES.md, R1 to R16). The line above a constant is its condition in plain words:
 // `./run` prints it, and specs/Refusals has the same numbers for the definitions.
+#![tactic(auto)]
 
 // sizes and strides differ in number
 pub const STRIDE_LENGTH_MISMATCH: u32 = 1;

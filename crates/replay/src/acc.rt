@@ -8,7 +8,7 @@ use search::{BadRate, Search};
 use text::word::{ReadI64, ReadU64};
 
 // An accumulator, and where the next word begins.
-#[derive(Drop)]
+#[derive(Clone, Copy)]
 pub enum ReadAcc {
     Is(StableProductFloatAcc, usize),
     Malformed,

@@ -5,7 +5,7 @@ ghost use Rattle.std.specs.Prelude.{◌+◌, ◌*◌, ◌≤◌, length};
 pub const ITEMS: usize = 4096;
 
 // How many places the buffers have.
-#[derive(Drop)]
+#[derive(Clone, Copy)]
 pub struct Buffers {
     pub ok: bool,
     pub ms: usize,

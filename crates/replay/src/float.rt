@@ -12,7 +12,7 @@ const INFINITE: u64 = 0x7ff0_0000_0000_0000;
 const NAN: u64 = 0x7ff8_0000_0000_0000;
 
 // A float, and where the next word begins.
-#[derive(Drop)]
+#[derive(Clone, Copy)]
 pub enum ReadFloat {
     Is(f64, usize),
     Malformed,

@@ -3,7 +3,7 @@
 ghost use Rattle.std.specs.Prelude.{◌≤◌, ◌≡◌, length};
 
 // The buffer's first `count` bytes are not answered yet. `cut` says that the line they go on was too long.
-#[derive(Drop)]
+#[derive(Clone, Copy)]
 struct Held {
     more: bool,
     count: usize,
@@ -11,7 +11,7 @@ struct Held {
 }
 
 // What is left of a chunk once its whole lines are answered. `ok` says that every answer was written.
-#[derive(Drop)]
+#[derive(Clone, Copy)]
 struct Left {
     ok: bool,
     from: usize,
@@ -19,7 +19,7 @@ struct Left {
 }
 
 // How many bytes a read gave, 0 at the input's end. A read that failed is not the end.
-#[derive(Drop)]
+#[derive(Clone, Copy)]
 struct Got {
     failed: bool,
     count: usize,

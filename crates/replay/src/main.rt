@@ -1,4 +1,6 @@
 // Answers each line of standard input, a call of the engine, with a line on standard output.
+#![tactic(auto)]
+
 mod acc;
 mod answer;
 mod buffers;

@@ -5,7 +5,7 @@ use crate::buffers::ITEMS;
 use text::word::ReadI64;
 
 // How many items the lists of a line have, and where the next word begins.
-#[derive(Drop)]
+#[derive(Clone, Copy)]
 struct Lists {
     ok: bool,
     starts: usize,

@@ -13,7 +13,7 @@ const VALUES: usize = 4096;
 const U32_MAX: u64 = 0xffff_ffff;
 
 // The calls over a range and its values. A step has a bookmark and a count besides.
-#[derive(Drop)]
+#[derive(Clone, Copy)]
 pub enum RangeCall {
     Reduce,
     Product,
@@ -24,14 +24,14 @@ pub enum RangeCall {
 }
 
 // The call, unless its words are malformed.
-#[derive(Drop)]
+#[derive(Clone, Copy)]
 pub enum ReadCall {
     Is(RangeCall),
     Malformed,
 }
 
 // The answer, unless the line was malformed.
-#[derive(Drop)]
+#[derive(Clone, Copy)]
 pub enum ReadAnswer {
     Reduced(Reduced),
     Finished(Finished),
@@ -41,7 +41,7 @@ pub enum ReadAnswer {
 }
 
 // What the line of a `finish` gives.
-#[derive(Drop)]
+#[derive(Clone, Copy)]
 enum ReadReduced {
     Is(Reduced),
     Malformed,

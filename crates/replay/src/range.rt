@@ -1,7 +1,7 @@
 // What a call over a range has behind its axes: the base, the first element and the one behind the last.
 use text::word::{ReadI64, ReadU64};
 
-#[derive(Drop)]
+#[derive(Clone, Copy)]
 pub struct Range {
     pub base: i64,
     pub start: u64,
@@ -9,7 +9,7 @@ pub struct Range {
 }
 
 // A range, and where the next word begins.
-#[derive(Drop)]
+#[derive(Clone, Copy)]
 pub enum ReadRange {
     Is(Range, usize),
     Malformed,

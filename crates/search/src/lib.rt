@@ -1,5 +1,7 @@
 // The first bad rate of a range. Many values are tested at a time, as lanes that wait are: by their products and by the least of them. Only where the test
 // fails are they looked at one by one.
+#![tactic(auto)]
+
 ghost use Rattle.std.specs.Prelude.{◌≡◌, true, false, ◌∷◌, ℕ, ◌+◌, ◌-◌, ◌*◌, ◌^◌, ◌≤◌, ◌<◌, length, pos, ◌+ℤ◌, ◌*ℤ◌};
 ghost use Rattle.floats.specs.Splitting.{is_bad};
 ghost use Rattle.kernels.specs.Lanes.{some};
@@ -26,14 +28,14 @@ const CHUNK: usize = 256;
 const DEPTH: usize = 511;
 
 // A bad rate: its element number in the layout, and its offset in the values.
-#[derive(Drop)]
+#[derive(Clone, Copy)]
 pub struct BadRate {
     pub element: u64,
     pub offset: i64,
 }
 
 // The first bad rate of a range, or that it has none, or the number of a refusal.
-#[derive(Drop)]
+#[derive(Clone, Copy)]
 pub enum Search {
     Found(BadRate),
     NoneBad,
@@ -41,7 +43,7 @@ pub enum Search {
 }
 
 // What some values hold: a bad rate, the first of them, or none; and whether those after them are tested by their squares.
-#[derive(Drop)]
+#[derive(Clone, Copy)]
 pub struct Look {
     pub bad: bool,
     pub element: u64,

@@ -1,5 +1,7 @@
 // The search for the first bad rate over typed slices, for the benchmark and the comparison with the Rust. A library of its own: in one with `probe_reduce`
 // the loops over lanes have two callers and are compiled into neither.
+#![tactic(auto)]
+
 ghost use Rattle.std.specs.Prelude.{◌≡◌};
 ghost use Rattle.search.specs.Searching.{search_of};
 ghost use Rattle.search_probe.specs.Answers.{search_code, found_given, element_given, offset_given};

@@ -1,4 +1,6 @@
 // The reduction a few pieces at a time over typed slices, for the benchmark and the comparison with the Rust. A library of its own, as for the search.
+#![tactic(auto)]
+
 ghost use Rattle.std.specs.Prelude.{◌≡◌};
 ghost use Rattle.bookmarks.specs.Steps.{step_of};
 ghost use Rattle.step_probe.specs.Answers.{bookmark_of, code_handed, mark_handed, pieces_handed, done_handed};

@@ -2,13 +2,13 @@
 ghost use Rattle.std.specs.Prelude.{◌<◌, ◌≡◌};
 ghost use Rattle.text.specs.Numbers.{digit_of, digit_step, read_on, plain, number_of, negative_of, positive, signed_of, hex_of};
 
-#[derive(Drop)]
+#[derive(Clone, Copy)]
 pub enum ParsedU64 {
     Is(u64),
     Malformed,
 }
 
-#[derive(Drop)]
+#[derive(Clone, Copy)]
 pub enum ParsedI64 {
     Is(i64),
     Malformed,

@@ -4,26 +4,26 @@ ghost use Rattle.std.specs.Prelude.{ℕ, ◌≤◌, ◌<◌, ◌≡◌, length, 
 use crate::number::{ParsedI64, ParsedU64};
 
 // A number, and where the next word begins.
-#[derive(Drop)]
+#[derive(Clone, Copy)]
 pub enum ReadU64 {
     Is(u64, usize),
     Malformed,
 }
 
-#[derive(Drop)]
+#[derive(Clone, Copy)]
 pub enum ReadI64 {
     Is(i64, usize),
     Malformed,
 }
 
-#[derive(Drop)]
+#[derive(Clone, Copy)]
 pub enum ReadByte {
     Is(u8, usize),
     Malformed,
 }
 
 // A list that was read into a buffer: how many items, and where the next word begins.
-#[derive(Drop)]
+#[derive(Clone, Copy)]
 pub struct Items {
     pub ok: bool,
     pub count: usize,

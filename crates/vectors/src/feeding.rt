@@ -22,7 +22,7 @@ const HOLD: usize = 16;
 const LAST_WAY: usize = 5;
 
 // Lanes that wait to be brought back, how many values went to them, and where the last vector of these begins; the first place, if there was none.
-#[derive(Drop)]
+#[derive(Clone, Copy)]
 pub struct Step {
     pub lanes: Lanes,
     pub done: usize,
@@ -30,7 +30,7 @@ pub struct Step {
 }
 
 // A way to try values: by themselves or by their squares, down to 2^-depth, in at most so many vectors.
-#[derive(Drop)]
+#[derive(Clone, Copy)]
 pub struct Try {
     pub signs: bool,
     pub depth: usize,
@@ -38,7 +38,7 @@ pub struct Try {
 }
 
 // Which way is tried next, and how many steps are guarded before; whether the way before it is tried if it works, and whether it failed once here.
-#[derive(Drop)]
+#[derive(Clone, Copy)]
 pub struct Pace {
     pub way: usize,
     pub hold: usize,

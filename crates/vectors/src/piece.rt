@@ -19,7 +19,7 @@ const LANES: usize = StableProductFloatAcc::LANES;
 const MOST_SHORT: usize = 480;
 
 // The product of a short piece, if it could be had.
-#[derive(Drop)]
+#[derive(Clone, Copy)]
 pub struct Short {
     pub ok: bool,
     pub m: f64,

@@ -13,7 +13,7 @@ use kernels::lanes::Lanes;
 const LANES: usize = StableProductFloatAcc::LANES;
 
 // Lanes after some vectors, and where the last of these begins; the piece's start, if there was none.
-#[derive(Drop)]
+#[derive(Clone, Copy)]
 pub struct Waited {
     pub lanes: Waiting,
     pub at: i64,

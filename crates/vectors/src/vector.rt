@@ -26,13 +26,13 @@ const LOWEST: f64 = 2.2250738585072014e-308;
 
 const TWICE_LOWEST: f64 = 4.450147717014403e-308;
 
-#[derive(Drop)]
+#[derive(Clone, Copy)]
 pub struct Vector {
     pub v: [f64; LANES],
 }
 
 // Lanes multiplied unsplit, beside the least of the values that each has met, or of their squares.
-#[derive(Drop)]
+#[derive(Clone, Copy)]
 pub struct Waiting {
     pub m: [f64; LANES],
     pub least: [f64; LANES],

@@ -15,20 +15,20 @@ const LANES: usize = StableProductFloatAcc::LANES;
 const MOST_SHORT: usize = 480;
 
 // Lanes that begin at eight rates in a row: after some vectors, and after one more.
-#[derive(Drop)]
+#[derive(Clone, Copy)]
 pub struct Begun {
     pub full: Waiting,
     pub more: Waiting,
 }
 
 // Lanes that begin at sixteen rates in a row.
-#[derive(Drop)]
+#[derive(Clone, Copy)]
 pub struct Sixteen {
     pub v: [f64; 16],
 }
 
 // The products of eight windows, not yet split, if they could be had.
-#[derive(Drop)]
+#[derive(Clone, Copy)]
 pub struct Eight {
     pub ok: bool,
     pub v: [f64; LANES],

@@ -1,4 +1,6 @@
 // A moving stretch of days: the product of each w rates in a row.
+#![tactic(auto)]
+
 ghost use Rattle.std.specs.Prelude.{◌≡◌, true, ◌+◌, ◌-◌, ◌%◌, ◌^◌, ◌≤◌, length};
 ghost use Rattle.kernels.specs.Blocks.{contiguous};
 ghost use Rattle.kernels.specs.InnerLanes.{window};

@@ -1,4 +1,6 @@
 // Each w rates in a row in one call over typed slices, for the benchmark and the comparison with the Rust. A library of its own, as for the search.
+#![tactic(auto)]
+
 ghost use Rattle.std.specs.Prelude.{◌≡◌};
 ghost use Rattle.windows.specs.Windows.{windows_answer, window_ms, window_es, window_bads};
 
