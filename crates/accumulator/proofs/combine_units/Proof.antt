@@ -9,42 +9,42 @@ use Rattle.accumulator.proofs.Units.{split-fits, code-split}
 use Rattle.accumulator.proofs.combine_units.Statement.{statement}
 use Rattle.accumulator.proofs.combine_units.Tie as tie
 
-returns : tie.Need-returns
-returns c =
+returns-then-lhs-rhs : tie.Need-returns-then-lhs-rhs
+returns-then-lhs-rhs c =
     let s = c.before.before.before in
-    sym (combined-bad s.args.lhs s.args.rhs c.if1.true)
+    sym (combined-bad s.args.lhs s.args.rhs c.if-lhs-rhs.true)
 
-split-fields-requires : tie.Need-split-fields-requires
-split-fields-requires c κs = search rules
+split_fields-p-requires : tie.Need-split_fields-p-requires
+split_fields-p-requires c κs = search rules
 
-add-e : tie.Need-overflow-add-e
-add-e c =
+overflow_add-e : tie.Need-overflow_add-e
+overflow_add-e c =
     let s = c.before.before.before.before.before.before.before.before.before.before in
     sum_fits s.args.lhs.e s.args.rhs.e s.requires.0 s.requires.1
 
 -- what was split
-abbrev after : tie.After-struct-told3 → tie.After-split-fields
+abbrev after : tie.After-struct_told-3-1 → tie.After-split_fields-p
 after c = c.before.before.before.before.before.before
 
-split-e : (c : tie.After-struct-told3) → SFits w64 (after c).split-fields.result.e
-split-e c = record { sfits = c.struct-told3.given.1.0.1 }
+split-e : (c : tie.After-struct_told-3-1) → SFits w64 (after c).split_fields-p.result.e
+split-e c = record { sfits = c.struct_told-3-1.given.1.0.1 }
 
-add-raised : tie.Need-overflow-add-raised
-add-raised c =
+overflow_add-raised : tie.Need-overflow_add-raised
+overflow_add-raised c =
     let p = after c in
     let k = p.before.before.before.before in
     let s = k.before.before in
-    split-fits s.args.lhs s.args.rhs k.before.struct_known.given.0 k.struct-known2.given.0 s.pre.2 s.pre.3 p.split-fields.result
-    p.split-fields.ensures s.pre.0 s.pre.1 (split-e c)
+    split-fits s.args.lhs s.args.rhs k.before.struct_known-1.given.0 k.struct_known-2-1.given.0 s.requires.2 s.requires.3 p.split_fields-p.result
+    p.split_fields-p.ensures s.requires.0 s.requires.1 (split-e c)
 
-returns-2 : tie.Need-returns-2
-returns-2 c =
+returns : tie.Need-returns
+returns c =
     let p = after c in
     let e1 = p.before.before.before in
     let k = e1.before in
     let s = k.before.before in
-    code-split s.args.lhs s.args.rhs k.before.struct_known.given.0 k.struct-known2.given.0 s.pre.2 s.pre.3 p.split-fields.result
-    p.split-fields.ensures s.pre.0 s.pre.1 (split-e c) e1.if1.left
+    code-split s.args.lhs s.args.rhs k.before.struct_known-1.given.0 k.struct_known-2-1.given.0 s.requires.2 s.requires.3 p.split_fields-p.result
+    p.split_fields-p.ensures s.requires.0 s.requires.1 (split-e c) e1.if-lhs-rhs.left
 
-pub combine-units-spec : {M : Type 1} → statement M
-combine-units-spec = tie.close (tie.spec returns split-fields-requires add-e add-raised returns-2)
+pub combine_units_spec : {M : Type 1} → statement M
+combine_units_spec = tie.close (tie.spec returns-then-lhs-rhs split_fields-p-requires overflow_add-e overflow_add-raised returns)

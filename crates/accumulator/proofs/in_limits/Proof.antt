@@ -9,27 +9,27 @@ use Rattle.accumulator.specs.Joining.{in_limits, within_limit}
 use Rattle.accumulator.proofs.in_limits.Statement.{statement}
 use Rattle.accumulator.proofs.in_limits.Tie as tie
 
-in-unit-requires : tie.Need-in-unit-requires
-in-unit-requires c κs = search rules
+in_unit-requires : tie.Need-in_unit-requires
+in_unit-requires c κs = search rules
 
-within-limit-requires : tie.Need-within-limit-requires
-within-limit-requires c κs = search rules
+within_limit-requires : tie.Need-within_limit-requires
+within_limit-requires c κs = search rules
 
-returns : tie.Need-returns
+returns-then-in_unit : tie.Need-returns-then-in_unit
 unfolding in_limits
-returns c =
+returns-then-in_unit c =
     let a = c.before.before.before.before.args.a in
-    let exact = to_z-of_z w64 a.e (record { sfits = c.before.struct_told.given.1.0.1 }) in
+    let exact = to_z-of_z w64 a.e (record { sfits = c.before.struct_told-1.given.1.0.1 }) in
     let unit = c.before.before.before.in_unit in
-    c.within-limit.ensures
+    c.within_limit.ensures
     ∙ ap (λ (z : ℤ). within_limit z) exact
-    ∙ ap (λ (t : Bool). t && within_limit a.e) (sym c.before.before.if1.true ∙ unit.ensures)
+    ∙ ap (λ (t : Bool). t && within_limit a.e) (sym c.before.before.if-in_unit.true ∙ unit.ensures)
 
-returns-2 : tie.Need-returns-2
+returns-else-in_unit : tie.Need-returns-else-in_unit
 unfolding in_limits
-returns-2 c =
+returns-else-in_unit c =
     let a = c.before.before.args.a in
-    c.if1.false ∙ ap (λ (t : Bool). t && within_limit a.e) (sym c.if1.false ∙ c.before.in_unit.ensures)
+    c.if-in_unit.false ∙ ap (λ (t : Bool). t && within_limit a.e) (sym c.if-in_unit.false ∙ c.before.in_unit.ensures)
 
-pub in-limits-spec : {M : Type 1} → statement M
-in-limits-spec = tie.close (tie.spec in-unit-requires within-limit-requires returns returns-2)
+pub in_limits_spec : {M : Type 1} → statement M
+in_limits_spec = tie.close (tie.spec in_unit-requires within_limit-requires returns-then-in_unit returns-else-in_unit)

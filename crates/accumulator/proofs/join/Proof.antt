@@ -12,62 +12,60 @@ use Rattle.accumulator.proofs.Answers.{in-limits-small, refused-left, refused-ri
 use Rattle.accumulator.proofs.join.Statement.{statement}
 use Rattle.accumulator.proofs.join.Tie as tie
 
-in-limits-requires : tie.Need-in-limits-requires
-in-limits-requires c κs = search rules
+in_limits-requires : tie.Need-in_limits-requires
+in_limits-requires c κs = search rules
 
-returns : tie.Need-returns
-returns c =
+returns-then-not-in_limits : tie.Need-returns-then-not-in_limits
+returns-then-not-in_limits c =
     let s = c.before.before in
-    refused-left s.args.a s.args.b (sym c.before.in-limits.ensures ∙ not-true c.before.in-limits.result c.if1.true)
+    refused-left s.args.a s.args.b (sym c.before.in_limits.ensures ∙ not-true c.before.in_limits.result c.if-not-in_limits.true-raw)
 
-in-limits-requires-2 : tie.Need-in-limits-requires-2
-in-limits-requires-2 c κs = search rules
+in_limits-requires-2 : tie.Need-in_limits-requires-2
+in_limits-requires-2 c κs = search rules
 
 -- past the first test the left one stands
-left-in-limits : (c : tie.Else1) → in_limits c.before.before.args.a ≡ true
-left-in-limits c = sym c.before.in-limits.ensures ∙ not-false c.before.in-limits.result c.if1.false
+left-in-limits : (c : tie.Else-not-in_limits) → in_limits c.before.before.args.a ≡ true
+left-in-limits c = sym c.before.in_limits.ensures ∙ not-false c.before.in_limits.result c.if-not-in_limits.false-raw
 
-right-in-limits : (c : tie.Else2) → in_limits c.before.before.before.before.args.b ≡ true
-right-in-limits c = sym c.before.in-limits2.ensures ∙ not-false c.before.in-limits2.result c.if2.false
+right-in-limits : (c : tie.Else-not-in_limits-2) → in_limits c.before.before.before.before.args.b ≡ true
+right-in-limits c = sym c.before.in_limits-2.ensures ∙ not-false c.before.in_limits-2.result c.if-not-in_limits-2.false-raw
 
-returns-2 : tie.Need-returns-2
-returns-2 c =
+returns-then-not-in_limits-2 : tie.Need-returns-then-not-in_limits-2
+returns-then-not-in_limits-2 c =
     let e1 = c.before.before in
     let s = e1.before.before in
     refused-right s.args.a s.args.b (left-in-limits e1)
-    (sym c.before.in-limits2.ensures ∙ not-true c.before.in-limits2.result c.if2.true)
+    (sym c.before.in_limits-2.ensures ∙ not-true c.before.in_limits-2.result c.if-not-in_limits-2.true-raw)
 
-stable-float-combine-requires : tie.Need-stable-float-combine-requires
-stable-float-combine-requires c κs =
+stable_float_combine-r-requires : tie.Need-stable_float_combine-r-requires
+stable_float_combine-r-requires c κs =
     let e1 = c.before.before in
     let s = e1.before.before in
     (in-limits-small s.args.a (left-in-limits e1), in-limits-small s.args.b (right-in-limits c))
 
-within-limit-requires : tie.Need-within-limit-requires
-within-limit-requires c κs = search rules
+within_limit-requires : tie.Need-within_limit-requires
+within_limit-requires c κs = search rules
 
 -- the joined exponent is that of `combined`
-exponent : (c : tie.After-within-limit) (t : Bool) → c.within-limit.result ≡ t
+exponent : (c : tie.After-within_limit) (t : Bool) → c.within_limit.result ≡ t
     → let s = c.before.before.before.before.before.before.before in within_limit (combined s.args.a s.args.b).e ≡ t
 exponent c t h =
-    let r = c.before.before.stable-float-combine in
-    let exact = to_z-of_z w64 r.result.e (record { sfits = c.before.struct_told.given.1.0.1 }) in
-    ap (λ (x : StableProductFloatAcc). within_limit x.e) (sym r.ensures) ∙ ap (λ (z : ℤ). within_limit z) (sym exact) ∙ sym c.within-limit.ensures ∙ h
+    let r = c.before.before.stable_float_combine-r in
+    let exact = to_z-of_z w64 r.result.e (record { sfits = c.before.struct_told-1.given.1.0.1 }) in
+    ap (λ (x : StableProductFloatAcc). within_limit x.e) (sym r.ensures) ∙ ap (λ (z : ℤ). within_limit z) (sym exact) ∙ sym c.within_limit.ensures ∙ h
 
-returns-3 : tie.Need-returns-3
-returns-3 c =
+returns-then-within_limit : tie.Need-returns-then-within_limit
+returns-then-within_limit c =
     let e2 = c.before.before.before.before in
     let s = e2.before.before.before.before in
-    ap (λ (x : StableProductFloatAcc). accumulator x.m x.e x.bad) c.before.before.before.stable-float-combine.ensures
-    ∙ accepted s.args.a s.args.b (left-in-limits e2.before.before) (right-in-limits e2) (exponent c.before true c.if3.true)
+    ap (λ (x : StableProductFloatAcc). accumulator x.m x.e x.bad) c.before.before.before.stable_float_combine-r.ensures
+    ∙ accepted s.args.a s.args.b (left-in-limits e2.before.before) (right-in-limits e2) (exponent c.before true c.if-within_limit.true)
 
-returns-4 : tie.Need-returns-4
-returns-4 c =
+returns-else-within_limit : tie.Need-returns-else-within_limit
+returns-else-within_limit c =
     let e2 = c.before.before.before.before in
     let s = e2.before.before.before.before in
-    refused-joined s.args.a s.args.b (left-in-limits e2.before.before) (right-in-limits e2) (exponent c.before false c.if3.false)
+    refused-joined s.args.a s.args.b (left-in-limits e2.before.before) (right-in-limits e2) (exponent c.before false c.if-within_limit.false)
 
-pub join-spec : {M : Type 1} → statement M
-join-spec =
-    tie.close
-    (tie.spec in-limits-requires returns in-limits-requires-2 returns-2 stable-float-combine-requires within-limit-requires returns-3 returns-4)
+pub join_spec : {M : Type 1} → statement M
+join_spec = tie.close (tie.spec in_limits-requires returns-then-not-in_limits in_limits-requires-2 returns-then-not-in_limits-2 stable_float_combine-r-requires within_limit-requires returns-then-within_limit returns-else-within_limit)

@@ -6,35 +6,35 @@ use Rattle.accumulator.proofs.Combining.{code-bad, code-two, code-less}
 use Rattle.accumulator.proofs.stable_float_combine.Statement.{statement}
 use Rattle.accumulator.proofs.stable_float_combine.Tie as tie
 
-returns : tie.Need-returns
-returns c =
+returns-then-lhs-rhs : tie.Need-returns-then-lhs-rhs
+returns-then-lhs-rhs c =
     let s = c.before.before.before.before in
-    code-bad s.args.lhs s.args.rhs s.requires.0 s.requires.1 c.before.if1.true
+    code-bad s.args.lhs s.args.rhs s.requires.0 s.requires.1 c.before.if-lhs-rhs.true
 
-add-e : tie.Need-overflow-add-e
-add-e c =
+overflow_add-e : tie.Need-overflow_add-e
+overflow_add-e c =
     let s = c.before.before.before.before.before.before.before.before.before in
     sum_fits s.args.lhs.e s.args.rhs.e s.requires.0 s.requires.1
 
-two-or-more-requires : tie.Need-two-or-more-requires
-two-or-more-requires c κs = search rules
+two_or_more-requires : tie.Need-two_or_more-requires
+two_or_more-requires c κs = search rules
 
-add-carried : tie.Need-overflow-add-carried
-add-carried c =
+overflow_add-carried : tie.Need-overflow_add-carried
+overflow_add-carried c =
     let s = c.before.before.before.before.before.before.before.before.before.before.before in
     more-fits s.args.lhs.e s.args.rhs.e s.requires.0 s.requires.1
 
-returns-2 : tie.Need-returns-2
-returns-2 c =
+returns-then-two_or_more : tie.Need-returns-then-two_or_more
+returns-then-two_or_more c =
     let e1 = c.before.before.before.before.before.before.before.before in
     let s = e1.before.before.before in
-    code-two s.args.lhs s.args.rhs s.requires.0 s.requires.1 e1.if1.false (sym c.before.two-or-more.ensures ∙ c.if2.true)
+    code-two s.args.lhs s.args.rhs s.requires.0 s.requires.1 e1.if-lhs-rhs.false (sym c.before.two_or_more.ensures ∙ c.if-two_or_more.true)
 
-returns-3 : tie.Need-returns-3
-returns-3 c =
+returns-else-two_or_more : tie.Need-returns-else-two_or_more
+returns-else-two_or_more c =
     let e1 = c.before.before.before.before.before.before.before.before in
     let s = e1.before.before.before in
-    code-less s.args.lhs s.args.rhs s.requires.0 s.requires.1 e1.if1.false (sym c.before.two-or-more.ensures ∙ c.if2.false)
+    code-less s.args.lhs s.args.rhs s.requires.0 s.requires.1 e1.if-lhs-rhs.false (sym c.before.two_or_more.ensures ∙ c.if-two_or_more.false)
 
-pub stable-float-combine-spec : {M : Type 1} → statement M
-stable-float-combine-spec = tie.close (tie.spec returns add-e two-or-more-requires add-carried returns-2 returns-3)
+pub stable_float_combine_spec : {M : Type 1} → statement M
+stable_float_combine_spec = tie.close (tie.spec returns-then-lhs-rhs overflow_add-e two_or_more-requires overflow_add-carried returns-then-two_or_more returns-else-two_or_more)

@@ -3,11 +3,11 @@ use Rattle.accumulator.proofs.Comparing.{two-taken, two-left}
 use Rattle.accumulator.proofs.two_or_more.Statement.{statement}
 use Rattle.accumulator.proofs.two_or_more.Tie as tie
 
-returns : tie.Need-returns
-returns c = two-taken c.before.args.m c.if1.true
+returns-then-m : tie.Need-returns-then-m
+returns-then-m c = two-taken c.before.args.m c.if-m.true
 
-returns-2 : tie.Need-returns-2
-returns-2 c = two-left c.before.args.m c.if1.false
+returns-else-m : tie.Need-returns-else-m
+returns-else-m c = two-left c.before.args.m c.if-m.false
 
-pub two-or-more-spec : {M : Type 1} → statement M
-two-or-more-spec = tie.close (tie.spec returns returns-2)
+pub two_or_more_spec : {M : Type 1} → statement M
+two_or_more_spec = tie.close (tie.spec returns-then-m returns-else-m)

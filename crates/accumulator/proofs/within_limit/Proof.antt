@@ -6,20 +6,20 @@ use Rattle.accumulator.proofs.Exponents.{limit-taken, limit-left}
 use Rattle.accumulator.proofs.within_limit.Statement.{statement}
 use Rattle.accumulator.proofs.within_limit.Tie as tie
 
-sub-if1 : tie.Need-overflow-sub-if1
-sub-if1 c = search rules
+overflow_sub-t-3 : tie.Need-overflow_sub-t-3
+overflow_sub-t-3 c = search rules
 
-returns : tie.Need-returns
-returns c =
+returns-then-e : tie.Need-returns-then-e
+returns-then-e c =
     let e = c.before.args.e in
     let exact = to_z-of_z w64 e c.before.ranges.e in
-    rw exact (limit-taken e (rw exact at c.if1.true))
+    rw exact (limit-taken e (rw exact at c.if-e.true))
 
-returns-2 : tie.Need-returns-2
-returns-2 c =
+returns-else-e : tie.Need-returns-else-e
+returns-else-e c =
     let e = c.before.args.e in
     let exact = to_z-of_z w64 e c.before.ranges.e in
-    rw exact (limit-left e (rw exact at c.if1.false))
+    rw exact (limit-left e (rw exact at c.if-e.false))
 
-pub within-limit-spec : {M : Type 1} → statement M
-within-limit-spec = tie.close (tie.spec sub-if1 returns returns-2)
+pub within_limit_spec : {M : Type 1} → statement M
+within_limit_spec = tie.close (tie.spec overflow_sub-t-3 returns-then-e returns-else-e)

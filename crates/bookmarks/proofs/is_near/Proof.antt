@@ -15,17 +15,17 @@ use Rattle.bookmarks.proofs.is_near.Tie as tie
 both : (e : ℤ) → le_z (negsuc (2 ^ 51 - 1)) e ≡ true → le_z e (pos (2 ^ 51)) ≡ true → nat_abs e ≤ 2 ^ 51
 both e low high = leb-true (nat_abs e) (2 ^ 51) (sym (limits (2 ^ 51 - 1) e) ∙ ap (λ (t : Bool). t && le_z e (pos (2 ^ 51))) low ∙ high)
 
-sub-if1 : tie.Need-overflow-sub-if1
-sub-if1 c = search rules
+overflow_sub-t-3 : tie.Need-overflow_sub-t-3
+overflow_sub-t-3 c = search rules
 
-returns : tie.Need-returns
-returns c =
+returns-then-e : tie.Need-returns-then-e
+returns-then-e c =
     let e = c.before.args.e in
     let exact = to_z-of_z w64 e c.before.ranges.e in
-    rw exact (both e (rw exact at c.if1.true))
+    rw exact (both e (rw exact at c.if-e.true))
 
-returns-2 : tie.Need-returns-2
-returns-2 c h = absurd (true≢false (sym h ∙ c.if1.false))
+returns-else-e : tie.Need-returns-else-e
+returns-else-e c h = absurd (true≢false (sym h ∙ c.if-e.false))
 
-pub is-near-spec : {M : Type 1} → statement M
-is-near-spec = tie.close (tie.spec sub-if1 returns returns-2)
+pub is_near_spec : {M : Type 1} → statement M
+is_near_spec = tie.close (tie.spec overflow_sub-t-3 returns-then-e returns-else-e)

@@ -21,21 +21,21 @@ use Rattle.bookmarks.proofs.OneByOne.{Joining, joining-all, joining-refused, joi
 use Rattle.bookmarks.proofs.join_each.Statement.{statement}
 use Rattle.bookmarks.proofs.join_each.Tie as tie
 
-abbrev invariant-loop : tie.invariant-loop
-invariant-loop l base k end values stride acc₀ c₀ acc c = Joining l (to_z w64 base) values end (joined_within acc₀ (pieces_of l (to_z w64 base) values k end)) acc c
+abbrev invariant-loop-c : tie.invariant-loop-c
+invariant-loop-c l base k end values stride acc₀ c₀ acc c = Joining l (to_z w64 base) values end (joined_within acc₀ (pieces_of l (to_z w64 base) values k end)) acc c
 
-abbrev decreases-loop : tie.decreases-loop
-decreases-loop l base k end values stride acc₀ c₀ acc c = end - c.at
+abbrev decreases-loop-c : tie.decreases-loop-c
+decreases-loop-c l base k end values stride acc₀ c₀ acc c = end - c.at
 
-begin-requires : tie.Need-begin-requires invariant-loop decreases-loop
-begin-requires c κs = let s = c.before.before in simp (to_z-of_z s.ranges.base) (s.requires.0, s.requires.1)
+begin-c-requires : tie.Need-begin-c-requires invariant-loop-c decreases-loop-c
+begin-c-requires c κs = let s = c.before.before in simp (to_z-of_z s.ranges.base) (s.requires.0, s.requires.1)
 
-loop-holds : tie.Need-loop-init invariant-loop decreases-loop
+loop-c-init : tie.Need-loop-c-init invariant-loop-c decreases-loop-c
 unfolding range_at
-loop-holds c =
+loop-c-init c =
     let s = c.before.before.before in
-    let began : c.begin.result ≡ range_at s.args.l s.args.base s.args.k = simp (to_z-of_z s.ranges.base) at c.begin.ensures in
-    let at : c.begin.result.at ≡ s.args.k = ap (λ (x : RangeCursor). x.at) began in
+    let began : c.begin-c.result ≡ range_at s.args.l s.args.base s.args.k = simp (to_z-of_z s.ranges.base) at c.begin-c.ensures in
+    let at : c.begin-c.result.at ≡ s.args.k = ap (λ (x : RangeCursor). x.at) began in
     simp (to_z-of_z s.ranges.base)
     (record {
       upto = omega (arith, at, s.requires.2);
@@ -46,65 +46,65 @@ loop-holds c =
     })
 
 -- ---- the loop
-abbrev loop-told : tie.At-loop invariant-loop decreases-loop → tie.After-struct-told invariant-loop decreases-loop
+abbrev loop-told : tie.At-loop-c invariant-loop-c decreases-loop-c → tie.After-struct_told-1 invariant-loop-c decreases-loop-c
 loop-told c = c.before.before
 
-abbrev from-loop : tie.At-loop invariant-loop decreases-loop → tie.Start invariant-loop decreases-loop
+abbrev from-loop : tie.At-loop-c invariant-loop-c decreases-loop-c → tie.Start invariant-loop-c decreases-loop-c
 from-loop c = (loop-told c).before.before
 
-abbrev whole : tie.At-loop invariant-loop decreases-loop → Answer
+abbrev whole : tie.At-loop-c invariant-loop-c decreases-loop-c → Answer
 whole c = let s = from-loop c in joined_within s.args.acc (pieces_of s.args.l s.args.base s.args.values.now s.args.k s.args.end)
 
 -- the invariant, over the base itself
-joining : (c : tie.At-loop invariant-loop decreases-loop)
-    → let s = from-loop c in Joining s.args.l s.args.base s.args.values.now s.args.end (whole c) c.loop.acc c.loop.c
-joining c = simp (to_z-of_z (from-loop c).ranges.base) at c.loop.invariant
+joining : (c : tie.At-loop-c invariant-loop-c decreases-loop-c)
+    → let s = from-loop c in Joining s.args.l s.args.base s.args.values.now s.args.end (whole c) c.loop-c.acc c.loop-c.c
+joining c = simp (to_z-of_z (from-loop c).ranges.base) at c.loop-c.invariant
 
-next-piece-requires : tie.Need-next-piece-requires invariant-loop decreases-loop
-next-piece-requires c κs =
+next_piece-p-requires : tie.Need-next_piece-p-requires invariant-loop-c decreases-loop-c
+next_piece-p-requires c κs =
     let k = c.before.before in
     let s = from-loop k in
-    (s.pre.0, c.if1.true, record { base = s.args.base; bounded = s.pre.1; cursor_is = (joining k).cursor_is c.if1.true })
+    (s.requires.0, c.loop-c-test.true, record { base = s.args.base; bounded = s.requires.1; cursor_is = (joining k).cursor_is c.loop-c-test.true })
 
-next-taken : (c : tie.After-next-piece invariant-loop decreases-loop)
+next-taken : (c : tie.After-next_piece-p invariant-loop-c decreases-loop-c)
     → let k = c.before.before.before in
-    let s = from-loop k in PieceTaken s.args.l s.args.base s.args.values.now s.args.end k.loop.c c.next-piece.result
+    let s = from-loop k in PieceTaken s.args.l s.args.base s.args.values.now s.args.end k.loop-c.c c.next_piece-p.result
 next-taken c =
     let t = c.before in
     let k = t.before.before in
     let s = from-loop k in
-    taken s.args.l s.pre.0 s.args.base s.pre.1 s.args.values.now s.pre.5 s.args.end s.pre.3 k.loop.c
-    ((joining k).cursor_is t.if1.true) t.if1.true c.next-piece.result c.next-piece.ensures
+    taken s.args.l s.requires.0 s.args.base s.requires.1 s.args.values.now s.requires.5 s.args.end s.requires.3 k.loop-c.c
+    ((joining k).cursor_is t.loop-c-test.true) t.loop-c-test.true c.next_piece-p.result c.next_piece-p.ensures
 
-first_fits : (c : tie.After-struct-told2 invariant-loop decreases-loop) → SFits w64 c.before.next-piece.result.first
-first_fits c = record { sfits = c.struct-told2.given.0.1 }
+first_fits : (c : tie.After-struct_told-in-loop-c-1 invariant-loop-c decreases-loop-c) → SFits w64 c.before.next_piece-p.result.first
+first_fits c = record { sfits = c.struct_told-in-loop-c-1.given.0.1 }
 
-stride-fits : (c : tie.At-loop invariant-loop decreases-loop) → SFits w64 (from-loop c).args.l.run_stride
-stride-fits c = record { sfits = (loop-told c).struct_told.given.1.1.0.1 }
+stride-fits : (c : tie.At-loop-c invariant-loop-c decreases-loop-c) → SFits w64 (from-loop c).args.l.run_stride
+stride-fits c = record { sfits = (loop-told c).struct_told-1.given.1.1.0.1 }
 
-reduce-piece-requires : tie.Need-reduce-piece-requires invariant-loop decreases-loop
-reduce-piece-requires c κs =
+reduce_piece-b-requires : tie.Need-reduce_piece-b-requires invariant-loop-c decreases-loop-c
+reduce_piece-b-requires c κs =
     let k = c.before.before.before.before in
     let s = from-loop k in
     let p = next-taken c.before in
-    simp (to_z-of_z (first_fits c), to_z-of_z (stride-fits k)) (p.some_len, p.inside, omega (arith, p.ends, s.pre.3, s.pre.4))
+    simp (to_z-of_z (first_fits c), to_z-of_z (stride-fits k)) (p.some_len, p.inside, omega (arith, p.ends, s.requires.3, s.requires.4))
 
-piece-worked : (c : tie.After-reduce-piece invariant-loop decreases-loop) → let s = from-loop c.before.before.before.before.before in
-    let p = c.before.before.next-piece.result in
-    c.reduce-piece.result ≡ worked (eq_z s.args.l.run_stride (pos 1)) (strided s.args.values.now p.first s.args.l.run_stride p.len)
-piece-worked c = simp (to_z-of_z (first_fits c.before), to_z-of_z (stride-fits c.before.before.before.before.before)) at c.reduce-piece.ensures
+piece-worked : (c : tie.After-reduce_piece-b invariant-loop-c decreases-loop-c) → let s = from-loop c.before.before.before.before.before in
+    let p = c.before.before.next_piece-p.result in
+    c.reduce_piece-b.result ≡ worked (eq_z s.args.l.run_stride (pos 1)) (strided s.args.values.now p.first s.args.l.run_stride p.len)
+piece-worked c = simp (to_z-of_z (first_fits c.before), to_z-of_z (stride-fits c.before.before.before.before.before)) at c.reduce_piece-b.ensures
 
-join-requires : tie.Need-join-requires invariant-loop decreases-loop
-join-requires c κs = search rules
+join-r-requires : tie.Need-join-r-requires invariant-loop-c decreases-loop-c
+join-r-requires c κs = search rules
 
-enum-known-r : tie.Need-enum-known-r invariant-loop decreases-loop
-enum-known-r c = search rules
+enum_known-r : tie.Need-enum_known-r invariant-loop-c decreases-loop-c
+enum_known-r c = search rules
 
-enum_told : tie.Need-enum-told invariant-loop decreases-loop
-enum_told c = search rules
+enum_told-1 : tie.Need-enum_told-1 invariant-loop-c decreases-loop-c
+enum_told-1 c = search rules
 
-returns : tie.Need-returns invariant-loop decreases-loop
-returns c =
+returns-in_default : tie.Need-returns-in_default invariant-loop-c decreases-loop-c
+returns-in_default c =
     let m = c.before in
     let j = m.before in
     let w = j.before in
@@ -112,21 +112,21 @@ returns c =
     let k = n.before.before.before in
     let s = from-loop k in
     let p = next-taken n in
-    joining-refused s.args.l s.args.base s.args.values.now s.args.end k.loop.c n.next-piece.result p w.reduce-piece.result
-    (piece-worked w) (loop-told k).before.shared-slice-known.given (omega (arith, p.ends, s.pre.3, s.pre.4)) (whole k) k.loop.acc (joining k)
-    j.join.result j.join.ensures m.match.keys2
+    joining-refused s.args.l s.args.base s.args.values.now s.args.end k.loop-c.c n.next_piece-p.result p w.reduce_piece-b.result
+    (piece-worked w) (loop-told k).before.shared_slice_known-1.given (omega (arith, p.ends, s.requires.3, s.requires.4)) (whole k) k.loop-c.acc (joining k)
+    j.join-r.result j.join-r.ensures m.in-Acc.keys2
 
-abbrev at_join : tie.After-c invariant-loop decreases-loop → tie.After-join invariant-loop decreases-loop
+abbrev at_join : tie.After-c-1 invariant-loop-c decreases-loop-c → tie.After-join-r invariant-loop-c decreases-loop-c
 at_join c = c.before.before.before.before
 
-loop-less : tie.Need-loop-smaller invariant-loop decreases-loop
-loop-less c =
+loop-c-smaller : tie.Need-loop-c-smaller invariant-loop-c decreases-loop-c
+loop-c-smaller c =
     let n = (at_join c).before.before.before in
     let p = next-taken n in
-    omega (arith, n.before.if1.taken, p.next_at, p.some_len)
+    omega (arith, n.before.loop-c-test.taken, p.next_at, p.some_len)
 
-loop-again : tie.Need-loop-preserved invariant-loop decreases-loop
-loop-again c =
+loop-c-preserved : tie.Need-loop-c-preserved invariant-loop-c decreases-loop-c
+loop-c-preserved c =
     let j = at_join c in
     let w = j.before in
     let n = w.before.before in
@@ -135,29 +135,14 @@ loop-again c =
     let p = next-taken n in
     let a = c.before.before in
     simp (to_z-of_z s.fits.base)
-    (joining-more s.args.l s.args.base s.args.values.now s.args.end k.loop.c n.next-piece.result p w.reduce-piece.result
-    (piece-worked w) (loop-told k).before.shared-slice-known.given (omega (arith, p.ends, s.pre.3, s.pre.4)) (whole k) k.loop.acc (joining k)
-    j.join.result j.join.ensures a.r.given.0.0 a.r.given.1)
+    (joining-more s.args.l s.args.base s.args.values.now s.args.end k.loop-c.c n.next_piece-p.result p w.reduce_piece-b.result
+    (piece-worked w) (loop-told k).before.shared_slice_known-1.given (omega (arith, p.ends, s.requires.3, s.requires.4)) (whole k) k.loop-c.acc (joining k)
+    j.join-r.result j.join-r.ensures a.r-1.given.0.0 a.r-1.given.1)
 
-returns-2 : tie.Need-returns-2 invariant-loop decreases-loop
-returns-2 c =
+returns : tie.Need-returns invariant-loop-c decreases-loop-c
+returns c =
     let k = c.before.before in
-    joining-all _ _ _ _ _ _ _ (joining k) (omega (arith, c.if1.false))
+    joining-all _ _ _ _ _ _ _ (joining k) (omega (arith, c.loop-c-test.false))
 
-pub join-each-spec : {M : Type 1} → statement M
-join-each-spec =
-    tie.close
-    (tie.spec
-    invariant-loop
-    decreases-loop
-    begin-requires
-    loop-holds
-    next-piece-requires
-    reduce-piece-requires
-    join-requires
-    enum-known-r
-    enum_told
-    returns
-    loop-less
-    loop-again
-    returns-2)
+pub join_each_spec : {M : Type 1} → statement M
+join_each_spec = tie.close (tie.spec invariant-loop-c decreases-loop-c begin-c-requires loop-c-init next_piece-p-requires reduce_piece-b-requires join-r-requires enum_known-r enum_told-1 returns-in_default loop-c-smaller loop-c-preserved returns)

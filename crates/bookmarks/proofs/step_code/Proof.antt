@@ -8,61 +8,61 @@ use Rattle.bookmarks.specs.Steps.{begins_piece, step_refusals}
 use Rattle.bookmarks.proofs.step_code.Statement.{statement}
 use Rattle.bookmarks.proofs.step_code.Tie as tie
 
-returns : tie.Need-returns
+returns-then-n-eq0 : tie.Need-returns-then-n-eq0
 unfolding first_of step_refusals
-returns c = rw (eq-eqb c.before.args.n 0 c.if1.true)
+returns-then-n-eq0 c = rw (eq-eqb c.before.args.n 0 c.if-n-eq0.true)
 
-begins-piece-requires : tie.Need-begins-piece-requires
-begins-piece-requires c κs = search rules
+begins_piece-requires : tie.Need-begins_piece-requires
+begins_piece-requires c κs = search rules
 
-returns-2 : tie.Need-returns-2
+returns-then-not-begins_piece : tie.Need-returns-then-not-begins_piece
 unfolding first_of step_refusals
-returns-2 c =
+returns-then-not-begins_piece c =
     let b = c.before in
     let s = b.before.before in
-    rw (ne_eqb s.args.n 0 b.before.if1.false, sym b.begins-piece.ensures ∙ not-true b.begins-piece.result c.if2.true)
+    rw (ne_eqb s.args.n 0 b.before.if-n-eq0.false, sym b.begins_piece.ensures ∙ not-true b.begins_piece.result c.if-not-begins_piece.true-raw)
 
 -- past the second test
-begins : (c : tie.Else2) → let s = c.before.before.before in begins_piece s.args.len s.args.start s.args.end s.args.mark.next ≡ true
-begins c = sym c.before.begins-piece.ensures ∙ not-false c.before.begins-piece.result c.if2.false
+begins : (c : tie.Else-not-begins_piece) → let s = c.before.before.before in begins_piece s.args.len s.args.start s.args.end s.args.mark.next ≡ true
+begins c = sym c.before.begins_piece.ensures ∙ not-false c.before.begins_piece.result c.if-not-begins_piece.false-raw
 
-returns-3 : tie.Need-returns-3
+returns-then-at-start : tie.Need-returns-then-at-start
 unfolding first_of step_refusals
-returns-3 c =
+returns-then-at-start c =
     let b = c.before in
     let s = b.before.before.before in
-    rw (ne_eqb s.args.n 0 b.before.before.if1.false, begins b, eq-eqb s.args.mark.next s.args.start c.if3.true)
+    rw (ne_eqb s.args.n 0 b.before.before.if-n-eq0.false, begins b, eq-eqb s.args.mark.next s.args.start c.if-at-start.true)
 
-in-limits-requires : tie.Need-in-limits-requires
-in-limits-requires c κs = search rules
+in_limits-requires : tie.Need-in_limits-requires
+in_limits-requires c κs = search rules
 
-returns-4 : tie.Need-returns-4
+returns-then-in_limits : tie.Need-returns-then-in_limits
 unfolding first_of step_refusals
-returns-4 c =
+returns-then-in_limits c =
     let i = c.before in
     let e = i.before in
     let b = e.before in
     let s = b.before.before.before in
     rw (
-      ne_eqb s.args.n 0 b.before.before.if1.false,
+      ne_eqb s.args.n 0 b.before.before.if-n-eq0.false,
       begins b,
-      ne_eqb s.args.mark.next s.args.start e.if3.false,
-      sym i.in-limits.ensures ∙ c.if4.true,
+      ne_eqb s.args.mark.next s.args.start e.if-at-start.false,
+      sym i.in_limits.ensures ∙ c.if-in_limits.true,
     )
 
-returns-5 : tie.Need-returns-5
+returns : tie.Need-returns
 unfolding first_of step_refusals
-returns-5 c =
+returns c =
     let i = c.before in
     let e = i.before in
     let b = e.before in
     let s = b.before.before.before in
     rw (
-      ne_eqb s.args.n 0 b.before.before.if1.false,
+      ne_eqb s.args.n 0 b.before.before.if-n-eq0.false,
       begins b,
-      ne_eqb s.args.mark.next s.args.start e.if3.false,
-      sym i.in-limits.ensures ∙ c.if4.false,
+      ne_eqb s.args.mark.next s.args.start e.if-at-start.false,
+      sym i.in_limits.ensures ∙ c.if-in_limits.false,
     )
 
-pub step-code-spec : {M : Type 1} → statement M
-step-code-spec = tie.close (tie.spec returns begins-piece-requires returns-2 returns-3 in-limits-requires returns-4 returns-5)
+pub step_code_spec : {M : Type 1} → statement M
+step_code_spec = tie.close (tie.spec returns-then-n-eq0 begins_piece-requires returns-then-not-begins_piece returns-then-at-start in_limits-requires returns-then-in_limits returns)

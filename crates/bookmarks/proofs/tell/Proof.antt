@@ -5,30 +5,30 @@ use Rattle.bookmarks.proofs.Telling.{more-told, done-told, refused-told}
 use Rattle.bookmarks.proofs.tell.Statement.{statement}
 use Rattle.bookmarks.proofs.tell.Tie as tie
 
-enum-known-answer : tie.Need-enum-known-answer
-enum-known-answer c = search rules
+enum_known-answer : tie.Need-enum_known-answer
+enum_known-answer c = search rules
 
-enum-known-answer-2 : tie.Need-enum-known-answer-2
-enum-known-answer-2 c = search rules
+enum_known-answer-in-Refused-1 : tie.Need-enum_known-answer-in-Refused-1
+enum_known-answer-in-Refused-1 c = search rules
 
-returns : tie.Need-returns
-returns c =
+returns-then-next-end : tie.Need-returns-then-next-end
+returns-then-next-end c =
     let a = c.before.before in
     let s = a.before.before in
-    more-told s.args.end s.args.p.stop s.args.p.pieces s.args.answer a.answer.given.0.0 a.answer.given.1 c.if1.true
+    more-told s.args.end s.args.p.stop s.args.p.pieces s.args.answer a.answer-1.given.0.0 a.answer-1.given.1 c.if-next-end.true
 
-returns-2 : tie.Need-returns-2
-returns-2 c =
+returns-else-next-end : tie.Need-returns-else-next-end
+returns-else-next-end c =
     let a = c.before.before in
     let s = a.before.before in
-    done-told s.args.end s.args.p.stop s.args.p.pieces s.args.answer a.answer.given.0.0 a.answer.given.1
-    (omega (arith, c.if1.false))
+    done-told s.args.end s.args.p.stop s.args.p.pieces s.args.answer a.answer-1.given.0.0 a.answer-1.given.1
+    (omega (arith, c.if-next-end.false))
 
-returns-3 : tie.Need-returns-3
-returns-3 c =
+returns-in-Refused : tie.Need-returns-in-Refused
+returns-in-Refused c =
     let a = c.before in
     let s = a.before.before in
-    refused-told s.args.end s.args.p.stop s.args.p.pieces s.args.answer a.answer2.given.0.0 a.answer2.given.1
+    refused-told s.args.end s.args.p.stop s.args.p.pieces s.args.answer a.answer-in-Refused-1.given.0.0 a.answer-in-Refused-1.given.1
 
-pub tell-spec : {M : Type 1} → statement M
-tell-spec = tie.close (tie.spec enum-known-answer enum-known-answer-2 returns returns-2 returns-3)
+pub tell_spec : {M : Type 1} → statement M
+tell_spec = tie.close (tie.spec enum_known-answer enum_known-answer-in-Refused-1 returns-then-next-end returns-else-next-end returns-in-Refused)

@@ -6,27 +6,27 @@ use Rattle.handed.specs.Answers.{number_code, number_given}
 use Rattle.figure_probe.proofs.hand_out.Statement.{statement}
 use Rattle.figure_probe.proofs.hand_out.Tie as tie
 
-enum-known-answer : tie.Need-enum-known-answer
-enum-known-answer c = search rules
+enum_known-answer : tie.Need-enum_known-answer
+enum_known-answer c = search rules
 
-enum-known-answer-2 : tie.Need-enum-known-answer-2
-enum-known-answer-2 c = search rules
+enum_known-answer-in-Refused-1 : tie.Need-enum_known-answer-in-Refused-1
+enum_known-answer-in-Refused-1 c = search rules
 
-returns : tie.Need-returns
+returns-in-Number : tie.Need-returns-in-Number
 unfolding number_code number_given
-returns c =
+returns-in-Number c =
     let a = c.before in
     let s = a.before.before in
-    let t = sym (ap final_answer_of a.answer.given.1) in
+    let t = sym (ap final_answer_of a.answer-1.given.1) in
     (ap number_code t, ap (number_given s.args.number.now) t)
 
-returns-2 : tie.Need-returns-2
+returns-in-Refused : tie.Need-returns-in-Refused
 unfolding number_code number_given
-returns-2 c =
+returns-in-Refused c =
     let a = c.before in
     let s = a.before.before in
-    let t = sym (ap final_answer_of a.answer2.given.1) in
+    let t = sym (ap final_answer_of a.answer-in-Refused-1.given.1) in
     (ap number_code t, ap (number_given s.args.number.now) t)
 
-pub hand-out-spec : {M : Type 1} → statement M
-hand-out-spec = tie.close (tie.spec enum-known-answer enum-known-answer-2 returns returns-2)
+pub hand_out_spec : {M : Type 1} → statement M
+hand_out_spec = tie.close (tie.spec enum_known-answer enum_known-answer-in-Refused-1 returns-in-Number returns-in-Refused)

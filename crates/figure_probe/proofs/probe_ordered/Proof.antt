@@ -9,23 +9,23 @@ use Rattle.figure_probe.proofs.probe_ordered.Statement.{statement}
 use Rattle.figure_probe.proofs.probe_ordered.Tie as tie
 
 -- the call's answer, over the arguments themselves
-answered : (c : tie.After-ordered-product) → let s = c.before.before.before in
-    final_answer_of c.ordered-product.result
+answered : (c : tie.After-ordered_product-answer) → let s = c.before.before.before in
+    final_answer_of c.ordered_product-answer.result
     ≡ ordered_of s.args.sizes.now s.args.strides.now s.args.base s.args.start s.args.end s.args.values.now
-answered c = simp (to_z-of_z c.before.before.before.ranges.base) at c.ordered-product.ensures
+answered c = simp (to_z-of_z c.before.before.before.ranges.base) at c.ordered_product-answer.ensures
 
-ordered-product-requires : tie.Need-ordered-product-requires
-ordered-product-requires c κs = search rules
+ordered_product-answer-requires : tie.Need-ordered_product-answer-requires
+ordered_product-answer-requires c κs = search rules
 
-hand-out-requires : tie.Need-hand-out-requires
-hand-out-requires c κs = search rules
+hand_out-requires : tie.Need-hand_out-requires
+hand_out-requires c κs = search rules
 
 returns : tie.Need-returns
 returns c =
     let a = c.before.before in
     let s = a.before.before.before in
     let t = answered a in
-    (c.hand-out.ensures.0 ∙ ap number_code t, c.hand-out.ensures.1 ∙ ap (number_given s.args.number.now) t)
+    (c.hand_out.ensures.0 ∙ ap number_code t, c.hand_out.ensures.1 ∙ ap (number_given s.args.number.now) t)
 
-pub probe-ordered-spec : {M : Type 1} → statement M
-probe-ordered-spec = tie.close (tie.spec ordered-product-requires hand-out-requires returns)
+pub probe_ordered_spec : {M : Type 1} → statement M
+probe_ordered_spec = tie.close (tie.spec ordered_product-answer-requires hand_out-requires returns)

@@ -23,61 +23,61 @@ use Rattle.figures.proofs.Theorems.{rule-O4}
 use Rattle.figures.proofs.figure.Statement.{statement}
 use Rattle.figures.proofs.figure.Tie as tie
 
-compile-requires : tie.Need-compile-requires
-compile-requires c κs = search rules
+compile-compiled-requires : tie.Need-compile-compiled-requires
+compile-compiled-requires c κs = search rules
 
-range-code-requires : tie.Need-range-code-requires
-range-code-requires c κs =
-    let e = c.compile.ensures in (ap (λ (r : Compiled). r.code) e, ap (λ (r : Compiled). r.traversal.total) e)
+range_code-code-requires : tie.Need-range_code-code-requires
+range_code-code-requires c κs =
+    let e = c.compile-compiled.ensures in (ap (λ (r : Compiled). r.code) e, ap (λ (r : Compiled). r.traversal.total) e)
 
 -- the range's code, over the arguments themselves
-code_of : (c : tie.After-range-code) → let s = c.before.before.before.before in
-    c.range-code.result
+code_of : (c : tie.After-range_code-code) → let s = c.before.before.before.before in
+    c.range_code-code.result
     ≡ range_code s.args.sizes.now s.args.strides.now s.args.base s.args.start s.args.end (length s.args.values.now)
-code_of c = simp (to_z-of_z c.before.before.before.before.ranges.base) at c.range-code.ensures
+code_of c = simp (to_z-of_z c.before.before.before.before.ranges.base) at c.range_code-code.ensures
 
 -- an accepted range
-accepted : (c : tie.Else1) → let s = c.before.before.before.before.before in
+accepted : (c : tie.Else-code-ne0) → let s = c.before.before.before.before.before in
     Checked s.args.sizes.now s.args.strides.now s.args.base s.args.start s.args.end (length s.args.values.now)
-    c.before.before.compile.result.traversal
+    c.before.before.compile-compiled.result.traversal
 accepted c =
     let m = c.before in
     let k = m.before in
-    checked _ _ _ _ _ _ k.compile.result k.compile.ensures m.range-code.result (code_of m) c.if1.false
+    checked _ _ _ _ _ _ k.compile-compiled.result k.compile-compiled.ensures m.range_code-code.result (code_of m) c.if-code-ne0.false
 
-returns : tie.Need-returns
-returns c =
+returns-then-code-ne0 : tie.Need-returns-then-code-ne0
+returns-then-code-ne0 c =
     let m = c.before in
     let s = m.before.before.before.before in
     ap refusal (code_of m)
     ∙ sym (figure-refused s.args.sizes.now s.args.strides.now s.args.base s.args.start s.args.end s.args.values.now
-    (λ e. c.if1.true (code_of m ∙ e)))
+    (λ e. c.if-code-ne0.true (code_of m ∙ e)))
 
-reduce-full-range-requires : tie.Need-reduce-full-range-requires
-reduce-full-range-requires c κs =
+reduce_full_range-acc-requires : tie.Need-reduce_full_range-acc-requires
+reduce_full_range-acc-requires c κs =
     let s = c.before.before.before.before.before in
     let a = accepted c in
     simp (to_z-of_z s.ranges.base) (a.traversal, a.bounded, a.forward, a.inside, a.few, a.within)
 
 -- the reduction's accumulator is the range's
-reduced : (c : tie.After-reduce-full-range) → let s = c.before.before.before.before.before.before in
-    c.reduce-full-range.result
+reduced : (c : tie.After-reduce_full_range-acc) → let s = c.before.before.before.before.before.before in
+    c.reduce_full_range-acc.result
     ≡ range_product s.args.sizes.now s.args.strides.now s.args.base s.args.start s.args.end s.args.values.now
 reduced c =
     let b = c.before in
     let s = b.before.before.before.before.before in
-    simp (to_z-of_z s.ranges.base) at c.reduce-full-range.ensures
+    simp (to_z-of_z s.ranges.base) at c.reduce_full_range-acc.ensures
     ∙ ap (λ (l : FullTraversal). joined_pieces (pieces_of l s.args.base s.args.values.now s.args.start s.args.end)) (accepted b).is
 
-ordered-full-range-requires : tie.Need-ordered-full-range-requires
-ordered-full-range-requires c κs =
+ordered_full_range-number-requires : tie.Need-ordered_full_range-number-requires
+ordered_full_range-number-requires c κs =
     let e = c.before.before in
     let s = e.before.before.before.before.before in
     let a = accepted e in
     simp (to_z-of_z s.ranges.base) (a.traversal, a.bounded, a.forward, a.inside, a.few, a.within)
 
-returns-2 : tie.Need-returns-2
-returns-2 c =
+returns-then-acc : tie.Need-returns-then-acc
+returns-then-acc c =
     let t = c.before in
     let r = t.before in
     let b = r.before in
@@ -85,39 +85,30 @@ returns-2 c =
     let k = m.before in
     let s = k.before.before in
     let a = accepted b in
-    let made = simp (to_z-of_z s.ranges.base) at c.ordered-full-range.ensures in
+    let made = simp (to_z-of_z s.ranges.base) at c.ordered_full_range-number.ensures in
     ap value (made
     ∙ ordered-accepted s.args.sizes.now s.args.strides.now s.args.base s.args.start s.args.end s.args.values.now
-    k.shared-slice-known2.given m.compile.result.traversal a)
+    k.shared_slice_known-2-1.given m.compile-compiled.result.traversal a)
     ∙ sym (figure-bad s.args.sizes.now s.args.strides.now s.args.base s.args.start s.args.end s.args.values.now a.code
-    (sym (ap (λ (x : StableProductFloatAcc). x.bad) (reduced r)) ∙ t.if2.true))
+    (sym (ap (λ (x : StableProductFloatAcc). x.bad) (reduced r)) ∙ t.if-acc.true))
 
 finish-requires : tie.Need-finish-requires
 finish-requires c κs = search rules
 
-returns-3 : tie.Need-returns-3
-returns-3 c =
+returns : tie.Need-returns
+returns c =
     let t = c.before in
     let r = t.before in
     let b = r.before in
     let k = b.before.before.before in
     let s = k.before.before in
     let a = accepted b in
-    let v = values-fit s.args.values.now k.shared-slice-known2.given in
+    let v = values-fit s.args.values.now k.shared_slice_known-2-1.given in
     let d = rule-D3 s.args.sizes.now s.args.strides.now s.args.base s.args.start s.args.end s.args.values.now v a.code in
     let o = rule-O4 s.args.sizes.now s.args.strides.now s.args.base s.args.start s.args.end s.args.values.now v a.code in
     c.finish.ensures
-    ∙ sym (o.finished (Acc r.reduce-full-range.result) (ap (λ (x : StableProductFloatAcc). answer_of (Acc x)) (reduced r) ∙ sym d.answer)
-    (sym d.mark ∙ sym (ap (λ (x : StableProductFloatAcc). x.bad) (reduced r)) ∙ t.if2.false))
+    ∙ sym (o.finished (Acc r.reduce_full_range-acc.result) (ap (λ (x : StableProductFloatAcc). answer_of (Acc x)) (reduced r) ∙ sym d.answer)
+    (sym d.mark ∙ sym (ap (λ (x : StableProductFloatAcc). x.bad) (reduced r)) ∙ t.if-acc.false))
 
-pub figure-spec : {M : Type 1} → statement M
-figure-spec =
-    tie.close
-    (tie.spec
-    compile-requires range-code-requires
-    returns
-    reduce-full-range-requires
-    ordered-full-range-requires
-    returns-2
-    finish-requires
-    returns-3)
+pub figure_spec : {M : Type 1} → statement M
+figure_spec = tie.close (tie.spec compile-compiled-requires range_code-code-requires returns-then-code-ne0 reduce_full_range-acc-requires ordered_full_range-number-requires returns-then-acc finish-requires returns)

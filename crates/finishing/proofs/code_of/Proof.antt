@@ -4,19 +4,19 @@ use Rattle.finishing.proofs.Answers.{code-none, code-some}
 use Rattle.finishing.proofs.code_of.Statement.{statement}
 use Rattle.finishing.proofs.code_of.Tie as tie
 
-enum_told : tie.Need-enum-told
-enum_told c = search rules
+enum_told-1 : tie.Need-enum_told-1
+enum_told-1 c = search rules
 
-enum-known-answer : tie.Need-enum-known-answer
-enum-known-answer c = search rules
+enum_known-answer : tie.Need-enum_known-answer
+enum_known-answer c = search rules
 
-returns : tie.Need-returns
-returns c = code-none c.before.before.args.answer c.before.match.keys1
+returns-in-Acc : tie.Need-returns-in-Acc
+returns-in-Acc c = code-none c.before.before.args.answer c.before.in-Acc.keys1
 
-returns-2 : tie.Need-returns-2
-returns-2 c =
-    let g = c.before.answer.given in
+returns-in-Refused : tie.Need-returns-in-Refused
+returns-in-Refused c =
+    let g = c.before.answer-1.given in
     code-some c.before.before.before.args.answer g.0.0 g.1
 
-pub code-of-spec : {M : Type 1} → statement M
-code-of-spec = tie.close (tie.spec enum_told enum-known-answer returns returns-2)
+pub code_of_spec : {M : Type 1} → statement M
+code_of_spec = tie.close (tie.spec enum_told-1 enum_known-answer returns-in-Acc returns-in-Refused)

@@ -16,20 +16,20 @@ use Rattle.finishing.proofs.Loops.{lowered-below, under-taken, under_left, last}
 use Rattle.finishing.proofs.f64_ldexp.Statement.{statement}
 use Rattle.finishing.proofs.f64_ldexp.Tie as tie
 
-abbrev invariant-loop : tie.invariant-loop
-invariant-loop m e x₀ k₀ x k = Scaling m (to_z w64 e) x (to_z w64 k)
+abbrev invariant-loop-k : tie.invariant-loop-k
+invariant-loop-k m e x₀ k₀ x k = Scaling m (to_z w64 e) x (to_z w64 k)
 
-abbrev decreases-loop : tie.decreases-loop
-decreases-loop m e x₀ k₀ x k = nat_abs (to_z w64 k)
+abbrev decreases-loop-k : tie.decreases-loop-k
+decreases-loop-k m e x₀ k₀ x k = nat_abs (to_z w64 k)
 
-abbrev invariant-loop2 : tie.invariant-loop2
-invariant-loop2 m e x₀ k₀ x k = Scaling m (to_z w64 e) x (to_z w64 k) × (past_largest (to_z w64 k) ≡ false)
+abbrev invariant-loop-k-2 : tie.invariant-loop-k-2
+invariant-loop-k-2 m e x₀ k₀ x k = Scaling m (to_z w64 e) x (to_z w64 k) × (past_largest (to_z w64 k) ≡ false)
 
-abbrev decreases-loop2 : tie.decreases-loop2
-decreases-loop2 m e x₀ k₀ x k = nat_abs (to_z w64 k)
+abbrev decreases-loop-k-2 : tie.decreases-loop-k-2
+decreases-loop-k-2 m e x₀ k₀ x k = nat_abs (to_z w64 k)
 
 -- ---- what is given
-module _ (s : tie.Start invariant-loop decreases-loop invariant-loop2 decreases-loop2) where
+module _ (s : tie.Start invariant-loop-k decreases-loop-k invariant-loop-k-2 decreases-loop-k-2) where
   abbrev e : ℤ
   e = to_z w64 (of_z w64 s.args.e)
 
@@ -37,108 +37,104 @@ module _ (s : tie.Start invariant-loop decreases-loop invariant-loop2 decreases-
   e_is = to_z-of_z w64 s.args.e s.fits.e
 
   limit : within_limit e ≡ true
-  limit = ap (λ (z : ℤ). within_limit z) e-is ∙ s.pre.1
+  limit = ap (λ (z : ℤ). within_limit z) e-is ∙ s.requires.1
 
   float : T (fits binary64 s.args.m)
-  float = subst T (sym s.good.0.1) tt
+  float = subst T (sym s.well_formed.0.1) tt
 
   answer : (x : Float) → x ≡ rounded_once (factor_at 52 s.args.m e) → x ≡ rounded_once (factor_at 52 s.args.m s.args.e)
   answer x h = h ∙ ap (λ (z : ℤ). rounded_once (factor_at 52 s.args.m z)) e-is
 
-loop-holds : tie.Need-loop-init invariant-loop decreases-loop invariant-loop2 decreases-loop2
-loop-holds c = scaling-none c.args.m (e c)
+loop-k-init : tie.Need-loop-k-init invariant-loop-k decreases-loop-k invariant-loop-k-2 decreases-loop-k-2
+loop-k-init c = scaling-none c.args.m (e c)
 
-float-from-bits-x : tie.Need-float-from-bits-x invariant-loop decreases-loop invariant-loop2 decreases-loop2
+float_from_bits-x : tie.Need-float_from_bits-x invariant-loop-k decreases-loop-k invariant-loop-k-2 decreases-loop-k-2
 unfolding nan_bits
-float-from-bits-x c = search rules
+float_from_bits-x c = search rules
 
 -- ---- the first loop
-sub-k : tie.Need-overflow-sub-k invariant-loop decreases-loop invariant-loop2 decreases-loop2
-sub-k c =
-    let l = c.before.loop in
+overflow_sub-k : tie.Need-overflow_sub-k invariant-loop-k decreases-loop-k invariant-loop-k-2 decreases-loop-k-2
+overflow_sub-k c =
+    let l = c.before.loop-k in
     let s = c.before.before in
     (scaling-fits s.args.m (e s) l.x (to_z w64 l.k) (limit s) l.invariant).0
 
-is-infinite-requires : tie.Need-is-infinite-requires invariant-loop decreases-loop invariant-loop2 decreases-loop2
-is-infinite-requires c κs = search rules
+is_infinite-requires : tie.Need-is_infinite-requires invariant-loop-k decreases-loop-k invariant-loop-k-2 decreases-loop-k-2
+is_infinite-requires c κs = search rules
 
-returns : tie.Need-returns invariant-loop decreases-loop invariant-loop2 decreases-loop2
-returns c =
-    let l = c.before.before.before.loop in
+returns-then-is_infinite : tie.Need-returns-then-is_infinite invariant-loop-k decreases-loop-k invariant-loop-k-2 decreases-loop-k-2
+returns-then-is_infinite c =
+    let l = c.before.before.before.loop-k in
     let s = c.before.before.before.before in
-    answer s _ (raised_all s.args.m (float s) s.requires.0 (e s) l.x (to_z w64 l.k) l.invariant c.before.before.loop-test.true
-    (sym c.before.is-infinite.ensures ∙ c.if1.true))
+    answer s _ (raised_all s.args.m (float s) s.requires.0 (e s) l.x (to_z w64 l.k) l.invariant c.before.before.loop-k-test.true
+    (sym c.before.is_infinite.ensures ∙ c.if-is_infinite.true))
 
-loop-less : tie.Need-loop-smaller invariant-loop decreases-loop invariant-loop2 decreases-loop2
-loop-less c =
-    let l = c.before.before.before.loop in
+loop-k-smaller : tie.Need-loop-k-smaller invariant-loop-k decreases-loop-k invariant-loop-k-2 decreases-loop-k-2
+loop-k-smaller c =
+    let l = c.before.before.before.loop-k in
     let s = c.before.before.before.before in
     let k = to_z w64 l.k in
-    rw (to_z-of_z w64 (k -ℤ pos 1023) (scaling-fits s.args.m (e s) l.x k (limit s) l.invariant).0) (raised-less k c.before.before.loop-test.true)
+    rw (to_z-of_z w64 (k -ℤ pos 1023) (scaling-fits s.args.m (e s) l.x k (limit s) l.invariant).0) (raised-less k c.before.before.loop-k-test.true)
 
-loop-again : tie.Need-loop-preserved invariant-loop decreases-loop invariant-loop2 decreases-loop2
-loop-again c =
-    let l = c.before.before.before.loop in
+loop-k-preserved : tie.Need-loop-k-preserved invariant-loop-k decreases-loop-k invariant-loop-k-2 decreases-loop-k-2
+loop-k-preserved c =
+    let l = c.before.before.before.loop-k in
     let s = c.before.before.before.before in
     let k = to_z w64 l.k in
     rw (to_z-of_z w64 (k -ℤ pos 1023) (scaling-fits s.args.m (e s) l.x k (limit s) l.invariant).0)
-    (raised-more s.args.m (float s) s.requires.0 (e s) l.x k l.invariant c.before.before.loop-test.true
-    (sym c.before.is-infinite.ensures ∙ c.if1.false))
+    (raised-more s.args.m (float s) s.requires.0 (e s) l.x k l.invariant c.before.before.loop-k-test.true
+    (sym c.before.is_infinite.ensures ∙ c.if-is_infinite.false))
 
 -- ---- the second loop
-loop2-holds : tie.Need-loop2-init invariant-loop decreases-loop invariant-loop2 decreases-loop2
-loop2-holds c = (c.before.loop.invariant, c.loop-test.false)
+loop-k-2-init : tie.Need-loop-k-2-init invariant-loop-k decreases-loop-k invariant-loop-k-2 decreases-loop-k-2
+loop-k-2-init c = (c.before.loop-k.invariant, c.loop-k-test.false)
 
-float-from-bits-x-2 : tie.Need-float-from-bits-x-2 invariant-loop decreases-loop invariant-loop2 decreases-loop2
+float_from_bits-x-in-loop-k-2 : tie.Need-float_from_bits-x-in-loop-k-2 invariant-loop-k decreases-loop-k invariant-loop-k-2 decreases-loop-k-2
 unfolding nan_bits
-float-from-bits-x-2 c = search rules
+float_from_bits-x-in-loop-k-2 c = search rules
 
-add-k : tie.Need-overflow-add-k invariant-loop decreases-loop invariant-loop2 decreases-loop2
-add-k c =
-    let l = c.before.loop2 in
+overflow_add-k : tie.Need-overflow_add-k invariant-loop-k decreases-loop-k invariant-loop-k-2 decreases-loop-k-2
+overflow_add-k c =
+    let l = c.before.loop-k-2 in
     let s = c.before.before.before.before in
     (scaling-fits s.args.m (e s) l.x (to_z w64 l.k) (limit s) l.invariant.0).1
 
-returns-2 : tie.Need-returns-2 invariant-loop decreases-loop invariant-loop2 decreases-loop2
-returns-2 c =
-    let l = c.before.before.loop2 in
+returns-then-x : tie.Need-returns-then-x invariant-loop-k decreases-loop-k invariant-loop-k-2 decreases-loop-k-2
+returns-then-x c =
+    let l = c.before.before.loop-k-2 in
     let s = c.before.before.before.before.before in
     let k = to_z w64 l.k in
-    answer s _ (lowered-all s.args.m (float s) s.requires.0 (e s) l.x k l.invariant.0 (under-taken k c.before.loop2-test.true) c.if2.true)
+    answer s _ (lowered-all s.args.m (float s) s.requires.0 (e s) l.x k l.invariant.0 (under-taken k c.before.loop-k-2-test.true) c.if-x.true)
 
-loop2-less : tie.Need-loop2-smaller invariant-loop decreases-loop invariant-loop2 decreases-loop2
-loop2-less c =
-    let l = c.before.before.loop2 in
+loop-k-2-smaller : tie.Need-loop-k-2-smaller invariant-loop-k decreases-loop-k invariant-loop-k-2 decreases-loop-k-2
+loop-k-2-smaller c =
+    let l = c.before.before.loop-k-2 in
     let s = c.before.before.before.before.before in
     let k = to_z w64 l.k in
     rw (to_z-of_z w64 (k +ℤ pos 1022) (scaling-fits s.args.m (e s) l.x k (limit s) l.invariant.0).1)
-    (lowered-less k (under-taken k c.before.loop2-test.true))
+    (lowered-less k (under-taken k c.before.loop-k-2-test.true))
 
-loop2-again : tie.Need-loop2-preserved invariant-loop decreases-loop invariant-loop2 decreases-loop2
-loop2-again c =
-    let l = c.before.before.loop2 in
+loop-k-2-preserved : tie.Need-loop-k-2-preserved invariant-loop-k decreases-loop-k invariant-loop-k-2 decreases-loop-k-2
+loop-k-2-preserved c =
+    let l = c.before.before.loop-k-2 in
     let s = c.before.before.before.before.before in
     let k = to_z w64 l.k in
-    let h = under-taken k c.before.loop2-test.true in
+    let h = under-taken k c.before.loop-k-2-test.true in
     rw (to_z-of_z w64 (k +ℤ pos 1022) (scaling-fits s.args.m (e s) l.x k (limit s) l.invariant.0).1)
-    (lowered-more s.args.m (float s) s.requires.0 (e s) l.x k l.invariant.0 h c.if2.false, lowered-below k h)
+    (lowered-more s.args.m (float s) s.requires.0 (e s) l.x k l.invariant.0 h c.if-x.false, lowered-below k h)
 
 -- ---- the last product
-power-of-two-requires : tie.Need-power-of-two-requires invariant-loop decreases-loop invariant-loop2 decreases-loop2
-power-of-two-requires c κs =
-    let l = c.before.loop2 in
-    (l.invariant.1, under_left (to_z w64 l.k) c.loop2-test.false)
+power_of_two-requires : tie.Need-power_of_two-requires invariant-loop-k decreases-loop-k invariant-loop-k-2 decreases-loop-k-2
+power_of_two-requires c κs =
+    let l = c.before.loop-k-2 in
+    (l.invariant.1, under_left (to_z w64 l.k) c.loop-k-2-test.false)
 
-returns-3 : tie.Need-returns-3 invariant-loop decreases-loop invariant-loop2 decreases-loop2
-returns-3 c =
-    let l = c.before.before.loop2 in
+returns : tie.Need-returns invariant-loop-k decreases-loop-k invariant-loop-k-2 decreases-loop-k-2
+returns c =
+    let l = c.before.before.loop-k-2 in
     let s = c.before.before.before.before.before in
     let k = to_z w64 l.k in
-    rw c.power-of-two.ensures (answer s _ (last s.args.m (float s) s.requires.0 (e s) l.x k l.invariant.0))
+    rw c.power_of_two.ensures (answer s _ (last s.args.m (float s) s.requires.0 (e s) l.x k l.invariant.0))
 
-pub f64-ldexp-spec : {M : Type 1} → statement M
-f64-ldexp-spec =
-    tie.close
-    (tie.spec invariant-loop decreases-loop invariant-loop2 decreases-loop2
-    loop-holds float-from-bits-x sub-k is-infinite-requires returns loop-less loop-again
-    loop2-holds float-from-bits-x-2 add-k returns-2 loop2-less loop2-again power-of-two-requires returns-3)
+pub f64_ldexp_spec : {M : Type 1} → statement M
+f64_ldexp_spec = tie.close (tie.spec invariant-loop-k decreases-loop-k invariant-loop-k-2 decreases-loop-k-2 loop-k-init float_from_bits-x overflow_sub-k is_infinite-requires returns-then-is_infinite loop-k-smaller loop-k-preserved loop-k-2-init float_from_bits-x-in-loop-k-2 overflow_add-k returns-then-x loop-k-2-smaller loop-k-2-preserved power_of_two-requires returns)

@@ -15,57 +15,57 @@ use Rattle.finishing.proofs.Answers.{handed_out, refused, bad-nan, good-value}
 use Rattle.finishing.proofs.finish.Statement.{statement}
 use Rattle.finishing.proofs.finish.Tie as tie
 
-enum-known-answer : tie.Need-enum-known-answer
-enum-known-answer c = search rules
+enum_known-answer : tie.Need-enum_known-answer
+enum_known-answer c = search rules
 
-enum_told : tie.Need-enum-told
-enum_told c = search rules
+enum_told-1 : tie.Need-enum_told-1
+enum_told-1 c = search rules
 
-code-of-requires : tie.Need-code-of-requires
-code-of-requires c κs = search rules
+code_of-n-requires : tie.Need-code_of-n-requires
+code_of-n-requires c κs = search rules
+
+returns-in_default : tie.Need-returns-in_default
+returns-in_default c =
+    let k = c.before.before in
+    ap refusal c.code_of-n.ensures ∙ handed_out k.before.args.answer k.in-Acc.keys2
+
+in_limits-requires : tie.Need-in_limits-requires
+in_limits-requires c κs = search rules
+
+returns-then-not-in_limits : tie.Need-returns-then-not-in_limits
+returns-then-not-in_limits c =
+    let a = c.before.before.before in
+    let g = a.answer-1.given in
+    refused a.before.before.args.answer g.0.0 g.1 (sym c.before.in_limits.ensures ∙ not-true c.before.in_limits.result c.if-not-in_limits.true-raw)
+
+-- past the first test the accumulator stands
+stood : (c : tie.Else-not-in_limits) → in_limits c.before.before.before.answer-1.given.0.0 ≡ true
+stood c = sym c.before.in_limits.ensures ∙ not-false c.before.in_limits.result c.if-not-in_limits.false-raw
+
+returns-then-a : tie.Need-returns-then-a
+returns-then-a c =
+    let a = c.before.before.before.before in
+    let g = a.answer-1.given in
+    bad-nan a.before.before.args.answer g.0.0 g.1 (stood c.before) c.if-a.true
+
+f64_ldexp-x-requires : tie.Need-f64_ldexp-x-requires
+f64_ldexp-x-requires c κs =
+    let l = c.before.before in
+    let a = l.before.before.before.answer-1.given.0.0 in
+    let held = to_z-of_z w64 a.e (record { sfits = c.struct_told-1.given.1.0.1 }) in
+    (in-limits-unit a (stood l), ap (λ (z : ℤ). within_limit z) held ∙ in-limits-exponent a (stood l))
 
 returns : tie.Need-returns
 returns c =
-    let k = c.before.before in
-    ap refusal c.code_of.ensures ∙ handed_out k.before.args.answer k.match.keys2
-
-in-limits-requires : tie.Need-in-limits-requires
-in-limits-requires c κs = search rules
-
-returns-2 : tie.Need-returns-2
-returns-2 c =
-    let a = c.before.before.before in
-    let g = a.answer.given in
-    refused a.before.before.args.answer g.0.0 g.1 (sym c.before.in-limits.ensures ∙ not-true c.before.in-limits.result c.if1.true)
-
--- past the first test the accumulator stands
-stood : (c : tie.Else1) → in_limits c.before.before.before.answer.given.0.0 ≡ true
-stood c = sym c.before.in-limits.ensures ∙ not-false c.before.in-limits.result c.if1.false
-
-returns-3 : tie.Need-returns-3
-returns-3 c =
-    let a = c.before.before.before.before in
-    let g = a.answer.given in
-    bad-nan a.before.before.args.answer g.0.0 g.1 (stood c.before) c.if2.true
-
-f64-ldexp-requires : tie.Need-f64-ldexp-requires
-f64-ldexp-requires c κs =
-    let l = c.before.before in
-    let a = l.before.before.before.answer.given.0.0 in
-    let held = to_z-of_z w64 a.e (record { sfits = c.struct_told.given.1.0.1 }) in
-    (in-limits-unit a (stood l), ap (λ (z : ℤ). within_limit z) held ∙ in-limits-exponent a (stood l))
-
-returns-4 : tie.Need-returns-4
-returns-4 c =
     let l = c.before.before.before in
     let k = l.before.before.before in
-    let g = k.answer.given in
+    let g = k.answer-1.given in
     let a = g.0.0 in
-    let held = to_z-of_z w64 a.e (record { sfits = c.before.struct_told.given.1.0.1 }) in
-    ap value (c.f64-ldexp.ensures ∙ ap (λ (z : ℤ). rounded_once (factor_at 52 a.m z)) held)
-    ∙ good-value k.before.before.args.answer a g.1 (stood l) c.before.before.if2.false
+    let held = to_z-of_z w64 a.e (record { sfits = c.before.struct_told-1.given.1.0.1 }) in
+    ap value (c.f64_ldexp-x.ensures ∙ ap (λ (z : ℤ). rounded_once (factor_at 52 a.m z)) held)
+    ∙ good-value k.before.before.args.answer a g.1 (stood l) c.before.before.if-a.false
 
 pub finish_spec : {M : Type 1} → statement M
 finish_spec =
     tie.close
-    (tie.spec enum-known-answer enum_told code-of-requires returns in-limits-requires returns-2 returns-3 f64-ldexp-requires returns-4)
+    (tie.spec enum_known-answer enum_told-1 code_of-n-requires returns-in_default in_limits-requires returns-then-not-in_limits returns-then-a f64_ldexp-x-requires returns)

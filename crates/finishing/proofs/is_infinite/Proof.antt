@@ -5,15 +5,15 @@ use Rattle.finishing.proofs.Patterns.{infinite-taken, infinite-left}
 use Rattle.finishing.proofs.is_infinite.Statement.{statement}
 use Rattle.finishing.proofs.is_infinite.Tie as tie
 
-float-from-bits-infinity : tie.Need-float-from-bits-infinity
+float_from_bits-infinity : tie.Need-float_from_bits-infinity
 unfolding nan_bits
-float-from-bits-infinity c = search rules
+float_from_bits-infinity c = search rules
 
-returns : tie.Need-returns
-returns c = infinite-taken c.before.args.m c.if1.true
+returns-then-m-infinity : tie.Need-returns-then-m-infinity
+returns-then-m-infinity c = infinite-taken c.before.args.m c.if-m-infinity.true
 
-returns-2 : tie.Need-returns-2
-returns-2 c = infinite-left c.before.args.m c.if1.false
+returns-else-m-infinity : tie.Need-returns-else-m-infinity
+returns-else-m-infinity c = infinite-left c.before.args.m c.if-m-infinity.false
 
-pub is-infinite-spec : {M : Type 1} → statement M
-is-infinite-spec = tie.close (tie.spec float-from-bits-infinity returns returns-2)
+pub is_infinite_spec : {M : Type 1} → statement M
+is_infinite_spec = tie.close (tie.spec float_from_bits-infinity returns-then-m-infinity returns-else-m-infinity)

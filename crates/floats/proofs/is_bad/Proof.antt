@@ -7,14 +7,14 @@ use Rattle.floats.proofs.Moving.{bad-nan, bad-is}
 use Rattle.floats.proofs.is_bad.Statement.{statement}
 use Rattle.floats.proofs.is_bad.Tie as tie
 
+returns-then-value : tie.Need-returns-then-value
+returns-then-value c = bad-nan c.before.args.value (differs_from_itself c.before.args.value (subst T (sym c.if-value.true) tt))
+
+float_to_bits-size : tie.Need-float_to_bits-size
+float_to_bits-size c = number_is c.before.args.value c.if-value.false
+
 returns : tie.Need-returns
-returns c = bad-nan c.before.args.value (differs_from_itself c.before.args.value (subst T (sym c.if1.true) tt))
+returns c = bad-is c.before.args.value
 
-float-to-bits-size : tie.Need-float-to-bits-size
-float-to-bits-size c = number_is c.before.args.value c.if1.false
-
-returns-2 : tie.Need-returns-2
-returns-2 c = bad-is c.before.args.value
-
-pub is-bad-spec : {M : Type 1} → statement M
-is-bad-spec = tie.close (tie.spec returns float-to-bits-size returns-2)
+pub is_bad_spec : {M : Type 1} → statement M
+is_bad_spec = tie.close (tie.spec returns-then-value float_to_bits-size returns)

@@ -5,20 +5,20 @@ use borrow.Author.Tests.{not-true, not-false}
 use Rattle.floats.proofs.split_f64.Statement.{statement}
 use Rattle.floats.proofs.split_f64.Tie as tie
 
-is-subnormal-requires : tie.Need-is-subnormal-requires
-is-subnormal-requires c κs = search rules
+is_subnormal-requires : tie.Need-is_subnormal-requires
+is_subnormal-requires c κs = search rules
 
-split-fields-requires : tie.Need-split-fields-requires
-split-fields-requires c κs = search rules
+split_fields-requires : tie.Need-split_fields-requires
+split_fields-requires c κs = search rules
+
+returns-then-not-is_subnormal : tie.Need-returns-then-not-is_subnormal
+returns-then-not-is_subnormal c = c.split_fields.ensures (sym c.before.before.is_subnormal.ensures ∙ not-true _ c.before.if-not-is_subnormal.true-raw)
+
+split_subnormal-requires : tie.Need-split_subnormal-requires
+split_subnormal-requires c κs = sym c.before.is_subnormal.ensures ∙ not-false _ c.if-not-is_subnormal.false-raw
 
 returns : tie.Need-returns
-returns c = c.split-fields.ensures (sym c.before.before.is_subnormal.ensures ∙ not-true _ c.before.if1.true)
+returns c = c.split_subnormal.ensures
 
-split-subnormal-requires : tie.Need-split-subnormal-requires
-split-subnormal-requires c κs = sym c.before.is_subnormal.ensures ∙ not-false _ c.if1.false
-
-returns-2 : tie.Need-returns-2
-returns-2 c = c.split-subnormal.ensures
-
-pub split-f64-spec : {M : Type 1} → statement M
-split-f64-spec = tie.close (tie.spec is-subnormal-requires split-fields-requires returns split-subnormal-requires returns-2)
+pub split_f64_spec : {M : Type 1} → statement M
+split_f64_spec = tie.close (tie.spec is_subnormal-requires split_fields-requires returns-then-not-is_subnormal split_subnormal-requires returns)

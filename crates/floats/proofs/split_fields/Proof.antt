@@ -13,32 +13,32 @@ use Rattle.floats.proofs.split_fields.Tie as tie
 held : (x : Float) → fits binary64 x ≡ true → T (fits binary64 x)
 held x e = subst T (sym e) tt
 
-returns : tie.Need-returns
-returns c s = split-nan c.before.args.value (differs_from_itself c.before.args.value (subst T (sym c.if1.true) tt))
+returns-then-value : tie.Need-returns-then-value
+returns-then-value c s = split-nan c.before.args.value (differs_from_itself c.before.args.value (subst T (sym c.if-value.true) tt))
 
-float-to-bits-bits : tie.Need-float-to-bits-bits
-float-to-bits-bits c = number_is c.before.args.value c.if1.false
+float_to_bits-bits : tie.Need-float_to_bits-bits
+float_to_bits-bits c = number_is c.before.args.value c.if-value.false
 
-float-from-bits-m : tie.Need-float-from-bits-m
-float-from-bits-m c =
+float_from_bits-m : tie.Need-float_from_bits-m
+float_from_bits-m c =
     let x = c.before.args.value in
-    set-number (bits_of x) (bits-lt x (held x c.before.well-formed.0.1))
+    set-number (bits_of x) (bits-lt x (held x c.before.well_formed.0.1))
 
-cast-t17 : tie.Need-overflow-cast-t17
-cast-t17 c = raw-fits (bits_of c.before.args.value)
+overflow_cast-result : tie.Need-overflow_cast-result
+overflow_cast-result c = raw-fits (bits_of c.before.args.value)
 
-sub-t18 : tie.Need-overflow-sub-t18
-sub-t18 c = sub-fits (bits_of c.before.args.value)
+overflow_sub-result : tie.Need-overflow_sub-result
+overflow_sub-result c = sub-fits (bits_of c.before.args.value)
 
-returns-2 : tie.Need-returns-2
-returns-2 c s =
+returns-then-raw_exp-eq0 : tie.Need-returns-then-raw_exp-eq0
+returns-then-raw_exp-eq0 c s =
     let x = c.before.before.args.value in
-    split-is x (held x c.before.before.well-formed.0.1) _ s (bad-zero x s c.if2.true)
+    split-is x (held x c.before.before.well_formed.0.1) _ s (bad-zero x s c.if-raw_exp-eq0.true)
 
-returns-3 : tie.Need-returns-3
-returns-3 c s =
+returns-else-raw_exp-eq0 : tie.Need-returns-else-raw_exp-eq0
+returns-else-raw_exp-eq0 c s =
     let x = c.before.before.args.value in
-    split-is x (held x c.before.before.well-formed.0.1) _ s (bad-other x c.if2.false)
+    split-is x (held x c.before.before.well_formed.0.1) _ s (bad-other x c.if-raw_exp-eq0.false)
 
-pub split-fields-spec : {M : Type 1} → statement M
-split-fields-spec = tie.close (tie.spec returns float-to-bits-bits float-from-bits-m cast-t17 sub-t18 returns-2 returns-3)
+pub split_fields_spec : {M : Type 1} → statement M
+split_fields_spec = tie.close (tie.spec returns-then-value float_to_bits-bits float_from_bits-m overflow_cast-result overflow_sub-result returns-then-raw_exp-eq0 returns-else-raw_exp-eq0)

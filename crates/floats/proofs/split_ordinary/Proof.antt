@@ -11,23 +11,23 @@ use Rattle.floats.proofs.split_ordinary.Statement.{statement}
 use Rattle.floats.proofs.split_ordinary.Tie as tie
 
 ordinary : (c : tie.Start) → is_ordinary c.args.value ≡ true
-ordinary c = c.requires (subst T (sym c.well-formed.0.1) tt)
+ordinary c = c.requires (subst T (sym c.well_formed.0.1) tt)
 
-float-to-bits-bits : tie.Need-float-to-bits-bits
-float-to-bits-bits c = ordinary-number c.args.value (ordinary c)
+float_to_bits-bits : tie.Need-float_to_bits-bits
+float_to_bits-bits c = ordinary-number c.args.value (ordinary c)
 
-float-from-bits-unit : tie.Need-float-from-bits-unit
-float-from-bits-unit c = let x = c.args.value in set-number (bits_of x) (bits-lt x (subst T (sym c.well-formed.0.1) tt))
+float_from_bits-unit : tie.Need-float_from_bits-unit
+float_from_bits-unit c = let x = c.args.value in set-number (bits_of x) (bits-lt x (subst T (sym c.well_formed.0.1) tt))
 
-cast-t8 : tie.Need-overflow-cast-t8
-cast-t8 c = raw-fits (bits_of c.args.value)
+overflow_cast-result : tie.Need-overflow_cast-result
+overflow_cast-result c = raw-fits (bits_of c.args.value)
 
-sub-t9 : tie.Need-overflow-sub-t9
-sub-t9 c = sub-fits (bits_of c.args.value)
+overflow_sub-result : tie.Need-overflow_sub-result
+overflow_sub-result c = sub-fits (bits_of c.args.value)
 
 returns : tie.Need-returns
 unfolding of_bits
-returns c = ordinary-split c.args.value (subst T (sym c.well-formed.0.1) tt) (ordinary c)
+returns c = ordinary-split c.args.value (subst T (sym c.well_formed.0.1) tt) (ordinary c)
 
-pub split-ordinary-spec : {M : Type 1} → statement M
-split-ordinary-spec = tie.close (tie.spec float-to-bits-bits float-from-bits-unit cast-t8 sub-t9 returns)
+pub split_ordinary_spec : {M : Type 1} → statement M
+split_ordinary_spec = tie.close (tie.spec float_to_bits-bits float_from_bits-unit overflow_cast-result overflow_sub-result returns)

@@ -19,43 +19,43 @@ module _ (c : tie.Start) where
   sub = subnormal-bits c.args.value c.requires
 
   bits : bits_of c.args.value < 2 ^ (11 + 52) * 2
-  bits = bits-lt c.args.value (subst T (sym c.well-formed.0.1) tt)
+  bits = bits-lt c.args.value (subst T (sym c.well_formed.0.1) tt)
 
   few : count_leading_zeros 64 (low (bits_of c.args.value)) - 11 ≤ 52
   few = shift-few (bits_of c.args.value) sub
 
-float-to-bits-bits : tie.Need-float-to-bits-bits
-float-to-bits-bits c = subnormal-number c.args.value c.requires
+float_to_bits-bits : tie.Need-float_to_bits-bits
+float_to_bits-bits c = subnormal-number c.args.value c.requires
 
-sub-shift : tie.Need-overflow-sub-shift
-sub-shift c = shift-counts (bits_of c.args.value) (sub c)
+overflow_sub-shift : tie.Need-overflow_sub-shift
+overflow_sub-shift c = shift-counts (bits_of c.args.value) (sub c)
 
-cast-moved : tie.Need-overflow-cast-moved
-cast-moved c = record { fits = lt_of_le_of_lt (few c) (lit< tt) }
+overflow_cast-moved : tie.Need-overflow_cast-moved
+overflow_cast-moved c = record { fits = lt_of_le_of_lt (few c) (lit< tt) }
 
-shl-moved : tie.Need-overflow-shl-moved
-shl-moved c = lt_of_le_of_lt (few c) (lit< tt)
+overflow_shl-moved : tie.Need-overflow_shl-moved
+overflow_shl-moved c = lt_of_le_of_lt (few c) (lit< tt)
 
-sub-m : tie.Need-overflow-sub-m
-sub-m c = low-le (bits_of c.args.value) (sub c)
+overflow_sub-m : tie.Need-overflow_sub-m
+overflow_sub-m c = low-le (bits_of c.args.value) (sub c)
 
-sub-m-2 : tie.Need-overflow-sub-m-2
-sub-m-2 c = lit≤ tt
+overflow_sub-m-2 : tie.Need-overflow_sub-m-2
+overflow_sub-m-2 c = lit≤ tt
 
-add-m : tie.Need-overflow-add-m
-add-m c = record { fits = lt_of_lt_of_le (moved-fits (bits_of c.args.value) (sub c)) (lit≤ tt) }
+overflow_add-m : tie.Need-overflow_add-m
+overflow_add-m c = record { fits = lt_of_lt_of_le (moved-fits (bits_of c.args.value) (sub c)) (lit≤ tt) }
 
-add-m-2 : tie.Need-overflow-add-m-2
-add-m-2 c = record { fits = set-fits (bits_of c.args.value) (sub c) (bits c) }
+overflow_add-m-2 : tie.Need-overflow_add-m-2
+overflow_add-m-2 c = record { fits = set-fits (bits_of c.args.value) (sub c) (bits c) }
 
-float-from-bits-m : tie.Need-float-from-bits-m
-float-from-bits-m c = unit-number _ (sign_field 11 52 (bits_of c.args.value)) _ (led-small (bits_of c.args.value) (sub c)) (set_is (bits_of c.args.value) (sub c) (bits c))
+float_from_bits-m : tie.Need-float_from_bits-m
+float_from_bits-m c = unit-number _ (sign_field 11 52 (bits_of c.args.value)) _ (led-small (bits_of c.args.value) (sub c)) (set_is (bits_of c.args.value) (sub c) (bits c))
 
-cast-lowered : tie.Need-overflow-cast-lowered
-cast-lowered c = places-fit _ (few c)
+overflow_cast-lowered : tie.Need-overflow_cast-lowered
+overflow_cast-lowered c = places-fit _ (few c)
 
-sub-t14 : tie.Need-overflow-sub-t14
-sub-t14 c = sub-fits _ (few c)
+overflow_sub-result : tie.Need-overflow_sub-result
+overflow_sub-result c = sub-fits _ (few c)
 
 returns : tie.Need-returns
 returns c =
@@ -63,19 +63,5 @@ returns c =
     subnormal-split c.args.value _ _ c.requires (unit-value _ (sign_field 11 52 b) _ (set_is b (sub c) (bits c)))
     (lowered_is _ (few c) ∙ ap (λ (k : ℕ). pos 1 -ℤ pos (1023 + k)) (shift_is b (sub c)))
 
-pub split-subnormal-spec : {M : Type 1} → statement M
-split-subnormal-spec =
-    tie.close
-    (tie.spec
-    float-to-bits-bits
-    sub-shift
-    cast-moved
-    shl-moved
-    sub-m
-    sub-m-2
-    add-m
-    add-m-2
-    float-from-bits-m
-    cast-lowered
-    sub-t14
-    returns)
+pub split_subnormal_spec : {M : Type 1} → statement M
+split_subnormal_spec = tie.close (tie.spec float_to_bits-bits overflow_sub-shift overflow_cast-moved overflow_shl-moved overflow_sub-m overflow_sub-m-2 overflow_add-m overflow_add-m-2 float_from_bits-m overflow_cast-lowered overflow_sub-result returns)

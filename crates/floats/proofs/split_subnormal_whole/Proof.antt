@@ -12,58 +12,47 @@ use Rattle.floats.proofs.split_subnormal_whole.Statement.{statement}
 use Rattle.floats.proofs.split_subnormal_whole.Tie as tie
 
 held : (c : tie.Start) → T (fits binary64 c.args.value)
-held c = subst T (sym c.well-formed.0.1) tt
+held c = subst T (sym c.well_formed.0.1) tt
 
 sub : (c : tie.Start) → is_subnormal c.args.value ≡ true
 sub c = c.requires (held c)
 
-float-to-bits-bits : tie.Need-float-to-bits-bits
-float-to-bits-bits c = subnormal-number c.args.value (sub c)
+float_to_bits-bits : tie.Need-float_to_bits-bits
+float_to_bits-bits c = subnormal-number c.args.value (sub c)
 
-int-to-float-split-ordinary : tie.Need-int-to-float-split-ordinary
-int-to-float-split-ordinary c = let s = c.before in low-exact s.args.value (held s) (sub s)
+int_to_float-fraction : tie.Need-int_to_float-fraction
+int_to_float-fraction c = let s = c.before in low-exact s.args.value (held s) (sub s)
 
-split-ordinary-requires : tie.Need-split-ordinary-requires
-split-ordinary-requires c κs v = let s = c.before in low-ordinary s.args.value (held s) (sub s)
+split_ordinary-p-requires : tie.Need-split_ordinary-p-requires
+split_ordinary-p-requires c κs v = let s = c.before in low-ordinary s.args.value (held s) (sub s)
 
-sub-m : tie.Need-overflow-sub-m
-sub-m c = let s = c.before.before in low-le (bits_of s.args.value) (subnormal-bits s.args.value (sub s))
+overflow_sub-m : tie.Need-overflow_sub-m
+overflow_sub-m c = let s = c.before.before in low-le (bits_of s.args.value) (subnormal-bits s.args.value (sub s))
 
-float-to-bits-m : tie.Need-float-to-bits-m
-float-to-bits-m c =
-    let s = c.before.before.before in p-number s.args.value (held s) (sub s) c.before.split-ordinary.result c.before.split-ordinary.ensures
+float_to_bits-m : tie.Need-float_to_bits-m
+float_to_bits-m c =
+    let s = c.before.before.before in p-number s.args.value (held s) (sub s) c.before.split_ordinary-p.result c.before.split_ordinary-p.ensures
 
-add-m : tie.Need-overflow-add-m
-add-m c =
+overflow_add-m : tie.Need-overflow_add-m
+overflow_add-m c =
     let s = c.before.before.before in
-    record { fits = whole-fits s.args.value (held s) (sub s) c.before.split-ordinary.result c.before.split-ordinary.ensures }
+    record { fits = whole-fits s.args.value (held s) (sub s) c.before.split_ordinary-p.result c.before.split_ordinary-p.ensures }
 
-float-from-bits-m : tie.Need-float-from-bits-m
-float-from-bits-m c =
-    let s = c.before.before.before in whole-number s.args.value (held s) (sub s) c.before.split-ordinary.result c.before.split-ordinary.ensures
+float_from_bits-m : tie.Need-float_from_bits-m
+float_from_bits-m c =
+    let s = c.before.before.before in whole-number s.args.value (held s) (sub s) c.before.split_ordinary-p.result c.before.split_ordinary-p.ensures
 
-sub-t10 : tie.Need-overflow-sub-t10
-sub-t10 c =
+overflow_sub-result : tie.Need-overflow_sub-result
+overflow_sub-result c =
     let q = c.before.before.before in
     let s = q.before.before in
-    e-fits s.args.value (held s) (sub s) q.split-ordinary.result q.split-ordinary.ensures
+    e-fits s.args.value (held s) (sub s) q.split_ordinary-p.result q.split_ordinary-p.ensures
 
 returns : tie.Need-returns
 returns c =
     let q = c.before.before.before in
     let s = q.before.before in
-    whole_split s.args.value (held s) (sub s) q.split-ordinary.result q.split-ordinary.ensures
+    whole_split s.args.value (held s) (sub s) q.split_ordinary-p.result q.split_ordinary-p.ensures
 
-pub split-subnormal-whole-spec : {M : Type 1} → statement M
-split-subnormal-whole-spec =
-    tie.close
-    (tie.spec
-    float-to-bits-bits
-    int-to-float-split-ordinary
-    split-ordinary-requires
-    sub-m
-    float-to-bits-m
-    add-m
-    float-from-bits-m
-    sub-t10
-    returns)
+pub split_subnormal_whole_spec : {M : Type 1} → statement M
+split_subnormal_whole_spec = tie.close (tie.spec float_to_bits-bits int_to_float-fraction split_ordinary-p-requires overflow_sub-m float_to_bits-m overflow_add-m float_from_bits-m overflow_sub-result returns)

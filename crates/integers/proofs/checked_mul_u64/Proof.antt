@@ -13,19 +13,19 @@ use Rattle.integers.proofs.checked_mul_wide.Reads as checked-mul-wide-reads
 halves-fit : (a b : ℕ) → a ≤ 4294967295 → b ≤ 4294967295 → a * b < 2 ^ 64
 halves-fit a b h k = let m = mul-le-mul h k in omega arith
 
-mul-t5 : tie.Need-overflow-mul-t5
-mul-t5 c = let s = c.before.before in record { fits = halves-fit s.args.a s.args.b c.before.if1.true c.if2.true }
+overflow_mul-result : tie.Need-overflow_mul-result
+overflow_mul-result c = let s = c.before.before in record { fits = halves-fit s.args.a s.args.b c.before.if-a-le-HALF_MAX.true c.if-b-le-HALF_MAX.true }
+
+returns-then-b-le-HALF_MAX : tie.Need-returns-then-b-le-HALF_MAX
+returns-then-b-le-HALF_MAX c =
+    let s = c.before.before in
+    sym (narrow_u64-yes _ (halves-fit s.args.a s.args.b c.before.if-a-le-HALF_MAX.true c.if-b-le-HALF_MAX.true))
+
+checked_mul_wide-requires : tie.Need-checked_mul_wide-requires
+checked_mul_wide-requires c κs = search rules
 
 returns : tie.Need-returns
-returns c =
-    let s = c.before.before in
-    sym (narrow_u64-yes _ (halves-fit s.args.a s.args.b c.before.if1.true c.if2.true))
+returns c = search rules
 
-checked-mul-wide-requires : tie.Need-checked-mul-wide-requires
-checked-mul-wide-requires c κs = search rules
-
-returns-2 : tie.Need-returns-2
-returns-2 c = search rules
-
-pub checked-mul-u64-spec : {M : Type 1} → statement M
-checked-mul-u64-spec = tie.close (tie.spec mul-t5 returns checked-mul-wide-requires returns-2)
+pub checked_mul_u64_spec : {M : Type 1} → statement M
+checked_mul_u64_spec = tie.close (tie.spec overflow_mul-result returns-then-b-le-HALF_MAX checked_mul_wide-requires returns)

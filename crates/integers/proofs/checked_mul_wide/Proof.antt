@@ -10,22 +10,22 @@ use Rattle.integers.proofs.checked_mul_wide.Tie as tie
 use Rattle.integers.proofs.checked_mul_wide.Reads as reads
 use Rattle.integers.proofs.checked_mul_wide.Lts as lts
 
+returns-then-b-eq0 : tie.Need-returns-then-b-eq0
+returns-then-b-eq0 c = simp (c.if-b-eq0.true, mul-zero, narrow_u64-yes 0 (omega arith))
+
+nonzero_div-b : tie.Need-nonzero_div-b
+nonzero_div-b c = search rules
+
+returns-then-b-a : tie.Need-returns-then-b-a
+returns-then-b-a c =
+    sym (narrow_u64-no _ (product-over c.before.before.args.a c.before.before.args.b (omega arith) c.if-b-a.true))
+
+overflow_mul-result : tie.Need-overflow_mul-result
+overflow_mul-result c = omega (arith, product-fits-u64 c.before.before.args.a c.before.before.args.b (omega arith) c.if-b-a.false)
+
 returns : tie.Need-returns
-returns c = simp (c.if1.true, mul-zero, narrow_u64-yes 0 (omega arith))
+returns c =
+    sym (narrow_u64-yes _ (product-fits-u64 c.before.before.args.a c.before.before.args.b (omega arith) c.if-b-a.false))
 
-div-if2 : tie.Need-nonzero-div-if2
-div-if2 c = search rules
-
-returns-2 : tie.Need-returns-2
-returns-2 c =
-    sym (narrow_u64-no _ (product-over c.before.before.args.a c.before.before.args.b (omega arith) c.if2.true))
-
-mul-t4 : tie.Need-overflow-mul-t4
-mul-t4 c = omega (arith, product-fits-u64 c.before.before.args.a c.before.before.args.b (omega arith) c.if2.false)
-
-returns-3 : tie.Need-returns-3
-returns-3 c =
-    sym (narrow_u64-yes _ (product-fits-u64 c.before.before.args.a c.before.before.args.b (omega arith) c.if2.false))
-
-pub checked-mul-wide-spec : {M : Type 1} → statement M
-checked-mul-wide-spec = tie.close (tie.spec returns div-if2 returns-2 mul-t4 returns-3)
+pub checked_mul_wide_spec : {M : Type 1} → statement M
+checked_mul_wide_spec = tie.close (tie.spec returns-then-b-eq0 nonzero_div-b returns-then-b-a overflow_mul-result returns)

@@ -11,30 +11,30 @@ use Rattle.integers.proofs.checked_neg_i64.Tie as tie
 magnitude-requires : tie.Need-magnitude-requires
 magnitude-requires c κs = search rules
 
-add-if1 : tie.Need-overflow-add-if1
-add-if1 c = search rules
+overflow_add-t-3 : tie.Need-overflow_add-t-3
+overflow_add-t-3 c = search rules
+
+returns-then-magnitude : tie.Need-returns-then-magnitude
+returns-then-magnitude c =
+    let x = c.before.before.args.x in
+    let f = c.before.before.ranges.x in
+    let m = simp (to_z-of_z f) at c.before.magnitude.ensures in
+    sym (rw (← (+ℤ_idl (neg_ℤ x))) (narrow_i64-no (pos 0 -ℤ x) (least-only x f (sym m ∙ c.if-magnitude.true))))
+
+overflow_sub-result : tie.Need-overflow_sub-result
+overflow_sub-result c =
+    let x = c.before.before.args.x in
+    let f = c.before.before.ranges.x in
+    let m = simp (to_z-of_z f) at c.before.magnitude.ensures in
+    simp (to_z-of_z f) (opposite-fits x f (λ e. c.if-magnitude.false (m ∙ e)))
 
 returns : tie.Need-returns
 returns c =
     let x = c.before.before.args.x in
     let f = c.before.before.ranges.x in
     let m = simp (to_z-of_z f) at c.before.magnitude.ensures in
-    sym (rw (← (+ℤ_idl (neg_ℤ x))) (narrow_i64-no (pos 0 -ℤ x) (least-only x f (sym m ∙ c.if1.true))))
-
-sub-t5 : tie.Need-overflow-sub-t5
-sub-t5 c =
-    let x = c.before.before.args.x in
-    let f = c.before.before.ranges.x in
-    let m = simp (to_z-of_z f) at c.before.magnitude.ensures in
-    simp (to_z-of_z f) (opposite-fits x f (λ e. c.if1.false (m ∙ e)))
-
-returns-2 : tie.Need-returns-2
-returns-2 c =
-    let x = c.before.before.args.x in
-    let f = c.before.before.ranges.x in
-    let m = simp (to_z-of_z f) at c.before.magnitude.ensures in
-    let g = opposite-fits x f (λ e. c.if1.false (m ∙ e)) in
+    let g = opposite-fits x f (λ e. c.if-magnitude.false (m ∙ e)) in
     simp (to_z-of_z f, to_z-of_z g) (simp +ℤ_idl (sym (narrow_i64-yes (neg_ℤ x) (rw +ℤ_idl at g))))
 
-pub checked-neg-i64-spec : {M : Type 1} → statement M
-checked-neg-i64-spec = tie.close (tie.spec magnitude-requires add-if1 returns sub-t5 returns-2)
+pub checked_neg_i64_spec : {M : Type 1} → statement M
+checked_neg_i64_spec = tie.close (tie.spec magnitude-requires overflow_add-t-3 returns-then-magnitude overflow_sub-result returns)

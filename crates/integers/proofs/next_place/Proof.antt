@@ -13,18 +13,18 @@ use Rattle.integers.proofs.next_place.Tie as tie
 fits : (s : tie.Start) → 0 < s.args.left → SFits w64 (s.args.at +ℤ s.args.step)
 fits s l = next_fits s.args.at s.args.step s.args.left l (s.requires l)
 
-add-result : tie.Need-overflow-add-result
-add-result c = let s = c.before in simp (to_z-of_z s.ranges.at, to_z-of_z s.ranges.step) (fits s (omega arith))
+overflow_add-result : tie.Need-overflow_add-result
+overflow_add-result c = let s = c.before in simp (to_z-of_z s.ranges.at, to_z-of_z s.ranges.step) (fits s (omega arith))
 
-returns : tie.Need-returns
-returns c =
+returns-then-left-gt0 : tie.Need-returns-then-left-gt0
+returns-then-left-gt0 c =
     let s = c.before in (
       λ l. simp (to_z-of_z s.ranges.at, to_z-of_z s.ranges.step) (to_z-of_z (fits s l)),
       λ e. absurd (omega arith),
     )
 
-returns-2 : tie.Need-returns-2
-returns-2 c = let s = c.before in (λ l. absurd (omega arith), λ e. to_z-of_z s.ranges.at)
+returns : tie.Need-returns
+returns c = let s = c.before in (λ l. absurd (omega arith), λ e. to_z-of_z s.ranges.at)
 
-pub next-place-spec : {M : Type 1} → statement M
-next-place-spec = tie.close (tie.spec add-result returns returns-2)
+pub next_place_spec : {M : Type 1} → statement M
+next_place_spec = tie.close (tie.spec overflow_add-result returns-then-left-gt0 returns)

@@ -13,15 +13,15 @@ use Rattle.job_probe.proofs.probe_read.Tie as tie
 abbrev code : JobRead → ℕ
 code r = r.code
 
-read-job-requires : tie.Need-read-job-requires
-read-job-requires c κs = search rules
+read_job-job-requires : tie.Need-read_job-job-requires
+read_job-job-requires c κs = search rules
 
-returns : tie.Need-returns
-returns c =
+returns-then-job-ne0 : tie.Need-returns-then-job-ne0
+returns-then-job-ne0 c =
     let a = c.before.before in
     let s = a.before.before in
-    let e = a.read-job.ensures in
-    let z = c.if1.true in
+    let e = a.read_job-job.ensures in
+    let z = c.if-job-ne0.true in
     let count = kept code (λ r. r.count) e s.args.count.now z in
     let sizes = kept code (λ r. r.sizes) e s.args.sizes.now z in
     let strides = kept code (λ r. r.strides) e s.args.strides.now z in
@@ -30,14 +30,14 @@ returns c =
     let end = kept code (λ r. r.end) e s.args.end.now z in
     (ap code e, (count, (sizes, (strides, (base, (start, end))))))
 
-returns-2 : tie.Need-returns-2
-returns-2 c =
+returns : tie.Need-returns
+returns c =
     let i = c.before.before.before in
     let a = i.before.before in
     let s = a.before.before in
-    let e = a.read-job.ensures in
-    let z = i.if1.false in
-    let fits : SFits w64 a.read-job.result.base = record { sfits = c.struct_told.given.1.1.1.1.0.1 } in
+    let e = a.read_job-job.ensures in
+    let z = i.if-job-ne0.false in
+    let fits : SFits w64 a.read_job-job.result.base = record { sfits = c.struct_told-1.given.1.1.1.1.0.1 } in
     let count = handed code (λ r. r.count) e s.args.count.now z in
     let sizes = handed code (λ r. r.sizes) e s.args.sizes.now z in
     let strides = handed code (λ r. r.strides) e s.args.strides.now z in
@@ -46,5 +46,5 @@ returns-2 c =
     let end = handed code (λ r. r.end) e s.args.end.now z in
     (sym z ∙ ap code e, (count, (sizes, (strides, (base, (start, end))))))
 
-pub probe-read-spec : {M : Type 1} → statement M
-probe-read-spec = tie.close (tie.spec read-job-requires returns returns-2)
+pub probe_read_spec : {M : Type 1} → statement M
+probe_read_spec = tie.close (tie.spec read_job-job-requires returns-then-job-ne0 returns)

@@ -19,16 +19,27 @@ abbrev job_of : tie.Start → Job
 job_of s = record { sizes = s.args.sizes.now; strides = s.args.strides.now; base = s.args.base; start = s.args.start; end = s.args.end }
 
 -- the writer's answer and the buffer behind it, over the arguments themselves
-answered : (c : tie.After-write-job) → let s = c.before.before.before.before in
-    (c.write-job.result ≡ write_of (job_of s) (length s.args.out.now))
-    × (c.write-job.new.1.1.1.1.1.0 ≡ write_buffer (job_of s) s.args.out.now)
-answered c = simp (to_z-of_z c.before.before.before.before.ranges.base) at c.write-job.ensures
+answered : (c : tie.After-write_job-written) → let s = c.before.before.before.before in
+    (c.write_job-written.result ≡ write_of (job_of s) (length s.args.out.now))
+    × (c.write_job-written.new.1.1.1.1.1.0 ≡ write_buffer (job_of s) s.args.out.now)
+answered c = simp (to_z-of_z c.before.before.before.before.ranges.base) at c.write_job-written.ensures
 
-write-job-requires : tie.Need-write-job-requires
-write-job-requires c κs = search rules
+write_job-written-requires : tie.Need-write_job-written-requires
+write_job-written-requires c κs = search rules
 
-same_length : tie.Need-same-length
-same_length c = search rules
+shape_of-out-then-written-ne0 : tie.Need-shape_of-out-then-written-ne0
+shape_of-out-then-written-ne0 c = search rules
+
+returns-then-written-ne0 : tie.Need-returns-then-written-ne0
+unfolding count_given
+returns-then-written-ne0 c =
+    let a = c.before.before.before.before in
+    let s = a.before.before.before.before in
+    let e = (answered a).0 in
+    (ap code e, ((answered a).1, kept code (λ w. w.count) e s.args.count.now c.if-written-ne0.true))
+
+shape_of-out : tie.Need-shape_of-out
+shape_of-out c = search rules
 
 returns : tie.Need-returns
 unfolding count_given
@@ -36,19 +47,8 @@ returns c =
     let a = c.before.before.before.before in
     let s = a.before.before.before.before in
     let e = (answered a).0 in
-    (ap code e, ((answered a).1, kept code (λ w. w.count) e s.args.count.now c.if1.true))
-
-same-length-2 : tie.Need-same-length-2
-same-length-2 c = search rules
-
-returns-2 : tie.Need-returns-2
-unfolding count_given
-returns-2 c =
-    let a = c.before.before.before.before in
-    let s = a.before.before.before.before in
-    let e = (answered a).0 in
-    let z = c.if1.false in
+    let z = c.if-written-ne0.false in
     (sym z ∙ ap code e, ((answered a).1, handed code (λ w. w.count) e s.args.count.now z))
 
-pub probe-write-spec : {M : Type 1} → statement M
-probe-write-spec = tie.close (tie.spec write-job-requires same_length returns same-length-2 returns-2)
+pub probe_write_spec : {M : Type 1} → statement M
+probe_write_spec = tie.close (tie.spec write_job-written-requires shape_of-out-then-written-ne0 returns-then-written-ne0 shape_of-out returns)

@@ -8,33 +8,33 @@ use Rattle.handed.specs.Answers.{handed_in, number_code, number_given}
 use Rattle.join_probe.proofs.probe_finish.Statement.{statement}
 use Rattle.join_probe.proofs.probe_finish.Tie as tie
 
-finish-requires : tie.Need-finish-requires
-finish-requires c κs = search rules
+finish-answer-requires : tie.Need-finish-answer-requires
+finish-answer-requires c κs = search rules
 
-enum-known-answer : tie.Need-enum-known-answer
-enum-known-answer c = search rules
+enum_known-answer : tie.Need-enum_known-answer
+enum_known-answer c = search rules
 
-enum-known-answer-2 : tie.Need-enum-known-answer-2
-enum-known-answer-2 c = search rules
+enum_known-answer-in-Refused-1 : tie.Need-enum_known-answer-in-Refused-1
+enum_known-answer-in-Refused-1 c = search rules
 
 -- the answer, over the arguments themselves
-told : (c : tie.After-finish) → let s = c.before in
-    final_answer_of c.finish.result ≡ finished_of (Acc (handed_in s.args.m s.args.e s.args.bad))
-told c = simp (to_z-of_z c.before.ranges.e) at c.finish.ensures
+told : (c : tie.After-finish-answer) → let s = c.before in
+    final_answer_of c.finish-answer.result ≡ finished_of (Acc (handed_in s.args.m s.args.e s.args.bad))
+told c = simp (to_z-of_z c.before.ranges.e) at c.finish-answer.ensures
 
-returns : tie.Need-returns
+returns-in-Number : tie.Need-returns-in-Number
 unfolding number_code number_given
-returns c =
+returns-in-Number c =
     let a = c.before in
-    let t = sym (ap final_answer_of a.answer.given.1) ∙ told a.before.before in
+    let t = sym (ap final_answer_of a.answer-1.given.1) ∙ told a.before.before in
     (ap number_code t, ap (number_given a.before.before.before.args.number.now) t)
 
-returns-2 : tie.Need-returns-2
+returns-in-Refused : tie.Need-returns-in-Refused
 unfolding number_code number_given
-returns-2 c =
+returns-in-Refused c =
     let a = c.before in
-    let t = sym (ap final_answer_of a.answer2.given.1) ∙ told a.before.before in
+    let t = sym (ap final_answer_of a.answer-in-Refused-1.given.1) ∙ told a.before.before in
     (ap number_code t, ap (number_given a.before.before.before.args.number.now) t)
 
-pub probe-finish-spec : {M : Type 1} → statement M
-probe-finish-spec = tie.close (tie.spec finish-requires enum-known-answer enum-known-answer-2 returns returns-2)
+pub probe_finish_spec : {M : Type 1} → statement M
+probe_finish_spec = tie.close (tie.spec finish-answer-requires enum_known-answer enum_known-answer-in-Refused-1 returns-in-Number returns-in-Refused)

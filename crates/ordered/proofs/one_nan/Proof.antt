@@ -7,12 +7,12 @@ use borrow.Author.Rules.{rules}
 use Rattle.ordered.proofs.one_nan.Statement.{statement}
 use Rattle.ordered.proofs.one_nan.Tie as tie
 
-returns : tie.Need-returns
+returns-then-x : tie.Need-returns-then-x
 unfolding div of_bits
-returns c = sym (differs_from_itself c.before.args.x (subst T (sym c.if1.true) tt))
+returns-then-x c = sym (differs_from_itself c.before.args.x (subst T (sym c.if-x.true) tt))
 
-returns-2 : tie.Need-returns-2
-returns-2 c = search rules
+returns : tie.Need-returns
+returns c = search rules
 
-pub one-nan-spec : {M : Type 1} → statement M
-one-nan-spec = tie.close (tie.spec returns returns-2)
+pub one_nan_spec : {M : Type 1} → statement M
+one_nan_spec = tie.close (tie.spec returns-then-x returns)

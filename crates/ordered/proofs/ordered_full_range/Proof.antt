@@ -18,117 +18,105 @@ use Rattle.ordered.proofs.Folding.{Folding, folding-none, folding-more, folding-
 use Rattle.ordered.proofs.ordered_full_range.Statement.{statement}
 use Rattle.ordered.proofs.ordered_full_range.Tie as tie
 
-abbrev invariant-loop : tie.invariant-loop
-invariant-loop l base start end values stride product₀ c₀ product c = Folding l (to_z w64 base) values start end (fin false 1 (pos 0)) product c
+abbrev invariant-loop-c : tie.invariant-loop-c
+invariant-loop-c l base start end values stride product₀ c₀ product c = Folding l (to_z w64 base) values start end (fin false 1 (pos 0)) product c
 
-abbrev decreases-loop : tie.decreases-loop
-decreases-loop l base start end values stride product₀ c₀ product c = end - c.at
+abbrev decreases-loop-c : tie.decreases-loop-c
+decreases-loop-c l base start end values stride product₀ c₀ product c = end - c.at
 
 -- the entry, from places further on
-abbrev from_told : tie.After-struct-told invariant-loop decreases-loop → tie.Start invariant-loop decreases-loop
+abbrev from_told : tie.After-struct_told-1 invariant-loop-c decreases-loop-c → tie.Start invariant-loop-c decreases-loop-c
 from_told c = c.before.before
 
-abbrev from-loop : tie.At-loop invariant-loop decreases-loop → tie.Start invariant-loop decreases-loop
+abbrev from-loop : tie.At-loop-c invariant-loop-c decreases-loop-c → tie.Start invariant-loop-c decreases-loop-c
 from-loop c = from_told c.before.before
 
-begin-requires : tie.Need-begin-requires invariant-loop decreases-loop
-begin-requires c κs = let s = from_told c in simp (to_z-of_z s.fits.base) (s.pre.0, s.pre.1)
+begin-c-requires : tie.Need-begin-c-requires invariant-loop-c decreases-loop-c
+begin-c-requires c κs = let s = from_told c in simp (to_z-of_z s.fits.base) (s.requires.0, s.requires.1)
 
-loop-holds : tie.Need-loop-init invariant-loop decreases-loop
+loop-c-init : tie.Need-loop-c-init invariant-loop-c decreases-loop-c
 unfolding of_bits
-loop-holds c =
+loop-c-init c =
     let s = from_told c.before in
-    folding-none s.args.l _ s.args.values.now s.args.start s.args.end (fin false 1 (pos 0)) c.begin.result s.pre.2 c.begin.ensures
+    folding-none s.args.l _ s.args.values.now s.args.start s.args.end (fin false 1 (pos 0)) c.begin-c.result s.requires.2 c.begin-c.ensures
 
 -- the invariant, over the base itself
-folding : (c : tie.At-loop invariant-loop decreases-loop) → let s = from-loop c in
-    Folding s.args.l s.args.base s.args.values.now s.args.start s.args.end (fin false 1 (pos 0)) c.loop.product c.loop.c
-folding c = let s = from-loop c in simp (to_z-of_z s.fits.base) at c.loop.invariant
+folding : (c : tie.At-loop-c invariant-loop-c decreases-loop-c) → let s = from-loop c in
+    Folding s.args.l s.args.base s.args.values.now s.args.start s.args.end (fin false 1 (pos 0)) c.loop-c.product c.loop-c.c
+folding c = let s = from-loop c in simp (to_z-of_z s.fits.base) at c.loop-c.invariant
 
-next-strip-requires : tie.Need-next-strip-requires invariant-loop decreases-loop
-next-strip-requires c κs =
+next_strip-s-requires : tie.Need-next_strip-s-requires invariant-loop-c decreases-loop-c
+next_strip-s-requires c κs =
     let k = c.before.before in
     let s = from-loop k in (
-      s.pre.0,
-      c.if1.true,
-      record { base = s.args.base; bounded = s.pre.1; cursor_is = (folding k).cursor_is c.if1.true },
-      s.pre.3,
-      s.pre.4,
+      s.requires.0,
+      c.loop-c-test.true,
+      record { base = s.args.base; bounded = s.requires.1; cursor_is = (folding k).cursor_is c.loop-c-test.true },
+      s.requires.3,
+      s.requires.4,
     )
 
 -- the strip at the cursor
-here : (c : tie.After-next-strip invariant-loop decreases-loop) → let k = c.before.before.before in let s = from-loop k in
-    StripHere s.args.l s.args.base s.args.end k.loop.c c.next-strip.result
+here : (c : tie.After-next_strip-s invariant-loop-c decreases-loop-c) → let k = c.before.before.before in let s = from-loop k in
+    StripHere s.args.l s.args.base s.args.end k.loop-c.c c.next_strip-s.result
 here c =
     let t = c.before in
     let k = t.before.before in
-    c.next-strip.ensures (from-loop k).args.base (from-loop k).requires.1 ((folding k).cursor_is t.if1.true)
+    c.next_strip-s.ensures (from-loop k).args.base (from-loop k).requires.1 ((folding k).cursor_is t.loop-c-test.true)
 
-first_fits : (c : tie.After-struct-told2 invariant-loop decreases-loop) → SFits w64 c.before.next-strip.result.first
-first_fits c = record { sfits = c.struct-told2.given.0.1 }
+first_fits : (c : tie.After-struct_told-in-loop-c-1 invariant-loop-c decreases-loop-c) → SFits w64 c.before.next_strip-s.result.first
+first_fits c = record { sfits = c.struct_told-in-loop-c-1.given.0.1 }
 
-step_fits : (c : tie.After-struct-told2 invariant-loop decreases-loop) → SFits w64 c.before.next-strip.result.step
-step_fits c = record { sfits = c.struct-told2.given.1.0.1 }
+step_fits : (c : tie.After-struct_told-in-loop-c-1 invariant-loop-c decreases-loop-c) → SFits w64 c.before.next_strip-s.result.step
+step_fits c = record { sfits = c.struct_told-in-loop-c-1.given.1.0.1 }
 
-stride-fits : (c : tie.After-struct-told invariant-loop decreases-loop) → SFits w64 (from_told c).args.l.run_stride
-stride-fits c = record { sfits = c.struct_told.given.1.1.0.1 }
+stride-fits : (c : tie.After-struct_told-1 invariant-loop-c decreases-loop-c) → SFits w64 (from_told c).args.l.run_stride
+stride-fits c = record { sfits = c.struct_told-1.given.1.1.0.1 }
 
-fold-strip-ordered-requires : tie.Need-fold-strip-ordered-requires invariant-loop decreases-loop
-fold-strip-ordered-requires c κs =
+fold_strip_ordered-product-requires : tie.Need-fold_strip_ordered-product-requires invariant-loop-c decreases-loop-c
+fold_strip_ordered-product-requires c κs =
     let n = c.before.before in
     let k = n.before.before.before in
     let s = from-loop k in
     let p = here n in
     simp (to_z-of_z (first_fits c.before), to_z-of_z (step_fits c.before), to_z-of_z (stride-fits k.before.before)) (
       p.some_len,
-      strip-places-inside s.args.l s.args.base s.args.end k.loop.c n.next-strip.result p (length s.args.values.now) s.pre.0
-          s.pre.5 s.pre.3,
+      strip-places-inside s.args.l s.args.base s.args.end k.loop-c.c n.next_strip-s.result p (length s.args.values.now) s.requires.0
+          s.requires.5 s.requires.3,
     )
 
-loop-less : tie.Need-loop-smaller invariant-loop decreases-loop
-loop-less c =
+loop-c-smaller : tie.Need-loop-c-smaller invariant-loop-c decreases-loop-c
+loop-c-smaller c =
     let n = c.before.before.before.before in
     let p = here n in
-    let s = n.next-strip.result in
+    let s = n.next_strip-s.result in
     let m : 1 * s.len ≤ s.count * s.len = mul-le-mul_right s.len p.some_run in
-    omega (arith, n.before.if1.true, p.next_at, p.some_len)
+    omega (arith, n.before.loop-c-test.true, p.next_at, p.some_len)
 
-loop-again : tie.Need-loop-preserved invariant-loop decreases-loop
-loop-again c =
+loop-c-preserved : tie.Need-loop-c-preserved invariant-loop-c decreases-loop-c
+loop-c-preserved c =
     let f = c.before in
     let d = f.before.before in
     let n = d.before in
     let k = n.before.before.before in
     let s = from-loop k in
     let made = simp (to_z-of_z (first_fits d), to_z-of_z (step_fits d), to_z-of_z (stride-fits k.before.before))
-    at f.fold-strip-ordered.ensures in
+    at f.fold_strip_ordered-product.ensures in
     simp (to_z-of_z s.fits.base)
     (folding-more s.args.l s.args.base s.args.values.now s.args.start s.args.end (fin false 1 (pos 0))
-    k.loop.product k.loop.c (folding k) n.next-strip.result (here n) f.fold-strip-ordered.result made)
+    k.loop-c.product k.loop-c.c (folding k) n.next_strip-s.result (here n) f.fold_strip_ordered-product.result made)
 
-one-nan-requires : tie.Need-one-nan-requires invariant-loop decreases-loop
-one-nan-requires c κs = search rules
+one_nan-requires : tie.Need-one_nan-requires invariant-loop-c decreases-loop-c
+one_nan-requires c κs = search rules
 
-returns : tie.Need-returns invariant-loop decreases-loop
+returns : tie.Need-returns invariant-loop-c decreases-loop-c
 returns c =
     let e = c.before in
     let k = e.before.before in
     let s = from-loop k in
-    c.one-nan.ensures
-    ∙ folding-all s.args.l s.args.base s.args.values.now s.args.start s.args.end (fin false 1 (pos 0)) k.loop.product k.loop.c
-    (folding k) (let h = e.if1.false in omega arith)
+    c.one_nan.ensures
+    ∙ folding-all s.args.l s.args.base s.args.values.now s.args.start s.args.end (fin false 1 (pos 0)) k.loop-c.product k.loop-c.c
+    (folding k) (let h = e.loop-c-test.false in omega arith)
 
-pub ordered-full-range-spec : {M : Type 1} → statement M
-ordered-full-range-spec =
-    tie.close
-    (tie.spec
-    invariant-loop
-    decreases-loop
-    begin-requires
-    loop-holds
-    next-strip-requires
-    fold-strip-ordered-requires
-    loop-less
-    loop-again
-    one-nan-requires
-    returns)
+pub ordered_full_range_spec : {M : Type 1} → statement M
+ordered_full_range_spec = tie.close (tie.spec invariant-loop-c decreases-loop-c begin-c-requires loop-c-init next_strip-s-requires fold_strip_ordered-product-requires loop-c-smaller loop-c-preserved one_nan-requires returns)

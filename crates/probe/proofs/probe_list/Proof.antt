@@ -7,14 +7,14 @@ use Rattle.probe.proofs.probe_list.Reads as reads
 use Rattle.probe.proofs.probe_list.Lts as lts
 use Rattle.offsets.proofs.list.offset_list.Reads as offset-list-reads
 
-offset-list-requires : tie.Need-offset-list-requires
-offset-list-requires c κs = search rules
+offset_list-requires : tie.Need-offset_list-requires
+offset_list-requires c κs = search rules
 
-same_length : tie.Need-same-length
-same_length c = search rules
+shape_of-out : tie.Need-shape_of-out
+shape_of-out c = search rules
 
 returns : tie.Need-returns
-returns c = let s = c.before.before.before.before in simp (to_z-of_z s.ranges.base) at c.before.offset-list.ensures
+returns c = let s = c.before.before.before.before in simp (to_z-of_z s.ranges.base) at c.before.offset_list.ensures
 
-pub probe-list-spec : {M : Type 1} → statement M
-probe-list-spec = tie.close (tie.spec offset-list-requires same_length returns)
+pub probe_list_spec : {M : Type 1} → statement M
+probe_list_spec = tie.close (tie.spec offset_list-requires shape_of-out returns)

@@ -17,101 +17,86 @@ use Rattle.ranges.proofs.each_code.Tie as tie
 abbrev from : ℕ → List ℕ → List ℕ → ℕ → ℕ
 from total starts ends i = first_of (each_refusals total (ranges_of (drop i starts) (drop i ends)))
 
-abbrev invariant-loop : tie.invariant-loop
-invariant-loop total starts ends i₀ i = (i ≤ length starts) × (from total starts ends 0 ≡ from total starts ends i)
+abbrev invariant-loop-i : tie.invariant-loop-i
+invariant-loop-i total starts ends i₀ i = (i ≤ length starts) × (from total starts ends 0 ≡ from total starts ends i)
 
-abbrev decreases-loop : tie.decreases-loop
-decreases-loop total starts ends i₀ i = length starts - i
+abbrev decreases-loop-i : tie.decreases-loop-i
+decreases-loop-i total starts ends i₀ i = length starts - i
 
-loop-holds : tie.Need-loop-init invariant-loop decreases-loop
-loop-holds c = (omega arith, refl)
+loop-i-init : tie.Need-loop-i-init invariant-loop-i decreases-loop-i
+loop-i-init c = (omega arith, refl)
 
-abbrev entry : tie.At-loop invariant-loop decreases-loop → tie.Start invariant-loop decreases-loop
+abbrev entry : tie.At-loop-i invariant-loop-i decreases-loop-i → tie.Start invariant-loop-i decreases-loop-i
 entry k = k.before.before.before
 
 -- the place lies in the starts, whose bytes are numbered
-below : (c : tie.In-loop invariant-loop decreases-loop) → c.before.loop.i < length (entry c.before).args.starts.now
-below c = c.loop-test.true
+below : (c : tie.In-loop-i invariant-loop-i decreases-loop-i) → c.before.loop-i.i < length (entry c.before).args.starts.now
+below c = c.loop-i-test.true
 
-mul-end-code : tie.Need-overflow-mul-end-code invariant-loop decreases-loop
-mul-end-code c = omega (arith, below c, (entry c.before).good.0.1)
+offset_bounds-starts-i : tie.Need-offset_bounds-starts-i invariant-loop-i decreases-loop-i
+offset_bounds-starts-i c = omega (arith, below c, (entry c.before).well_formed.0.1)
 
-shared-slice-read-end-code : tie.Need-shared-slice-read-end-code invariant-loop decreases-loop
-shared-slice-read-end-code c = below c.before
+bounds-starts-i : tie.Need-bounds-starts-i invariant-loop-i decreases-loop-i
+bounds-starts-i c = below c.before
 
-mul-end-code-2 : tie.Need-overflow-mul-end-code-2 invariant-loop decreases-loop
-mul-end-code-2 c = let i = c.before in omega (arith, below i, (entry i.before).good.0.1)
+offset_bounds-ends-i : tie.Need-offset_bounds-ends-i invariant-loop-i decreases-loop-i
+offset_bounds-ends-i c = let i = c.before in omega (arith, below i, (entry i.before).well_formed.0.1)
 
-shared-slice-read-end-code-2 : tie.Need-shared-slice-read-end-code-2 invariant-loop decreases-loop
-shared-slice-read-end-code-2 c = let i = c.before.before in omega (arith, below i, (entry i.before).pre)
+bounds-ends-i : tie.Need-bounds-ends-i invariant-loop-i decreases-loop-i
+bounds-ends-i c = let i = c.before.before in omega (arith, below i, (entry i.before).requires)
 
-end-code-requires : tie.Need-end-code-requires invariant-loop decreases-loop
-end-code-requires c κs = search rules
+end_code-code-requires : tie.Need-end_code-code-requires invariant-loop-i decreases-loop-i
+end_code-code-requires c κs = search rules
 
 -- the ranges from here on: this one, and those behind it
-abbrev next : tie.At-loop invariant-loop decreases-loop → List (ℕ × ℕ)
-next k = let s = entry k in ranges_of (drop (suc k.loop.i) s.args.starts.now) (drop (suc k.loop.i) s.args.ends.now)
+abbrev next : tie.At-loop-i invariant-loop-i decreases-loop-i → List (ℕ × ℕ)
+next k = let s = entry k in ranges_of (drop (suc k.loop-i.i) s.args.starts.now) (drop (suc k.loop-i.i) s.args.ends.now)
 
-here : (c : tie.In-loop invariant-loop decreases-loop) → let k = c.before in let s = entry k in
+here : (c : tie.In-loop-i invariant-loop-i decreases-loop-i) → let k = c.before in let s = entry k in
     from s.args.total s.args.starts.now s.args.ends.now 0
-    ≡ first_of (each_refusals s.args.total ((get_or s.args.starts.now k.loop.i 0, get_or s.args.ends.now k.loop.i 0) ∷ next k))
+    ≡ first_of (each_refusals s.args.total ((get_or s.args.starts.now k.loop-i.i 0, get_or s.args.ends.now k.loop-i.i 0) ∷ next k))
 here c =
     let k = c.before in
     let s = entry k in
-    k.loop.invariant.1
+    k.loop-i.invariant.1
     ∙ ap (λ (rs : List (ℕ × ℕ)). first_of (each_refusals s.args.total rs))
-    (ranges-from s.args.starts.now s.args.ends.now s.pre k.loop.i (below c))
+    (ranges-from s.args.starts.now s.args.ends.now s.requires k.loop-i.i (below c))
 
-returns : tie.Need-returns invariant-loop decreases-loop
-returns c =
+returns-then-code-ne0 : tie.Need-returns-then-code-ne0 invariant-loop-i decreases-loop-i
+returns-then-code-ne0 c =
     let f = c.before in
     let i = f.before.before.before in
     let k = i.before in
     let s = entry k in
-    f.end-code.ensures
-    ∙ sym (here i ∙ each-fault s.args.total _ (next k) (λ e. c.if1.true (f.end-code.ensures ∙ e)))
+    f.end_code-code.ensures
+    ∙ sym (here i ∙ each-fault s.args.total _ (next k) (λ e. c.if-code-ne0.true (f.end_code-code.ensures ∙ e)))
 
-add-i : tie.Need-overflow-add-i invariant-loop decreases-loop
-add-i c = let i = c.before.before.before.before in omega (arith, below i, (entry i.before).good.0.1)
+overflow_add-i : tie.Need-overflow_add-i invariant-loop-i decreases-loop-i
+overflow_add-i c = let i = c.before.before.before.before in omega (arith, below i, (entry i.before).well_formed.0.1)
 
-loop-less : tie.Need-loop-smaller invariant-loop decreases-loop
-loop-less c = omega (arith, below c.before.before.before.before)
+loop-i-smaller : tie.Need-loop-i-smaller invariant-loop-i decreases-loop-i
+loop-i-smaller c = omega (arith, below c.before.before.before.before)
 
-loop-again : tie.Need-loop-preserved invariant-loop decreases-loop
-loop-again c =
+loop-i-preserved : tie.Need-loop-i-preserved invariant-loop-i decreases-loop-i
+loop-i-preserved c =
     let f = c.before in
     let i = f.before.before.before in
     let k = i.before in
     let s = entry k in (
       omega (arith, below i),
       here i
-          ∙ each_next s.args.total _ (next k) (sym f.end-code.ensures ∙ c.if1.false)
-          ∙ ap (from s.args.total s.args.starts.now s.args.ends.now) (sym (add-one k.loop.i)),
+          ∙ each_next s.args.total _ (next k) (sym f.end_code-code.ensures ∙ c.if-code-ne0.false)
+          ∙ ap (from s.args.total s.args.starts.now s.args.ends.now) (sym (add-one k.loop-i.i)),
     )
 
-returns-2 : tie.Need-returns-2 invariant-loop decreases-loop
+returns : tie.Need-returns invariant-loop-i decreases-loop-i
 unfolding ranges_of each_refusals first_of
-returns-2 c =
+returns c =
     let k = c.before in
     let s = entry k in
-    sym (k.loop.invariant.1
-    ∙ ap (λ (ns : List ℕ). first_of (each_refusals s.args.total (ranges_of ns (drop k.loop.i s.args.ends.now))))
-    (drop_of_length-le s.args.starts.now {i = k.loop.i} (omega (arith, c.loop-test.false))))
+    sym (k.loop-i.invariant.1
+    ∙ ap (λ (ns : List ℕ). first_of (each_refusals s.args.total (ranges_of ns (drop k.loop-i.i s.args.ends.now))))
+    (drop_of_length-le s.args.starts.now {i = k.loop-i.i} (omega (arith, c.loop-i-test.false))))
 
-pub each-code-spec : {M : Type 1} → statement M
-each-code-spec =
-    tie.close
-    (tie.spec
-    invariant-loop
-    decreases-loop
-    loop-holds
-    mul-end-code
-    shared-slice-read-end-code
-    mul-end-code-2
-    shared-slice-read-end-code-2
-    end-code-requires
-    returns
-    add-i
-    loop-less
-    loop-again
-    returns-2)
+pub each_code_spec : {M : Type 1} → statement M
+each_code_spec = tie.close (tie.spec invariant-loop-i decreases-loop-i loop-i-init offset_bounds-starts-i bounds-starts-i offset_bounds-ends-i bounds-ends-i end_code-code-requires returns-then-code-ne0 overflow_add-i loop-i-smaller loop-i-preserved returns)

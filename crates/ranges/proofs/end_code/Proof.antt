@@ -4,18 +4,18 @@ use Rattle.offsets.proofs.Ranges.{ends-5, ends-6, ends-0}
 use Rattle.ranges.proofs.end_code.Statement.{statement}
 use Rattle.ranges.proofs.end_code.Tie as tie
 
+returns-then-end-start : tie.Need-returns-then-end-start
+returns-then-end-start c = let s = c.before in sym (ends-5 s.args.total s.args.start s.args.end c.if-end-start.taken)
+
+returns-then-total-end : tie.Need-returns-then-total-end
+returns-then-total-end c =
+    let s = c.before.before in
+    sym (ends-6 s.args.total s.args.start s.args.end c.before.if-end-start.left c.if-total-end.taken)
+
 returns : tie.Need-returns
-returns c = let s = c.before in sym (ends-5 s.args.total s.args.start s.args.end c.if1.taken)
-
-returns-2 : tie.Need-returns-2
-returns-2 c =
+returns c =
     let s = c.before.before in
-    sym (ends-6 s.args.total s.args.start s.args.end c.before.if1.left c.if2.taken)
+    sym (ends-0 s.args.total s.args.start s.args.end c.before.if-end-start.left c.if-total-end.left)
 
-returns-3 : tie.Need-returns-3
-returns-3 c =
-    let s = c.before.before in
-    sym (ends-0 s.args.total s.args.start s.args.end c.before.if1.left c.if2.left)
-
-pub end-code-spec : {M : Type 1} → statement M
-end-code-spec = tie.close (tie.spec returns returns-2 returns-3)
+pub end_code_spec : {M : Type 1} → statement M
+end_code_spec = tie.close (tie.spec returns-then-end-start returns-then-total-end returns)

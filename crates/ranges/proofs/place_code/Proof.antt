@@ -14,16 +14,16 @@ use Rattle.offsets.proofs.Ranges.{Clear, clear, clear-axes, tested, place-7, pla
 use Rattle.ranges.proofs.place_code.Statement.{statement}
 use Rattle.ranges.proofs.place_code.Tie as tie
 
-returns : tie.Need-returns
-returns c =
+returns-then-total-eq0 : tie.Need-returns-then-total-eq0
+returns-then-total-eq0 c =
     let s = c.before.before in
-    sym (place-empty s.args.sizes.now s.args.strides.now s.args.base s.args.length (sym s.pre.1 ∙ c.if1.taken))
+    sym (place-empty s.args.sizes.now s.args.strides.now s.args.base s.args.length (sym s.requires.1 ∙ c.if-total-eq0.taken))
 
 cleared : (s : tie.Start) → Clear s.args.sizes.now s.args.strides.now
-cleared s = clear s.args.sizes.now s.args.strides.now s.pre.0
+cleared s = clear s.args.sizes.now s.args.strides.now s.requires.0
 
-some-element : (c : tie.Else1) → let s = c.before.before in 0 < (compile_of PLACES s.args.sizes.now s.args.strides.now).traversal.total
-some-element c = let s = c.before.before in let n = c.if1.left in omega (arith, s.pre.1, n)
+some-element : (c : tie.Else-total-eq0) → let s = c.before.before in 0 < (compile_of PLACES s.args.sizes.now s.args.strides.now).traversal.total
+some-element c = let s = c.before.before in let n = c.if-total-eq0.left in omega (arith, s.requires.1, n)
 
 inside-requires : tie.Need-inside-requires
 inside-requires c κs =
@@ -39,22 +39,22 @@ told : (c : tie.After-inside) → let s = c.before.before.before in
     ≡ c.inside.result
 told c = sym (simp (to_z-of_z c.before.before.before.fits.base) at c.inside.ensures)
 
-returns-2 : tie.Need-returns-2
+returns-then-inside : tie.Need-returns-then-inside
 unfolding first_of
-returns-2 c =
+returns-then-inside c =
     let t = c.before in
     let s = t.before.before.before in
     sym (place-0 s.args.sizes.now s.args.strides.now s.args.base s.args.length
     (tested s.args.sizes.now s.args.strides.now s.args.base s.args.length (cleared s) (some-element t.before) _
-    (sym (told t ∙ c.if2.taken))) [])
+    (sym (told t ∙ c.if-inside.taken))) [])
 
-returns-3 : tie.Need-returns-3
-returns-3 c =
+returns : tie.Need-returns
+returns c =
     let t = c.before in
     let s = t.before.before.before in
     sym (place-7 s.args.sizes.now s.args.strides.now s.args.base s.args.length
     (tested s.args.sizes.now s.args.strides.now s.args.base s.args.length (cleared s) (some-element t.before) _
-    (sym (told t ∙ c.if2.left))))
+    (sym (told t ∙ c.if-inside.left))))
 
-pub place-code-spec : {M : Type 1} → statement M
-place-code-spec = tie.close (tie.spec returns inside-requires returns-2 returns-3)
+pub place_code_spec : {M : Type 1} → statement M
+place_code_spec = tie.close (tie.spec returns-then-total-eq0 inside-requires returns-then-inside returns)

@@ -15,26 +15,26 @@ use Rattle.search.proofs.first_in_chunk.Tie as tie
 passes-requires : tie.Need-passes-requires
 passes-requires c κs = search rules
 
-none-bad-requires : tie.Need-none-bad-requires
-none-bad-requires c κs = search rules
+none_bad-requires : tie.Need-none_bad-requires
+none_bad-requires c κs = search rules
 
-returns : tie.Need-returns
-returns c =
+returns-then-passes : tie.Need-returns-then-passes
+returns-then-passes c =
     let t = c.before in
     let s = t.before.before.before in
-    let good = simp (to_z-of_z s.ranges.first, to_z-of_z s.ranges.stride) at (t.before.passes.ensures t.if1.true) in
-    c.none-bad.ensures
+    let good = simp (to_z-of_z s.ranges.first, to_z-of_z s.ranges.stride) at (t.before.passes.ensures t.if-passes.true) in
+    c.none_bad.ensures
     ∙ sym (all-good s.args.values.now s.args.element (steps s.args.first s.args.stride (8 * s.args.vectors))
     (ap (some is_bad) (sym (strided-steps s.args.values.now s.args.first s.args.stride (8 * s.args.vectors))) ∙ good))
 
-mul-look-closer : tie.Need-overflow-mul-look-closer
-mul-look-closer c = let s = c.before.before.before in omega (arith, s.requires.0)
+overflow_mul-vectors : tie.Need-overflow_mul-vectors
+overflow_mul-vectors c = let s = c.before.before.before in omega (arith, s.requires.0)
 
-look-closer-requires : tie.Need-look-closer-requires
-look-closer-requires c κs = search rules
+look_closer-requires : tie.Need-look_closer-requires
+look_closer-requires c κs = search rules
 
-returns-2 : tie.Need-returns-2
-returns-2 c = let s = c.before.before.before.before in simp (to_z-of_z s.ranges.first, to_z-of_z s.ranges.stride) at c.look-closer.ensures
+returns : tie.Need-returns
+returns c = let s = c.before.before.before.before in simp (to_z-of_z s.ranges.first, to_z-of_z s.ranges.stride) at c.look_closer.ensures
 
-pub first-in-chunk-spec : {M : Type 1} → statement M
-first-in-chunk-spec = tie.close (tie.spec passes-requires none-bad-requires returns mul-look-closer look-closer-requires returns-2)
+pub first_in_chunk_spec : {M : Type 1} → statement M
+first_in_chunk_spec = tie.close (tie.spec passes-requires none_bad-requires returns-then-passes overflow_mul-vectors look_closer-requires returns)

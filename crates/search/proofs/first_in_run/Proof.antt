@@ -37,17 +37,17 @@ done s = 8 * (s.args.len / 8)
 inside : (s : tie.Start) → PlacesInside (length (values s)) (first s) (stride s) s.args.len
 inside s = simp (to_z-of_z s.ranges.first, to_z-of_z s.ranges.stride) s.requires.2
 
-far-stride-requires : tie.Need-far-stride-requires
-far-stride-requires c κs =
+far_stride-eight-requires : tie.Need-far_stride-eight-requires
+far_stride-eight-requires c κs =
     let s = c.before in
-    (lit≤ tt, λ l. step_fits (length (values s)) (first s) (stride s) s.args.len (inside s) 8 l (omega (arith, s.well-formed.0.1)))
+    (lit≤ tt, λ l. step_fits (length (values s)) (first s) (stride s) s.args.len (inside s) 8 l (omega (arith, s.well_formed.0.1)))
 
-first-in-vectors-requires : tie.Need-first-in-vectors-requires
-first-in-vectors-requires c κs =
+first_in_vectors-r-requires : tie.Need-first_in_vectors-r-requires
+first_in_vectors-r-requires c κs =
     let s = c.before.before in (
       omega (arith, s.requires.0),
       omega (arith, s.requires.1),
-      λ l. to_z-of_z (record { sfits = c.far-stride.type-inv }) ∙ c.far-stride.ensures (omega arith),
+      λ l. to_z-of_z (record { sfits = c.far_stride-eight.type_inv }) ∙ c.far_stride-eight.ensures (omega arith),
       inside-less (length (values s)) (first s) (stride s) s.args.len (done s) (inside s) (omega arith),
     )
 
@@ -58,88 +58,76 @@ cut s =
     ap (steps (first s) (stride s)) (let e : s.args.len ≡ done s + s.args.len % 8 = omega arith in e)
     ∙ steps-append (first s) (stride s) (done s) (s.args.len % 8)
 
-returns : tie.Need-returns
-returns c =
+returns-then-r : tie.Need-returns-then-r
+returns-then-r c =
     let r = c.before in
     let s = r.before.before.before in
-    let e = met (values s) s.args.element _ _ _ (cut s) _ refl r.first-in-vectors.result r.first-in-vectors.ensures c.if1.true in
+    let e = met (values s) s.args.element _ _ _ (cut s) _ refl r.first_in_vectors-r.result r.first_in_vectors-r.ensures c.if-r.true in
     simp (to_z-of_z s.ranges.first, to_z-of_z s.ranges.stride) at e
 
-returns-2 : tie.Need-returns-2
-returns-2 c =
+returns-then-len-eq0 : tie.Need-returns-then-len-eq0
+returns-then-len-eq0 c =
     let r = c.before.before in
     let s = r.before.before.before in
-    let h = c.if2.true in
-    let e = r.first-in-vectors.ensures
+    let h = c.if-len-eq0.true in
+    let e = r.first_in_vectors-r.ensures
     ∙ ap (λ (n : ℕ). lowest_bad (values s) s.args.element (steps (first s) (stride s) n)) (let k : done s ≡ s.args.len = omega arith in k) in
     simp (to_z-of_z s.ranges.first, to_z-of_z s.ranges.stride) at e
 
-mul-done : tie.Need-overflow-mul-done
-mul-done c = let s = c.before.before.before.before.before in omega (arith, s.requires.0)
+overflow_mul-done : tie.Need-overflow_mul-done
+overflow_mul-done c = let s = c.before.before.before.before.before in omega (arith, s.requires.0)
 
 -- some values are left
-some_left : (c : tie.Else2) → let s = c.before.before.before.before.before in done s < s.args.len
-some_left c = let h = c.if2.false in omega arith
+some_left : (c : tie.Else-len-eq0) → let s = c.before.before.before.before.before in done s < s.args.len
+some_left c = let h = c.if-len-eq0.false in omega arith
 
-far-stride-requires-2 : tie.Need-far-stride-requires-2
-far-stride-requires-2 c κs =
+far_stride-requires : tie.Need-far_stride-requires
+far_stride-requires c κs =
     let s = c.before.before.before.before.before in (
       omega (arith, s.requires.0),
-      λ l. step_fits (length (values s)) (first s) (stride s) s.args.len (inside s) (done s) l (omega (arith, s.well-formed.0.1)),
+      λ l. step_fits (length (values s)) (first s) (stride s) s.args.len (inside s) (done s) l (omega (arith, s.well_formed.0.1)),
     )
 
 -- the place of the next
-next : (c : tie.After-far-stride2) → let s = c.before.before.before.before.before.before in
-    first s +ℤ to_z w64 (of_z w64 c.far-stride2.result) ≡ first s +ℤ stride s *ℤ pos (done s)
+next : (c : tie.After-far_stride) → let s = c.before.before.before.before.before.before in
+    first s +ℤ to_z w64 (of_z w64 c.far_stride.result) ≡ first s +ℤ stride s *ℤ pos (done s)
 next c =
     let s = c.before.before.before.before.before.before in
-    ap (λ (z : ℤ). first s +ℤ z) (to_z-of_z (record { sfits = c.far-stride2.type-inv }) ∙ c.far-stride2.ensures (some_left c.before))
+    ap (λ (z : ℤ). first s +ℤ z) (to_z-of_z (record { sfits = c.far_stride.type_inv }) ∙ c.far_stride.ensures (some_left c.before))
 
-add_at : tie.Need-overflow-add-at
-add_at c =
+overflow_add-at : tie.Need-overflow_add-at
+overflow_add-at c =
     let s = c.before.before.before.before.before.before in
     subst (SFits w64) (sym (next c))
-    (place-fits (length (values s)) (first s) (stride s) s.args.len (inside s) (done s) (some_left c.before) (omega (arith, s.well-formed.0.1)))
+    (place-fits (length (values s)) (first s) (stride s) s.args.len (inside s) (done s) (some_left c.before) (omega (arith, s.well_formed.0.1)))
 
 -- the same, as the code holds it
-at-is : (c : tie.After-far-stride2) → let s = c.before.before.before.before.before.before in
-    to_z w64 (of_z w64 (first s +ℤ to_z w64 (of_z w64 c.far-stride2.result))) ≡ first s +ℤ stride s *ℤ pos (done s)
-at-is c = to_z-of_z (add_at c) ∙ next c
+at-is : (c : tie.After-far_stride) → let s = c.before.before.before.before.before.before in
+    to_z w64 (of_z w64 (first s +ℤ to_z w64 (of_z w64 c.far_stride.result))) ≡ first s +ℤ stride s *ℤ pos (done s)
+at-is c = to_z-of_z (overflow_add-at c) ∙ next c
 
-add-look-closer : tie.Need-overflow-add-look-closer
-add-look-closer c = let s = c.before.before.before.before.before.before in omega (arith, s.requires.1)
+overflow_add-element : tie.Need-overflow_add-element
+overflow_add-element c = let s = c.before.before.before.before.before.before in omega (arith, s.requires.1)
 
-look-closer-requires : tie.Need-look-closer-requires
-look-closer-requires c κs =
+look_closer-q-requires : tie.Need-look_closer-q-requires
+look_closer-q-requires c κs =
     let s = c.before.before.before.before.before.before in (
       omega (arith, s.requires.1),
       subst (λ (z : ℤ). PlacesInside (length (values s)) z (stride s) (s.args.len % 8)) (sym (at-is c))
           (inside-part (length (values s)) (first s) (stride s) s.args.len (done s) (s.args.len % 8) (inside s) (omega arith)),
     )
 
-returns-3 : tie.Need-returns-3
-returns-3 c =
+returns : tie.Need-returns
+returns c =
     let p = c.before in
     let f = p.before.before in
     let r = f.before in
     let s = r.before.before.before in
-    let e = c.look-closer.ensures
+    let e = c.look_closer-q.ensures
     ∙ ap (λ (z : ℤ). lowest_bad (values s) (s.args.element + done s) (steps z (stride s) (s.args.len % 8))) (at-is p)
-    ∙ passed (values s) s.args.element _ _ _ (cut s) _ refl r.first-in-vectors.result r.first-in-vectors.ensures f.if1.false
+    ∙ passed (values s) s.args.element _ _ _ (cut s) _ refl r.first_in_vectors-r.result r.first_in_vectors-r.ensures f.if-r.false
     (done s) (length-steps _ _ (done s)) in
     simp (to_z-of_z s.ranges.first, to_z-of_z s.ranges.stride) at e
 
-pub first-in-run-spec : {M : Type 1} → statement M
-first-in-run-spec =
-    tie.close
-    (tie.spec
-    far-stride-requires
-    first-in-vectors-requires
-    returns
-    returns-2
-    mul-done
-    far-stride-requires-2
-    add_at
-    add-look-closer
-    look-closer-requires
-    returns-3)
+pub first_in_run_spec : {M : Type 1} → statement M
+first_in_run_spec = tie.close (tie.spec far_stride-eight-requires first_in_vectors-r-requires returns-then-r returns-then-len-eq0 overflow_mul-done far_stride-requires overflow_add-at overflow_add-element look_closer-q-requires returns)

@@ -24,162 +24,143 @@ use Rattle.search.proofs.Looking.{run-whole, run-next, run-over, bad-next, good-
 use Rattle.search.proofs.look_closer.Statement.{statement}
 use Rattle.search.proofs.look_closer.Tie as tie
 
-abbrev invariant-loop : tie.invariant-loop
-invariant-loop values element first stride len at₀ i₀ at i =
+abbrev invariant-loop-i : tie.invariant-loop-i
+invariant-loop-i values element first stride len at₀ i₀ at i =
     (i ≤ len)
     × (i < len → to_z w64 at ≡ to_z w64 first +ℤ to_z w64 stride *ℤ pos i)
     × (lowest_bad values (element + i) (steps (to_z w64 first +ℤ to_z w64 stride *ℤ pos i) (to_z w64 stride) (len - i))
     ≡ lowest_bad values element (steps (to_z w64 first) (to_z w64 stride) len))
 
-abbrev decreases-loop : tie.decreases-loop
-decreases-loop values element first stride len at₀ i₀ at i = len - i
+abbrev decreases-loop-i : tie.decreases-loop-i
+decreases-loop-i values element first stride len at₀ i₀ at i = len - i
 
 -- a turn of the loop, as it is entered: the entry, and its numbers as the code holds them
-abbrev entry : tie.At-loop invariant-loop decreases-loop → tie.Start invariant-loop decreases-loop
+abbrev entry : tie.At-loop-i invariant-loop-i decreases-loop-i → tie.Start invariant-loop-i decreases-loop-i
 entry t = t.before.before
 
-abbrev values : tie.At-loop invariant-loop decreases-loop → List Float
+abbrev values : tie.At-loop-i invariant-loop-i decreases-loop-i → List Float
 values t = (entry t).args.values.now
 
-abbrev first : tie.At-loop invariant-loop decreases-loop → ℤ
+abbrev first : tie.At-loop-i invariant-loop-i decreases-loop-i → ℤ
 first t = to_z w64 (of_z w64 (entry t).args.first)
 
-abbrev apart : tie.At-loop invariant-loop decreases-loop → ℤ
+abbrev apart : tie.At-loop-i invariant-loop-i decreases-loop-i → ℤ
 apart t = to_z w64 (of_z w64 (entry t).args.stride)
 
 -- what is required, of the numbers as the code holds them
-inside : (t : tie.At-loop invariant-loop decreases-loop) → PlacesInside (length (values t)) (first t) (apart t) (entry t).args.len
-inside t = let s = entry t in simp (to_z-of_z s.fits.first, to_z-of_z s.fits.stride) s.pre.1
+inside : (t : tie.At-loop-i invariant-loop-i decreases-loop-i) → PlacesInside (length (values t)) (first t) (apart t) (entry t).args.len
+inside t = let s = entry t in simp (to_z-of_z s.fits.first, to_z-of_z s.fits.stride) s.requires.1
 
-loop-holds : tie.Need-loop-init invariant-loop decreases-loop
-loop-holds c =
+loop-i-init : tie.Need-loop-i-init invariant-loop-i decreases-loop-i
+loop-i-init c =
     let s = c.before in
     let z = to_z w64 (of_z w64 s.args.first) in
     let d = to_z w64 (of_z w64 s.args.stride) in
     (omega arith, λ h. place-first z d, run-whole s.args.values.now s.args.element z d s.args.len)
 
 -- the place of the next value
-here : (c : tie.In-loop invariant-loop decreases-loop) → let t = c.before in to_z w64 t.loop.at ≡ first t +ℤ apart t *ℤ pos t.loop.i
-here c = c.before.loop.invariant.1 c.loop-test.true
+here : (c : tie.In-loop-i invariant-loop-i decreases-loop-i) → let t = c.before in to_z w64 t.loop-i.at-bits ≡ first t +ℤ apart t *ℤ pos t.loop-i.i
+here c = c.before.loop-i.invariant.1 c.loop-i-test.true
 
-below : (c : tie.In-loop invariant-loop decreases-loop) → nat_abs (to_z w64 c.before.loop.at) < length (values c.before)
+below : (c : tie.In-loop-i invariant-loop-i decreases-loop-i) → nat_abs (to_z w64 c.before.loop-i.at-bits) < length (values c.before)
 below c =
     let t = c.before in
     subst (λ (z : ℤ). nat_abs z < length (values t)) (sym (here c))
-    (place-below (length (values t)) (first t) (apart t) (entry t).args.len (inside t) t.loop.i c.loop-test.true)
+    (place-below (length (values t)) (first t) (apart t) (entry t).args.len (inside t) t.loop-i.i c.loop-i-test.true)
 
-cast-index : tie.Need-overflow-cast-index invariant-loop decreases-loop
-cast-index c =
+overflow_cast-index : tie.Need-overflow_cast-index invariant-loop-i decreases-loop-i
+overflow_cast-index c =
     let t = c.before in (
       subst (λ (z : ℤ). T (non_neg z)) (sym (here c))
-          (place-natural (length (values t)) (first t) (apart t) (entry t).args.len (inside t) t.loop.i c.loop-test.true),
-      record { fits = omega (arith, below c, (entry t).well-formed.0.0) },
+          (place-natural (length (values t)) (first t) (apart t) (entry t).args.len (inside t) t.loop-i.i c.loop-i-test.true),
+      record { fits = omega (arith, below c, (entry t).well_formed.0.0) },
     )
 
-mul-x : tie.Need-overflow-mul-x invariant-loop decreases-loop
-mul-x c = omega (arith, below c, (entry c.before).good.0.1)
+offset_bounds-values-index : tie.Need-offset_bounds-values-index invariant-loop-i decreases-loop-i
+offset_bounds-values-index c = omega (arith, below c, (entry c.before).well_formed.0.1)
 
-shared-slice-read-x : tie.Need-shared-slice-read-x invariant-loop decreases-loop
-shared-slice-read-x c = below c.before
+bounds-values-index : tie.Need-bounds-values-index invariant-loop-i decreases-loop-i
+bounds-values-index c = below c.before
 
-is-bad-requires : tie.Need-is-bad-requires invariant-loop decreases-loop
-is-bad-requires c κs = search rules
+is_bad-requires : tie.Need-is_bad-requires invariant-loop-i decreases-loop-i
+is_bad-requires c κs = search rules
 
 -- whether the value is bad
-looked : (c : tie.After-is-bad invariant-loop decreases-loop) → let t = c.before.before.before in
-    c.is-bad.result ≡ is_bad (value_at (values t) (first t +ℤ apart t *ℤ pos t.loop.i))
+looked : (c : tie.After-is_bad invariant-loop-i decreases-loop-i) → let t = c.before.before.before in
+    c.is_bad.result ≡ is_bad (value_at (values t) (first t +ℤ apart t *ℤ pos t.loop-i.i))
 looked c =
     let i = c.before.before in
-    c.is-bad.ensures ∙ ap (λ (z : ℤ). is_bad (value_at (values i.before) z)) (here i)
+    c.is_bad.ensures ∙ ap (λ (z : ℤ). is_bad (value_at (values i.before) z)) (here i)
 
-add-number : tie.Need-overflow-add-number invariant-loop decreases-loop
-add-number c = let q = c.before.before.before in let t = q.before in omega (arith, (entry t).requires.0, q.loop-test.true)
+overflow_add-number : tie.Need-overflow_add-number invariant-loop-i decreases-loop-i
+overflow_add-number c = let q = c.before.before.before in let t = q.before in omega (arith, (entry t).requires.0, q.loop-i-test.true)
 
-returns : tie.Need-returns invariant-loop decreases-loop
-returns c =
+returns-then-is_bad : tie.Need-returns-then-is_bad invariant-loop-i decreases-loop-i
+returns-then-is_bad c =
     let q = c.before in
     let i = q.before.before in
     let t = i.before in
     let s = entry t in
-    let e = ap (found (s.args.element + t.loop.i)) (here i)
-    ∙ bad-next (values t) (s.args.element + t.loop.i) _ (first t +ℤ apart t *ℤ pos t.loop.i) _
-    (run-next (first t) (apart t) s.args.len t.loop.i i.loop-test.true) _ t.loop.invariant.2 (sym (looked q) ∙ c.if1.true) in
+    let e = ap (found (s.args.element + t.loop-i.i)) (here i)
+    ∙ bad-next (values t) (s.args.element + t.loop-i.i) _ (first t +ℤ apart t *ℤ pos t.loop-i.i) _
+    (run-next (first t) (apart t) s.args.len t.loop-i.i i.loop-i-test.true) _ t.loop-i.invariant.2 (sym (looked q) ∙ c.if-is_bad.true) in
     simp (to_z-of_z s.fits.first, to_z-of_z s.fits.stride) at e
 
-add-i : tie.Need-overflow-add-i invariant-loop decreases-loop
-add-i c = omega arith
+overflow_add-i : tie.Need-overflow_add-i invariant-loop-i decreases-loop-i
+overflow_add-i c = omega arith
 
 -- the place of the next value, and what is left
-next : (c : tie.Else1 invariant-loop decreases-loop) → let t = c.before.before.before.before in
-    to_z w64 t.loop.at +ℤ apart t ≡ first t +ℤ apart t *ℤ pos (t.loop.i + 1)
+next : (c : tie.Else-is_bad invariant-loop-i decreases-loop-i) → let t = c.before.before.before.before in
+    to_z w64 t.loop-i.at-bits +ℤ apart t ≡ first t +ℤ apart t *ℤ pos (t.loop-i.i + 1)
 next c =
     let i = c.before.before.before in
     let t = i.before in
-    ap (λ (z : ℤ). z +ℤ apart t) (here i) ∙ place-next (first t) (apart t) t.loop.i
+    ap (λ (z : ℤ). z +ℤ apart t) (here i) ∙ place-next (first t) (apart t) t.loop-i.i
 
-left : (c : tie.Else1 invariant-loop decreases-loop) → let t = c.before.before.before.before in
-    lowest_bad (values t) ((entry t).args.element + (t.loop.i + 1))
-    (steps (first t +ℤ apart t *ℤ pos (t.loop.i + 1)) (apart t) ((entry t).args.len - (t.loop.i + 1)))
+left : (c : tie.Else-is_bad invariant-loop-i decreases-loop-i) → let t = c.before.before.before.before in
+    lowest_bad (values t) ((entry t).args.element + (t.loop-i.i + 1))
+    (steps (first t +ℤ apart t *ℤ pos (t.loop-i.i + 1)) (apart t) ((entry t).args.len - (t.loop-i.i + 1)))
     ≡ lowest_bad (values t) (entry t).args.element (steps (first t) (apart t) (entry t).args.len)
 left c =
     let q = c.before in
     let i = q.before.before in
     let t = i.before in
     let s = entry t in
-    ap (λ (k : ℕ). lowest_bad (values t) k (steps (first t +ℤ apart t *ℤ pos (t.loop.i + 1)) (apart t) (s.args.len - (t.loop.i + 1))))
-    (let e : s.args.element + (t.loop.i + 1) ≡ s.args.element + t.loop.i + 1 = omega arith in e)
-    ∙ good-next (values t) (s.args.element + t.loop.i) _ (first t +ℤ apart t *ℤ pos t.loop.i) _
-    (run-next (first t) (apart t) s.args.len t.loop.i i.loop-test.true) _ t.loop.invariant.2 (sym (looked q) ∙ c.if1.false)
+    ap (λ (k : ℕ). lowest_bad (values t) k (steps (first t +ℤ apart t *ℤ pos (t.loop-i.i + 1)) (apart t) (s.args.len - (t.loop-i.i + 1))))
+    (let e : s.args.element + (t.loop-i.i + 1) ≡ s.args.element + t.loop-i.i + 1 = omega arith in e)
+    ∙ good-next (values t) (s.args.element + t.loop-i.i) _ (first t +ℤ apart t *ℤ pos t.loop-i.i) _
+    (run-next (first t) (apart t) s.args.len t.loop-i.i i.loop-i-test.true) _ t.loop-i.invariant.2 (sym (looked q) ∙ c.if-is_bad.false)
 
-add_at : tie.Need-overflow-add-at invariant-loop decreases-loop
-add_at c =
+overflow_add-at : tie.Need-overflow_add-at invariant-loop-i decreases-loop-i
+overflow_add-at c =
     let t = c.before.before.before.before.before in
     subst (SFits w64) (sym (next c.before))
-    (place-fits (length (values t)) (first t) (apart t) (entry t).args.len (inside t) (t.loop.i + 1) c.if2.true (omega (arith, (entry t).well-formed.0.1)))
+    (place-fits (length (values t)) (first t) (apart t) (entry t).args.len (inside t) (t.loop-i.i + 1) c.if-i-len.true (omega (arith, (entry t).well_formed.0.1)))
 
-loop-less : tie.Need-loop-smaller invariant-loop decreases-loop
-loop-less c = omega arith
+loop-i-smaller-then-i-len : tie.Need-loop-i-smaller-then-i-len invariant-loop-i decreases-loop-i
+loop-i-smaller-then-i-len c = omega arith
 
-loop-again : tie.Need-loop-preserved invariant-loop decreases-loop
-loop-again c = (omega arith, λ h. to_z-of_z (add_at c) ∙ next c.before, left c.before)
+loop-i-preserved-then-i-len : tie.Need-loop-i-preserved-then-i-len invariant-loop-i decreases-loop-i
+loop-i-preserved-then-i-len c = (omega arith, λ h. to_z-of_z (overflow_add-at c) ∙ next c.before, left c.before)
 
-loop-less-2 : tie.Need-loop-smaller-2 invariant-loop decreases-loop
-loop-less-2 c = omega arith
+loop-i-smaller : tie.Need-loop-i-smaller invariant-loop-i decreases-loop-i
+loop-i-smaller c = omega arith
 
-loop-again-2 : tie.Need-loop-preserved-2 invariant-loop decreases-loop
-loop-again-2 c = (omega arith, λ h. absurd (omega arith), left c.before)
+loop-i-preserved : tie.Need-loop-i-preserved invariant-loop-i decreases-loop-i
+loop-i-preserved c = (omega arith, λ h. absurd (omega arith), left c.before)
 
-none-bad-requires : tie.Need-none-bad-requires invariant-loop decreases-loop
-none-bad-requires c κs = search rules
+none_bad-requires : tie.Need-none_bad-requires invariant-loop-i decreases-loop-i
+none_bad-requires c κs = search rules
 
-returns-2 : tie.Need-returns-2 invariant-loop decreases-loop
-returns-2 c =
+returns : tie.Need-returns invariant-loop-i decreases-loop-i
+returns c =
     let t = c.before.before in
     let s = entry t in
-    let e = c.none-bad.ensures
-    ∙ sym (run-over (values t) (s.args.element + t.loop.i) (first t +ℤ apart t *ℤ pos t.loop.i) (apart t) s.args.len t.loop.i
-    (let h = c.before.loop-test.false in omega arith))
-    ∙ t.loop.invariant.2 in
+    let e = c.none_bad.ensures
+    ∙ sym (run-over (values t) (s.args.element + t.loop-i.i) (first t +ℤ apart t *ℤ pos t.loop-i.i) (apart t) s.args.len t.loop-i.i
+    (let h = c.before.loop-i-test.false in omega arith))
+    ∙ t.loop-i.invariant.2 in
     simp (to_z-of_z s.fits.first, to_z-of_z s.fits.stride) at e
 
-pub look-closer-spec : {M : Type 1} → statement M
-look-closer-spec =
-    tie.close
-    (tie.spec
-    invariant-loop
-    decreases-loop
-    loop-holds
-    cast-index
-    mul-x
-    shared-slice-read-x
-    is-bad-requires
-    add-number
-    returns
-    add-i
-    add_at
-    loop-less
-    loop-again
-    loop-less-2
-    loop-again-2
-    none-bad-requires
-    returns-2)
+pub look_closer_spec : {M : Type 1} → statement M
+look_closer_spec = tie.close (tie.spec invariant-loop-i decreases-loop-i loop-i-init overflow_cast-index offset_bounds-values-index bounds-values-index is_bad-requires overflow_add-number returns-then-is_bad overflow_add-i overflow_add-at loop-i-smaller-then-i-len loop-i-preserved-then-i-len loop-i-smaller loop-i-preserved none_bad-requires returns)

@@ -11,80 +11,71 @@ use Rattle.step_probe.specs.Answers.{bookmark_of, code_handed, mark_handed, piec
 use Rattle.step_probe.proofs.probe_step.Statement.{statement}
 use Rattle.step_probe.proofs.probe_step.Tie as tie
 
-abbrev from-answer : tie.After-reduce-step → tie.Start
+abbrev from-answer : tie.After-reduce_step-answer → tie.Start
 from-answer c = c.before.before.before.before.before
 
 -- the step's answer, over the arguments themselves
-abbrev told : tie.After-reduce-step → Step
+abbrev told : tie.After-reduce_step-answer → Step
 told c =
     let s = from-answer c in
     step_of s.args.sizes.now s.args.strides.now s.args.base s.args.start s.args.end s.args.values.now
     (bookmark_of s.args.next.now s.args.m.now s.args.e.now s.args.bad.now) s.args.n
 
-answered : (c : tie.After-reduce-step) → c.reduce-step.result ≡ told c
+answered : (c : tie.After-reduce_step-answer) → c.reduce_step-answer.result ≡ told c
 answered c =
     let s = from-answer c in
-    let fits : SFits w64 s.args.e.now = record { sfits = c.before.before.given.given } in
-    simp (to_z-of_z s.fits.base, to_z-of_z fits) at c.reduce-step.ensures
+    let fits : SFits w64 s.args.e.now = record { sfits = c.before.before.given-1.given } in
+    simp (to_z-of_z s.fits.base, to_z-of_z fits) at c.reduce_step-answer.ensures
 
-reduce-step-requires : tie.Need-reduce-step-requires
-reduce-step-requires c κs = search rules
+reduce_step-answer-requires : tie.Need-reduce_step-answer-requires
+reduce_step-answer-requires c κs = search rules
 
-enum-known-answer : tie.Need-enum-known-answer
-enum-known-answer c = search rules
+enum_known-answer : tie.Need-enum_known-answer
+enum_known-answer c = search rules
 
-enum-known-answer-2 : tie.Need-enum-known-answer-2
-enum-known-answer-2 c = search rules
+enum_known-answer-in-More-1 : tie.Need-enum_known-answer-in-More-1
+enum_known-answer-in-More-1 c = search rules
 
-enum-known-answer-3 : tie.Need-enum-known-answer-3
-enum-known-answer-3 c = search rules
+enum_known-answer-in-Refused-1 : tie.Need-enum_known-answer-in-Refused-1
+enum_known-answer-in-Refused-1 c = search rules
 
-returns : tie.Need-returns
+returns-in-Done : tie.Need-returns-in-Done
 unfolding code_handed mark_handed pieces_handed done_handed
-returns c =
+returns-in-Done c =
     let a = c.before.before in
     let r = a.before.before in
     let s = from-answer r in
     let mark = bookmark_of s.args.next.now s.args.m.now s.args.e.now s.args.bad.now in
-    let acc = a.answer.given.0.0 in
-    let t = sym a.answer.given.1 ∙ answered r in
-    let fits : SFits w64 acc.e = record { sfits = c.struct_told.given.1.0.1 } in (
+    let acc = a.answer-1.given.0.0 in
+    let t = sym a.answer-1.given.1 ∙ answered r in
+    let fits : SFits w64 acc.e = record { sfits = c.struct_told-1.given.1.0.1 } in (
       ap code_handed t,
       (ap (λ (z : ℤ). bookmark_of s.args.next.now acc.m z acc.bad) (to_z-of_z fits) ∙ ap (mark_handed mark) t, (ap (pieces_handed s.args.pieces.now) t, ap (done_handed s.args.done.now) t)),
     )
 
-returns-2 : tie.Need-returns-2
+returns-in-More : tie.Need-returns-in-More
 unfolding code_handed mark_handed pieces_handed done_handed
-returns-2 c =
+returns-in-More c =
     let a = c.before.before.before in
     let r = a.before.before in
     let s = from-answer r in
     let mark = bookmark_of s.args.next.now s.args.m.now s.args.e.now s.args.bad.now in
-    let to = a.answer2.given.0.0 in
-    let t = sym a.answer2.given.1 ∙ answered r in
-    let fits : SFits w64 to.acc.e = record { sfits = c.struct-told2.given.1.0.1 } in (
+    let to = a.answer-in-More-1.given.0.0 in
+    let t = sym a.answer-in-More-1.given.1 ∙ answered r in
+    let fits : SFits w64 to.acc.e = record { sfits = c.struct_told-in-More-1.given.1.0.1 } in (
       ap code_handed t,
       (ap (λ (z : ℤ). bookmark_of to.next to.acc.m z to.acc.bad) (to_z-of_z fits) ∙ ap (mark_handed mark) t, (ap (pieces_handed s.args.pieces.now) t, ap (done_handed s.args.done.now) t)),
     )
 
-returns-3 : tie.Need-returns-3
+returns-in-Refused : tie.Need-returns-in-Refused
 unfolding code_handed mark_handed pieces_handed done_handed
-returns-3 c =
+returns-in-Refused c =
     let a = c.before in
     let r = a.before.before in
     let s = from-answer r in
     let mark = bookmark_of s.args.next.now s.args.m.now s.args.e.now s.args.bad.now in
-    let t = sym a.answer3.given.1 ∙ answered r in
+    let t = sym a.answer-in-Refused-1.given.1 ∙ answered r in
     (ap code_handed t, (ap (mark_handed mark) t, (ap (pieces_handed s.args.pieces.now) t, ap (done_handed s.args.done.now) t)))
 
-pub probe-step-spec : {M : Type 1} → statement M
-probe-step-spec =
-    tie.close
-    (tie.spec
-    reduce-step-requires
-    enum-known-answer
-    enum-known-answer-2
-    enum-known-answer-3
-    returns
-    returns-2
-    returns-3)
+pub probe_step_spec : {M : Type 1} → statement M
+probe_step_spec = tie.close (tie.spec reduce_step-answer-requires enum_known-answer enum_known-answer-in-More-1 enum_known-answer-in-Refused-1 returns-in-Done returns-in-More returns-in-Refused)

@@ -15,62 +15,49 @@ use Rattle.kernels.specs.InnerLanes.{window}
 use Rattle.windows.proofs.window_at.Statement.{statement}
 use Rattle.windows.proofs.window_at.Tie as tie
 
-mul-split-f64 : tie.Need-overflow-mul-split-f64
-mul-split-f64 c = omega arith
+offset_bounds-eight-i : tie.Need-offset_bounds-eight-i
+offset_bounds-eight-i c = omega arith
 
-element-copy-out-split-f64 : tie.Need-element-copy-out-split-f64
-element-copy-out-split-f64 c = omega arith
+bounds-eight-i : tie.Need-bounds-eight-i
+bounds-eight-i c = omega arith
 
-split-f64-requires : tie.Need-split-f64-requires
-split-f64-requires c κs = search rules
+split_f64-q-requires : tie.Need-split_f64-q-requires
+split_f64-q-requires c κs = search rules
 
-returns : tie.Need-returns
-returns c =
+returns-then-eight : tie.Need-returns-then-eight
+returns-then-eight c =
     let q = c.before in
     let s = q.before.before.before.before in
     let i = s.args.i in
-    let fits : SFits w64 q.split-f64.result.e = record { sfits = c.struct_told.given.1.0.1 } in
-    ap (λ (z : ℤ). record { m = q.split-f64.result.m; e = z; bad = false }) (to_z-of_z w64 q.split-f64.result.e fits)
-    ∙ ap (λ (p : Split). record { m = p.m; e = p.e; bad = false }) q.split-f64.ensures
-    ∙ s.requires.3 q.before.before.if1.true (i % 8) (omega arith)
+    let fits : SFits w64 q.split_f64-q.result.e = record { sfits = c.struct_told-1.given.1.0.1 } in
+    ap (λ (z : ℤ). record { m = q.split_f64-q.result.m; e = z; bad = false }) (to_z-of_z w64 q.split_f64-q.result.e fits)
+    ∙ ap (λ (p : Split). record { m = p.m; e = p.e; bad = false }) q.split_f64-q.ensures
+    ∙ s.requires.3 q.before.before.if-eight.true (i % 8) (omega arith)
     ∙ ap (λ (k : ℕ). contiguous (window s.args.values.now k s.args.w)) (let e : i - i % 8 + i % 8 ≡ i = omega arith in e)
 
-add-stable-float-contiguous : tie.Need-overflow-add-stable-float-contiguous
-add-stable-float-contiguous c = search rules
+overflow_add-i : tie.Need-overflow_add-i
+overflow_add-i c = search rules
 
-mul-stable-float-contiguous : tie.Need-overflow-mul-stable-float-contiguous
-mul-stable-float-contiguous c = search rules
+offset_bounds-values-i : tie.Need-offset_bounds-values-i
+offset_bounds-values-i c = search rules
 
-sub-stable-float-contiguous : tie.Need-overflow-sub-stable-float-contiguous
-sub-stable-float-contiguous c = search rules
+slice_bounds-stable_float_contiguous-count : tie.Need-slice_bounds-stable_float_contiguous-count
+slice_bounds-stable_float_contiguous-count c = search rules
 
-part-stable-float-contiguous-start : tie.Need-slice-bounds-stable-float-contiguous-start
-part-stable-float-contiguous-start c = search rules
+slice_bounds-stable_float_contiguous-start : tie.Need-slice_bounds-stable_float_contiguous-start
+slice_bounds-stable_float_contiguous-start c = search rules
 
-part-stable-float-contiguous-end : tie.Need-slice-bounds-stable-float-contiguous-end
-part-stable-float-contiguous-end c = search rules
+slice_bounds-stable_float_contiguous-end : tie.Need-slice_bounds-stable_float_contiguous-end
+slice_bounds-stable_float_contiguous-end c = search rules
 
-stable-float-contiguous-requires : tie.Need-stable-float-contiguous-requires
-stable-float-contiguous-requires c κs = search rules
+stable_float_contiguous-requires : tie.Need-stable_float_contiguous-requires
+stable_float_contiguous-requires c κs = search rules
 
-returns-2 : tie.Need-returns-2
-returns-2 c =
+returns : tie.Need-returns
+returns c =
     let s = c.before.before.before.before in
-    c.stable-float-contiguous.ensures
+    c.stable_float_contiguous.ensures
     ∙ ap (λ (n : ℕ). contiguous (take n (drop s.args.i s.args.values.now))) (let e : s.args.i + s.args.w - s.args.i ≡ s.args.w = omega arith in e)
 
-pub window-at-spec : {M : Type 1} → statement M
-window-at-spec =
-    tie.close
-    (tie.spec
-    mul-split-f64
-    element-copy-out-split-f64
-    split-f64-requires
-    returns
-    add-stable-float-contiguous
-    mul-stable-float-contiguous
-    sub-stable-float-contiguous
-    part-stable-float-contiguous-start
-    part-stable-float-contiguous-end
-    stable-float-contiguous-requires
-    returns-2)
+pub window_at_spec : {M : Type 1} → statement M
+window_at_spec = tie.close (tie.spec offset_bounds-eight-i bounds-eight-i split_f64-q-requires returns-then-eight overflow_add-i offset_bounds-values-i slice_bounds-stable_float_contiguous-count slice_bounds-stable_float_contiguous-start slice_bounds-stable_float_contiguous-end stable_float_contiguous-requires returns)

@@ -3,26 +3,26 @@ use Rattle.windows.proofs.Codes.{code-none, code-past, code-many, code-short-m, 
 use Rattle.windows.proofs.windows_code.Statement.{statement}
 use Rattle.windows.proofs.windows_code.Tie as tie
 
+returns-then-w-eq0 : tie.Need-returns-then-w-eq0
+returns-then-w-eq0 c = code-none _ _ _ _ _ c.if-w-eq0.true
+
+returns-then-len-w : tie.Need-returns-then-len-w
+returns-then-len-w c = code-past _ _ _ _ _ c.if-len-w.true
+
+returns-then-w-gt-MOST_RATES : tie.Need-returns-then-w-gt-MOST_RATES
+returns-then-w-gt-MOST_RATES c = code-many _ _ _ _ _ c.before.before.if-w-eq0.false c.before.if-len-w.false c.if-w-gt-MOST_RATES.true
+
+returns-then-ms-last : tie.Need-returns-then-ms-last
+returns-then-ms-last c = code-short-m _ _ _ _ _ c.before.before.before.if-w-eq0.false c.before.before.if-len-w.false c.before.if-w-gt-MOST_RATES.false c.if-ms-last.true
+
+returns-then-es-last : tie.Need-returns-then-es-last
+returns-then-es-last c = code-short-e _ _ _ _ _ c.before.before.before.before.if-w-eq0.false c.before.before.before.if-len-w.false c.before.before.if-w-gt-MOST_RATES.false c.before.if-ms-last.false c.if-es-last.true
+
+returns-then-bads-last : tie.Need-returns-then-bads-last
+returns-then-bads-last c = code-short-bad _ _ _ _ _ c.before.before.before.before.before.if-w-eq0.false c.before.before.before.before.if-len-w.false c.before.before.before.if-w-gt-MOST_RATES.false c.before.before.if-ms-last.false c.before.if-es-last.false c.if-bads-last.true
+
 returns : tie.Need-returns
-returns c = code-none _ _ _ _ _ c.if1.true
+returns c = code_ok _ _ _ _ _ c.before.before.before.before.before.if-w-eq0.false c.before.before.before.before.if-len-w.false c.before.before.before.if-w-gt-MOST_RATES.false c.before.before.if-ms-last.false c.before.if-es-last.false c.if-bads-last.false
 
-returns-2 : tie.Need-returns-2
-returns-2 c = code-past _ _ _ _ _ c.if2.true
-
-returns-3 : tie.Need-returns-3
-returns-3 c = code-many _ _ _ _ _ c.before.before.if1.false c.before.if2.false c.if3.true
-
-returns-4 : tie.Need-returns-4
-returns-4 c = code-short-m _ _ _ _ _ c.before.before.before.if1.false c.before.before.if2.false c.before.if3.false c.if4.true
-
-returns-5 : tie.Need-returns-5
-returns-5 c = code-short-e _ _ _ _ _ c.before.before.before.before.if1.false c.before.before.before.if2.false c.before.before.if3.false c.before.if4.false c.if5.true
-
-returns-6 : tie.Need-returns-6
-returns-6 c = code-short-bad _ _ _ _ _ c.before.before.before.before.before.if1.false c.before.before.before.before.if2.false c.before.before.before.if3.false c.before.before.if4.false c.before.if5.false c.if6.true
-
-returns-7 : tie.Need-returns-7
-returns-7 c = code_ok _ _ _ _ _ c.before.before.before.before.before.if1.false c.before.before.before.before.if2.false c.before.before.before.if3.false c.before.before.if4.false c.before.if5.false c.if6.false
-
-pub windows-code-spec : {M : Type 1} → statement M
-windows-code-spec = tie.close (tie.spec returns returns-2 returns-3 returns-4 returns-5 returns-6 returns-7)
+pub windows_code_spec : {M : Type 1} → statement M
+windows_code_spec = tie.close (tie.spec returns-then-w-eq0 returns-then-len-w returns-then-w-gt-MOST_RATES returns-then-ms-last returns-then-es-last returns-then-bads-last returns)

@@ -3,20 +3,20 @@ use borrow.Author.Rules.{rules}
 use Rattle.windows_probe.proofs.probe_windows.Statement.{statement}
 use Rattle.windows_probe.proofs.probe_windows.Tie as tie
 
-reduce-windows-requires : tie.Need-reduce-windows-requires
-reduce-windows-requires c κs = search rules
+reduce_windows-requires : tie.Need-reduce_windows-requires
+reduce_windows-requires c κs = search rules
 
-same_length : tie.Need-same-length
-same_length c = search rules
+shape_of-ms : tie.Need-shape_of-ms
+shape_of-ms c = search rules
 
-same-length-2 : tie.Need-same-length-2
-same-length-2 c = search rules
+shape_of-es : tie.Need-shape_of-es
+shape_of-es c = search rules
 
-same-length-3 : tie.Need-same-length-3
-same-length-3 c = search rules
+shape_of-bads : tie.Need-shape_of-bads
+shape_of-bads c = search rules
 
 returns : tie.Need-returns
-returns c = c.before.before.before.before.before.reduce-windows.ensures
+returns c = c.before.before.before.before.before.reduce_windows.ensures
 
-pub probe-windows-spec : {M : Type 1} → statement M
-probe-windows-spec = tie.close (tie.spec reduce-windows-requires same_length same-length-2 same-length-3 returns)
+pub probe_windows_spec : {M : Type 1} → statement M
+probe_windows_spec = tie.close (tie.spec reduce_windows-requires shape_of-ms shape_of-es shape_of-bads returns)

@@ -10,24 +10,24 @@ use Rattle.jobs.proofs.Laying.{fewest-one, two-payloads, three-payloads}
 use Rattle.jobs.proofs.numbers.bytes_of.Statement.{statement}
 use Rattle.jobs.proofs.numbers.bytes_of.Tie as tie
 
+returns-then-n-lt-PAYLOADS : tie.Need-returns-then-n-lt-PAYLOADS
+returns-then-n-lt-PAYLOADS c = sym (ap (λ (ps : List ℕ). 4 * length ps) (fewest-one 1 c.before.args.n c.if-n-lt-PAYLOADS.true))
+
+overflow_mul-result : tie.Need-overflow_mul-result
+overflow_mul-result c = search rules
+
+returns-then-n-lt-TWO_PAYLOADS : tie.Need-returns-then-n-lt-TWO_PAYLOADS
+returns-then-n-lt-TWO_PAYLOADS c =
+    let n = c.before.before.args.n in
+    sym (ap (λ (ps : List ℕ). 4 * length ps) (two-payloads n c.before.if-n-lt-PAYLOADS.false (omega (arith, c.if-n-lt-TWO_PAYLOADS.true))))
+
+overflow_mul-result-2 : tie.Need-overflow_mul-result-2
+overflow_mul-result-2 c = search rules
+
 returns : tie.Need-returns
-returns c = sym (ap (λ (ps : List ℕ). 4 * length ps) (fewest-one 1 c.before.args.n c.if1.true))
-
-mul-result : tie.Need-overflow-mul-result
-mul-result c = search rules
-
-returns-2 : tie.Need-returns-2
-returns-2 c =
+returns c =
     let n = c.before.before.args.n in
-    sym (ap (λ (ps : List ℕ). 4 * length ps) (two-payloads n c.before.if1.false (omega (arith, c.if2.true))))
+    sym (ap (λ (ps : List ℕ). 4 * length ps) (three-payloads n c.before.if-n-lt-PAYLOADS.false (omega (arith, c.if-n-lt-TWO_PAYLOADS.false))))
 
-mul-result-2 : tie.Need-overflow-mul-result-2
-mul-result-2 c = search rules
-
-returns-3 : tie.Need-returns-3
-returns-3 c =
-    let n = c.before.before.args.n in
-    sym (ap (λ (ps : List ℕ). 4 * length ps) (three-payloads n c.before.if1.false (omega (arith, c.if2.false))))
-
-pub bytes-of-spec : {M : Type 1} → statement M
-bytes-of-spec = tie.close (tie.spec returns mul-result returns-2 mul-result-2 returns-3)
+pub bytes_of_spec : {M : Type 1} → statement M
+bytes_of_spec = tie.close (tie.spec returns-then-n-lt-PAYLOADS overflow_mul-result returns-then-n-lt-TWO_PAYLOADS overflow_mul-result-2 returns)

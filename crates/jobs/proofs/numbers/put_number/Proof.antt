@@ -12,122 +12,103 @@ use Rattle.jobs.proofs.Laying.{first-room, second-room, third-room, put_one, put
 use Rattle.jobs.proofs.numbers.put_number.Statement.{statement}
 use Rattle.jobs.proofs.numbers.put_number.Tie as tie
 
-put-word-requires : tie.Need-put-word-requires
-put-word-requires c κs =
+put_word-requires : tie.Need-put_word-requires
+put_word-requires c κs =
     let s = c.before.before in
     (omega (arith, s.requires.0, first-room s.args.kind s.args.n), s.requires.1, omega arith)
 
-add-result : tie.Need-overflow-add-result
-add-result c = search rules
+overflow_add-result : tie.Need-overflow_add-result
+overflow_add-result c = search rules
 
-same_length : tie.Need-same-length
-same_length c = search rules
+shape_of-out-then-n-lt-PAYLOADS : tie.Need-shape_of-out-then-n-lt-PAYLOADS
+shape_of-out-then-n-lt-PAYLOADS c = search rules
 
-returns : tie.Need-returns
-returns c =
+returns-then-n-lt-PAYLOADS : tie.Need-returns-then-n-lt-PAYLOADS
+returns-then-n-lt-PAYLOADS c =
     let p = c.before.before.before in
     let s = p.before.before.before in
-    put_one s.args.out.now s.args.at s.args.kind s.args.n c.if1.true _ p.put_word.ensures
+    put_one s.args.out.now s.args.at s.args.kind s.args.n c.if-n-lt-PAYLOADS.true _ p.put_word.ensures
 
-add-put-word : tie.Need-overflow-add-put-word
-add-put-word c = search rules
+overflow_add-at : tie.Need-overflow_add-at
+overflow_add-at c = search rules
 
 -- the length stays
-long : (p : tie.After-put-word) → length p.put_word.new.0 ≡ length p.before.before.before.args.out.now
+long : (p : tie.After-put_word) → length p.put_word.new.0 ≡ length p.before.before.before.args.out.now
 long p =
     let s = p.before.before.before in
     ap length p.put_word.ensures ∙ length-sets s.args.out.now s.args.at (bytes_of (word_of s.args.kind (s.args.n % 2 ^ 29)))
 
-put-word-requires-2 : tie.Need-put-word-requires-2
-put-word-requires-2 c κs =
+put_word-requires-2 : tie.Need-put_word-requires-2
+put_word-requires-2 c κs =
     let i = c.before in
     let p = i.before.before.before in
     let s = p.before.before.before in
-    (omega (arith, s.requires.0, second-room s.args.kind s.args.n i.if1.false, long p), omega arith, omega arith)
+    (omega (arith, s.requires.0, second-room s.args.kind s.args.n i.if-n-lt-PAYLOADS.false, long p), omega arith, omega arith)
 
-mul-result : tie.Need-overflow-mul-result
-mul-result c = search rules
+overflow_mul-result : tie.Need-overflow_mul-result
+overflow_mul-result c = search rules
 
-add-result-2 : tie.Need-overflow-add-result-2
-add-result-2 c = search rules
+overflow_add-result-then-high-lt-PAYLOADS : tie.Need-overflow_add-result-then-high-lt-PAYLOADS
+overflow_add-result-then-high-lt-PAYLOADS c = search rules
 
-same-length-2 : tie.Need-same-length-2
-same-length-2 c = search rules
+shape_of-out-then-high-lt-PAYLOADS : tie.Need-shape_of-out-then-high-lt-PAYLOADS
+shape_of-out-then-high-lt-PAYLOADS c = search rules
 
 -- the buffer behind the second word, and its length
-second : (q : tie.After-put-word2) → let s = q.before.before.before.before.before.before.before.before in
-    q.put-word2.new.0
+second : (q : tie.After-put_word-2) → let s = q.before.before.before.before.before.before.before.before in
+    q.put_word-2.new.0
     ≡ sets (sets s.args.out.now s.args.at (bytes_of (word_of s.args.kind (s.args.n % 2 ^ 29)))) (s.args.at + 4)
     (bytes_of (word_of MORE (s.args.n / 2 ^ 29 % 2 ^ 29)))
 second q =
     let p = q.before.before.before.before.before in
     let s = p.before.before.before in
-    q.put-word2.ensures ∙ ap (λ (l : List ℕ). sets l (s.args.at + 4) (bytes_of (word_of MORE (s.args.n / 2 ^ 29 % 2 ^ 29)))) p.put_word.ensures
+    q.put_word-2.ensures ∙ ap (λ (l : List ℕ). sets l (s.args.at + 4) (bytes_of (word_of MORE (s.args.n / 2 ^ 29 % 2 ^ 29)))) p.put_word.ensures
 
-long-2 : (q : tie.After-put-word2) → length q.put-word2.new.0 ≡ length q.before.before.before.before.before.before.before.before.args.out.now
+long-2 : (q : tie.After-put_word-2) → length q.put_word-2.new.0 ≡ length q.before.before.before.before.before.before.before.before.args.out.now
 long-2 q =
     let p = q.before.before.before.before.before in
     let s = p.before.before.before in
-    ap length q.put-word2.ensures
+    ap length q.put_word-2.ensures
     ∙ length-sets p.put_word.new.0 (s.args.at + 4) (bytes_of (word_of MORE (s.args.n / 2 ^ 29 % 2 ^ 29)))
     ∙ long p
 
-returns-2 : tie.Need-returns-2
-returns-2 c =
+returns-then-high-lt-PAYLOADS : tie.Need-returns-then-high-lt-PAYLOADS
+returns-then-high-lt-PAYLOADS c =
     let q = c.before.before.before in
     let i = q.before.before in
     let s = i.before.before.before.before.before.before in
-    put_two s.args.out.now s.args.at s.args.kind s.args.n i.if1.false c.if2.true _ (second q)
+    put_two s.args.out.now s.args.at s.args.kind s.args.n i.if-n-lt-PAYLOADS.false c.if-high-lt-PAYLOADS.true _ (second q)
 
-mul-put-word : tie.Need-overflow-mul-put-word
-mul-put-word c = search rules
+overflow_mul-put_word : tie.Need-overflow_mul-put_word
+overflow_mul-put_word c = search rules
 
-add-put-word-2 : tie.Need-overflow-add-put-word-2
-add-put-word-2 c = search rules
+overflow_add-at-2 : tie.Need-overflow_add-at-2
+overflow_add-at-2 c = search rules
 
-put-word-requires-3 : tie.Need-put-word-requires-3
-put-word-requires-3 c κs =
+put_word-requires-3 : tie.Need-put_word-requires-3
+put_word-requires-3 c κs =
     let q = c.before.before.before.before in
     let i = q.before.before in
     let s = i.before.before.before.before.before.before in
-    (omega (arith, s.requires.0, third-room s.args.kind s.args.n i.if1.false c.before.if2.false, long-2 q), omega arith, omega (arith, s.ranges.n))
+    (omega (arith, s.requires.0, third-room s.args.kind s.args.n i.if-n-lt-PAYLOADS.false c.before.if-high-lt-PAYLOADS.false, long-2 q), omega arith, omega (arith, s.ranges.n))
 
-mul-result-2 : tie.Need-overflow-mul-result-2
-mul-result-2 c = search rules
+overflow_mul-result-2 : tie.Need-overflow_mul-result-2
+overflow_mul-result-2 c = search rules
 
-add-result-3 : tie.Need-overflow-add-result-3
-add-result-3 c = search rules
+overflow_add-result-2 : tie.Need-overflow_add-result-2
+overflow_add-result-2 c = search rules
 
-same-length-3 : tie.Need-same-length-3
-same-length-3 c = search rules
+shape_of-out : tie.Need-shape_of-out
+shape_of-out c = search rules
 
-returns-3 : tie.Need-returns-3
-returns-3 c =
+returns : tie.Need-returns
+returns c =
     let r = c.before.before in
     let q = r.before.before.before.before.before in
     let i = q.before.before in
     let s = i.before.before.before.before.before.before in
-    put_three s.args.out.now s.args.at s.args.kind s.args.n i.if1.false r.before.before.if2.false _
-    (r.put-word3.ensures ∙ ap (λ (l : List ℕ). sets l (s.args.at + 8) (bytes_of (word_of MORE (s.args.n / 2 ^ 29 / 2 ^ 29)))) (second q))
+    put_three s.args.out.now s.args.at s.args.kind s.args.n i.if-n-lt-PAYLOADS.false r.before.before.if-high-lt-PAYLOADS.false _
+    (r.put_word-3.ensures ∙ ap (λ (l : List ℕ). sets l (s.args.at + 8) (bytes_of (word_of MORE (s.args.n / 2 ^ 29 / 2 ^ 29)))) (second q))
 
-pub put-number-spec : {M : Type 1} → statement M
-put-number-spec =
-    tie.close
-    (tie.spec
-    put-word-requires
-    add-result
-    same_length
-    returns
-    add-put-word
-    put-word-requires-2
-    mul-result
-    add-result-2
-    same-length-2
-    returns-2
-    mul-put-word
-    add-put-word-2
-    put-word-requires-3
-    mul-result-2
-    add-result-3
-    same-length-3
-    returns-3)
+pub put_number_spec : {M : Type 1} → statement M
+put_number_spec = tie.close (tie.spec put_word-requires overflow_add-result shape_of-out-then-n-lt-PAYLOADS returns-then-n-lt-PAYLOADS overflow_add-at put_word-requires-2 overflow_mul-result overflow_add-result-then-high-lt-PAYLOADS shape_of-out-then-high-lt-PAYLOADS returns-then-high-lt-PAYLOADS overflow_mul-put_word overflow_add-at-2 put_word-requires-3 overflow_mul-result-2 overflow_add-result-2 shape_of-out returns)

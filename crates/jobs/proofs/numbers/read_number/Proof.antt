@@ -9,47 +9,39 @@ use Rattle.jobs.proofs.Parts.{whole, number-none, number-begins}
 use Rattle.jobs.proofs.numbers.read_number.Statement.{statement}
 use Rattle.jobs.proofs.numbers.read_number.Tie as tie
 
-word-at-requires : tie.Need-word-at-requires
-word-at-requires c κs = search rules
+word_at-w-requires : tie.Need-word_at-w-requires
+word_at-w-requires c κs = search rules
 
 refused-requires : tie.Need-refused-requires
 refused-requires c κs = search rules
 
-returns : tie.Need-returns
+returns-then-w-kind : tie.Need-returns-then-w-kind
 unfolding number_told
-returns c =
+returns-then-w-kind c =
     let s = c.before.before.before.before in
     let r = c.refused.ensures in (
       ap (number_told s.args.bytes.now) r
-          ∙ number-none s.args.bytes.now s.args.at _ c.before.before.word_at.ensures s.args.kind c.before.if1.true,
+          ∙ number-none s.args.bytes.now s.args.at _ c.before.before.word_at-w.ensures s.args.kind c.before.if-w-kind.true,
       omega (arith, ap (λ (x : Number). x.next) r),
     )
 
-add-second-word : tie.Need-overflow-add-second-word
-add-second-word c = search rules
+overflow_add-at : tie.Need-overflow_add-at
+overflow_add-at c = search rules
 
-second-word-requires : tie.Need-second-word-requires
-second-word-requires c κs =
+second_word-requires : tie.Need-second_word-requires
+second_word-requires c κs =
     let s = c.before.before.before in (
-      whole s.args.bytes.now s.args.at _ c.before.word_at.ensures s.args.kind s.requires.1 s.requires.0 c.if1.false,
+      whole s.args.bytes.now s.args.at _ c.before.word_at-w.ensures s.args.kind s.requires.1 s.requires.0 c.if-w-kind.false,
       omega arith,
     )
 
-returns-2 : tie.Need-returns-2
-returns-2 c =
+returns : tie.Need-returns
+returns c =
     let s = c.before.before.before.before in (
       c.second_word.ensures.0
-          ∙ number-begins s.args.bytes.now s.args.at _ c.before.before.word_at.ensures s.args.kind c.before.if1.false,
+          ∙ number-begins s.args.bytes.now s.args.at _ c.before.before.word_at-w.ensures s.args.kind c.before.if-w-kind.false,
       c.second_word.ensures.1,
     )
 
-pub read-number-spec : {M : Type 1} → statement M
-read-number-spec =
-    tie.close
-    (tie.spec
-    word-at-requires
-    refused-requires
-    returns
-    add-second-word
-    second-word-requires
-    returns-2)
+pub read_number_spec : {M : Type 1} → statement M
+read_number_spec = tie.close (tie.spec word_at-w-requires refused-requires returns-then-w-kind overflow_add-at second_word-requires returns)

@@ -13,34 +13,33 @@ use Rattle.jobs.proofs.Coding.{sent-negative, sent-other, negative-some, other_f
 use Rattle.jobs.proofs.numbers.sent.Statement.{statement}
 use Rattle.jobs.proofs.numbers.sent.Tie as tie
 
-magnitude-requires : tie.Need-magnitude-requires
-magnitude-requires c κs = search rules
+magnitude-m-requires : tie.Need-magnitude-m-requires
+magnitude-m-requires c κs = search rules
 
 -- the magnitude, over the argument itself
-magnitude-is : (c : tie.After-magnitude) → c.magnitude.result ≡ nat_abs c.before.args.x
-magnitude-is c = simp (to_z-of_z c.before.ranges.x) at c.magnitude.ensures
+magnitude-is : (c : tie.After-magnitude-m) → c.magnitude-m.result ≡ nat_abs c.before.args.x
+magnitude-is c = simp (to_z-of_z c.before.ranges.x) at c.magnitude-m.ensures
 
-below : (c : tie.Then1) → lt_z c.before.before.args.x (pos 0) ≡ true
-below c = simp (to_z-of_z c.before.before.ranges.x) at c.if1.true
+below : (c : tie.Then-x-lt0) → lt_z c.before.before.args.x (pos 0) ≡ true
+below c = simp (to_z-of_z c.before.before.ranges.x) at c.if-x-lt0.true
 
-other : (c : tie.Else1) → lt_z c.before.before.args.x (pos 0) ≡ false
-other c = simp (to_z-of_z c.before.before.ranges.x) at c.if1.false
+other : (c : tie.Else-x-lt0) → lt_z c.before.before.args.x (pos 0) ≡ false
+other c = simp (to_z-of_z c.before.before.ranges.x) at c.if-x-lt0.false
 
-sub-result : tie.Need-overflow-sub-result
-sub-result c = omega (arith, magnitude-is c.before, negative-some c.before.before.args.x (below c))
+overflow_sub-result : tie.Need-overflow_sub-result
+overflow_sub-result c = omega (arith, magnitude-is c.before, negative-some c.before.before.args.x (below c))
 
-add-result : tie.Need-overflow-add-result
-add-result c = let s = c.before.before in omega (arith, magnitude-is c.before, nat_abs-fits s.args.x s.ranges.x)
+overflow_add-result : tie.Need-overflow_add-result
+overflow_add-result c = let s = c.before.before in omega (arith, magnitude-is c.before, nat_abs-fits s.args.x s.ranges.x)
+
+returns-then-x-lt0 : tie.Need-returns-then-x-lt0
+returns-then-x-lt0 c = ap (λ (m : ℕ). m + (m - 1)) (magnitude-is c.before) ∙ sent-negative c.before.before.args.x (below c)
+
+overflow_add-result-2 : tie.Need-overflow_add-result-2
+overflow_add-result-2 c = let s = c.before.before in omega (arith, magnitude-is c.before, other_fits s.args.x s.ranges.x (other c))
 
 returns : tie.Need-returns
-returns c = ap (λ (m : ℕ). m + (m - 1)) (magnitude-is c.before) ∙ sent-negative c.before.before.args.x (below c)
+returns c = ap (λ (m : ℕ). m + m) (magnitude-is c.before) ∙ sent-other c.before.before.args.x (other c)
 
-add-result-2 : tie.Need-overflow-add-result-2
-add-result-2 c = let s = c.before.before in omega (arith, magnitude-is c.before, other_fits s.args.x s.ranges.x (other c))
-
-returns-2 : tie.Need-returns-2
-returns-2 c = ap (λ (m : ℕ). m + m) (magnitude-is c.before) ∙ sent-other c.before.before.args.x (other c)
-
-pub sent-spec : {M : Type 1} → statement M
-sent-spec =
-    tie.close (tie.spec magnitude-requires sub-result add-result returns add-result-2 returns-2)
+pub sent_spec : {M : Type 1} → statement M
+sent_spec = tie.close (tie.spec magnitude-m-requires overflow_sub-result overflow_add-result returns-then-x-lt0 overflow_add-result-2 returns)

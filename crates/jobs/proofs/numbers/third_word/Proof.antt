@@ -12,108 +12,93 @@ use Rattle.jobs.proofs.Parts.{whole, further-ends, further-none-allowed, further
 use Rattle.jobs.proofs.numbers.third_word.Statement.{statement}
 use Rattle.jobs.proofs.numbers.third_word.Tie as tie
 
-word-at-requires : tie.Need-word-at-requires
-word-at-requires c κs = search rules
+word_at-w-requires : tie.Need-word_at-w-requires
+word_at-w-requires c κs = search rules
 
 read-requires : tie.Need-read-requires
 read-requires c κs = search rules
 
-returns : tie.Need-returns
+returns-then-w-ne-MORE : tie.Need-returns-then-w-ne-MORE
 unfolding number_told
-returns c =
+returns-then-w-ne-MORE c =
     let s = c.before.before.before.before in
     let r = c.read.ensures in (
       ap (number_told s.args.bytes.now) r
-          ∙ further-ends s.args.bytes.now s.args.at _ c.before.before.word_at.ensures (2 ^ 58) s.args.low 1
-          c.before.if1.true,
+          ∙ further-ends s.args.bytes.now s.args.at _ c.before.before.word_at-w.ensures (2 ^ 58) s.args.low 1
+          c.before.if-w-ne-MORE.true,
       omega (arith, ap (λ (x : Number). x.next) r, s.requires.0),
     )
 
 refused-requires : tie.Need-refused-requires
 refused-requires c κs = search rules
 
-returns-2 : tie.Need-returns-2
+returns-then-w-ge-TOP_PAYLOADS : tie.Need-returns-then-w-ge-TOP_PAYLOADS
 unfolding number_told
-returns-2 c =
+returns-then-w-ge-TOP_PAYLOADS c =
     let s = c.before.before.before.before.before in
     let w = c.before.before.before in
     let r = c.refused.ensures in (
       ap (number_told s.args.bytes.now) r
-          ∙ further-too-long s.args.bytes.now s.args.at _ w.word_at.ensures (2 ^ 58) s.args.low 0 c.before.before.if1.false
-          (omega (arith, c.before.if2.true)),
+          ∙ further-too-long s.args.bytes.now s.args.at _ w.word_at-w.ensures (2 ^ 58) s.args.low 0 c.before.before.if-w-ne-MORE.false
+          (omega (arith, c.before.if-w-ge-TOP_PAYLOADS.true)),
       omega (arith, ap (λ (x : Number). x.next) r),
     )
 
-add-next : tie.Need-overflow-add-next
-add-next c = search rules
+overflow_add-next : tie.Need-overflow_add-next
+overflow_add-next c = search rules
 
 -- the number with the second word behind the first
-with-word : (c : tie.After-word-at2) → let s = c.before.before.before.before.before in let w = c.before.before.before in
-    further 0 (2 ^ 87) (s.args.low + 2 ^ 58 * (w.word_at.result % 2 ^ 29)) (drop (s.args.at + 4) s.args.bytes.now)
+with-word : (c : tie.After-word_at-v) → let s = c.before.before.before.before.before in let w = c.before.before.before in
+    further 0 (2 ^ 87) (s.args.low + 2 ^ 58 * (w.word_at-w.result % 2 ^ 29)) (drop (s.args.at + 4) s.args.bytes.now)
     ≡ further 1 (2 ^ 58) s.args.low (drop s.args.at s.args.bytes.now)
 with-word c =
     let s = c.before.before.before.before.before in
     let w = c.before.before.before in
-    further-goes-on s.args.bytes.now s.args.at _ w.word_at.ensures (2 ^ 58) s.args.low 0 c.before.before.if1.false
-    (omega (arith, c.before.if2.false, s.requires.1))
+    further-goes-on s.args.bytes.now s.args.at _ w.word_at-w.ensures (2 ^ 58) s.args.low 0 c.before.before.if-w-ne-MORE.false
+    (omega (arith, c.before.if-w-ge-TOP_PAYLOADS.false, s.requires.1))
 
-word-at-requires-2 : tie.Need-word-at-requires-2
-word-at-requires-2 c κs =
+word_at-v-requires : tie.Need-word_at-v-requires
+word_at-v-requires c κs =
     let s = c.before.before.before.before in
-    whole s.args.bytes.now s.args.at _ c.before.before.word_at.ensures 0 (omega arith) s.requires.0 c.before.if1.false
+    whole s.args.bytes.now s.args.at _ c.before.before.word_at-w.ensures 0 (omega arith) s.requires.0 c.before.if-w-ne-MORE.false
 
-refused-requires-2 : tie.Need-refused-requires-2
-refused-requires-2 c κs = search rules
+refused-requires-then-v-eq-MORE : tie.Need-refused-requires-then-v-eq-MORE
+refused-requires-then-v-eq-MORE c κs = search rules
 
-returns-3 : tie.Need-returns-3
+returns-then-v-eq-MORE : tie.Need-returns-then-v-eq-MORE
 unfolding number_told
-returns-3 c =
+returns-then-v-eq-MORE c =
     let v = c.before.before in
     let s = v.before.before.before.before.before in
-    let r = c.refused2.ensures in (
+    let r = c.refused-then-v-eq-MORE.ensures in (
       ap (number_told s.args.bytes.now) r
-          ∙ further-none-allowed s.args.bytes.now (s.args.at + 4) _ v.word-at2.ensures (2 ^ 87) _ c.before.if3.true
+          ∙ further-none-allowed s.args.bytes.now (s.args.at + 4) _ v.word_at-v.ensures (2 ^ 87) _ c.before.if-v-eq-MORE.true
           ∙ with-word v,
       omega (arith, ap (λ (x : Number). x.next) r),
     )
 
-mul-read : tie.Need-overflow-mul-read
-mul-read c = search rules
+overflow_mul-w : tie.Need-overflow_mul-w
+overflow_mul-w c = search rules
 
-add_read : tie.Need-overflow-add-read
-add_read c = search rules
+overflow_add-low : tie.Need-overflow_add-low
+overflow_add-low c = search rules
 
 read-requires-2 : tie.Need-read-requires-2
 read-requires-2 c κs = search rules
 
-returns-4 : tie.Need-returns-4
+returns : tie.Need-returns
 unfolding number_told
-returns-4 c =
+returns c =
     let v = c.before.before in
     let s = v.before.before.before.before.before in
     let w = v.before.before.before in
-    let r = c.read2.ensures in
-    let n = whole s.args.bytes.now s.args.at _ w.word_at.ensures 0 (omega arith) s.requires.0 v.before.before.if1.false in (
+    let r = c.read-2.ensures in
+    let n = whole s.args.bytes.now s.args.at _ w.word_at-w.ensures 0 (omega arith) s.requires.0 v.before.before.if-w-ne-MORE.false in (
       ap (number_told s.args.bytes.now) r
-          ∙ further-ends s.args.bytes.now (s.args.at + 4) _ v.word-at2.ensures (2 ^ 87) _ 0 c.before.if3.false
+          ∙ further-ends s.args.bytes.now (s.args.at + 4) _ v.word_at-v.ensures (2 ^ 87) _ 0 c.before.if-v-eq-MORE.false
           ∙ with-word v,
       omega (arith, ap (λ (x : Number). x.next) r),
     )
 
-pub third-word-spec : {M : Type 1} → statement M
-third-word-spec =
-    tie.close
-    (tie.spec
-    word-at-requires
-    read-requires
-    returns
-    refused-requires
-    returns-2
-    add-next
-    word-at-requires-2
-    refused-requires-2
-    returns-3
-    mul-read
-    add_read
-    read-requires-2
-    returns-4)
+pub third_word_spec : {M : Type 1} → statement M
+third_word_spec = tie.close (tie.spec word_at-w-requires read-requires returns-then-w-ne-MORE refused-requires returns-then-w-ge-TOP_PAYLOADS overflow_add-next word_at-v-requires refused-requires-then-v-eq-MORE returns-then-v-eq-MORE overflow_mul-w overflow_add-low read-requires-2 returns)

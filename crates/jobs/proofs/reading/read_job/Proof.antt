@@ -17,199 +17,173 @@ use Rattle.jobs.proofs.Stepping.{range-refused, range-read, axes-record}
 use Rattle.jobs.proofs.reading.read_job.Statement.{statement}
 use Rattle.jobs.proofs.reading.read_job.Tie as tie
 
-abbrev invariant-loop : tie.invariant-loop
-invariant-loop bytes sizes₀ strides₀ count₀ at₀ sizes strides count at = AxesRead bytes sizes strides count at
+abbrev invariant-loop-sizes : tie.invariant-loop-sizes
+invariant-loop-sizes bytes sizes₀ strides₀ count₀ at₀ sizes strides count at = AxesRead bytes sizes strides count at
 
-abbrev decreases-loop : tie.decreases-loop
-decreases-loop bytes sizes₀ strides₀ count₀ at₀ sizes strides count at = PLACES - count
+abbrev decreases-loop-sizes : tie.decreases-loop-sizes
+decreases-loop-sizes bytes sizes₀ strides₀ count₀ at₀ sizes strides count at = PLACES - count
 
-loop-holds : tie.Need-loop-init invariant-loop decreases-loop
-loop-holds c = no-axes c.before.args.bytes.now
+loop-sizes-init : tie.Need-loop-sizes-init invariant-loop-sizes decreases-loop-sizes
+loop-sizes-init c = no-axes c.before.args.bytes.now
 
-word-at-requires : tie.Need-word-at-requires invariant-loop decreases-loop
-word-at-requires c κs = c.loop.invariant.inside
+word_at-requires : tie.Need-word_at-requires invariant-loop-sizes decreases-loop-sizes
+word_at-requires c κs = c.loop-sizes.invariant.inside
 
-refused-requires : tie.Need-refused-requires invariant-loop decreases-loop
+refused-requires : tie.Need-refused-requires invariant-loop-sizes decreases-loop-sizes
 refused-requires c κs = search rules
 
 -- the word at the loop's place is a size, or is not
-sized : (c : tie.Then1 invariant-loop decreases-loop) → let k = c.before.before in first_kind (drop k.loop.at k.before.before.args.bytes.now) ≡ SIZE
-sized c = ap (λ (w : ℕ). w / 2 ^ 29) (sym c.before.word_at.ensures) ∙ c.if1.true
+sized : (c : tie.In-loop-sizes invariant-loop-sizes decreases-loop-sizes) → let k = c.before.before in first_kind (drop k.loop-sizes.at k.before.before.args.bytes.now) ≡ SIZE
+sized c = ap (λ (w : ℕ). w / 2 ^ 29) (sym c.before.word_at.ensures) ∙ c.loop-sizes-test.true
 
-returns : tie.Need-returns invariant-loop decreases-loop
+returns-then-count-eq-PLACES : tie.Need-returns-then-count-eq-PLACES invariant-loop-sizes decreases-loop-sizes
 unfolding read_of
-returns c =
+returns-then-count-eq-PLACES c =
     let i = c.before.before in
     let k = i.before.before in
     let s = k.before.before in
     c.refused.ensures
-    ∙ ap record_of (axes-answer-full s.args.bytes.now _ _ _ _ k.loop.invariant (sized i) c.before.if2.true)
+    ∙ ap record_of (axes-answer-full s.args.bytes.now _ _ _ _ k.loop-sizes.invariant (sized i) c.before.if-count-eq-PLACES.true)
 
-read-number-requires : tie.Need-read-number-requires invariant-loop decreases-loop
-read-number-requires c κs = (c.before.before.before.loop.invariant.inside, omega arith)
+read_number-n-requires : tie.Need-read_number-n-requires invariant-loop-sizes decreases-loop-sizes
+read_number-n-requires c κs = (c.before.before.before.loop-sizes.invariant.inside, omega arith)
 
-refused-requires-2 : tie.Need-refused-requires-2 invariant-loop decreases-loop
-refused-requires-2 c κs = search rules
+refused-requires-then-n-ne0 : tie.Need-refused-requires-then-n-ne0 invariant-loop-sizes decreases-loop-sizes
+refused-requires-then-n-ne0 c κs = search rules
 
 -- what a size and a stride at the loop's place give, and what they give behind the size
-one_more : (c : tie.Else2 invariant-loop decreases-loop) → let k = c.before.before.before in let s = k.before.before in let q = k.loop.invariant in
-    one_axis q.ns q.ss (drop k.loop.at s.args.bytes.now) (PLACES - (k.loop.count + 1)) ≡ job_from s.args.bytes.now
+one_more : (c : tie.Else-count-eq-PLACES invariant-loop-sizes decreases-loop-sizes) → let k = c.before.before.before in let s = k.before.before in let q = k.loop-sizes.invariant in
+    one_axis q.ns q.ss (drop k.loop-sizes.at s.args.bytes.now) (PLACES - (k.loop-sizes.count + 1)) ≡ job_from s.args.bytes.now
 one_more c =
     let k = c.before.before.before in
-    axes-answer-more k.before.before.args.bytes.now _ _ _ _ k.loop.invariant (sized c.before) c.if2.false
+    axes-answer-more k.before.before.args.bytes.now _ _ _ _ k.loop-sizes.invariant (sized c.before) c.if-count-eq-PLACES.false
 
 -- reading on behind a stride, and behind a size
-abbrev behind_stride : (k : tie.At-loop invariant-loop decreases-loop) → ℕ → ℕ → List ℕ → ReadAnswer
+abbrev behind_stride : (k : tie.At-loop-sizes invariant-loop-sizes decreases-loop-sizes) → ℕ → ℕ → List ℕ → ReadAnswer
 behind_stride k n s bytes =
-    axes_from (PLACES - (k.loop.count + 1)) (k.loop.invariant.ns ++ n ∷ []) (k.loop.invariant.ss ++ signed_of s ∷ []) bytes
+    axes_from (PLACES - (k.loop-sizes.count + 1)) (k.loop-sizes.invariant.ns ++ n ∷ []) (k.loop-sizes.invariant.ss ++ signed_of s ∷ []) bytes
 
-abbrev behind_size : (k : tie.At-loop invariant-loop decreases-loop) → ℕ → List ℕ → ReadAnswer
+abbrev behind_size : (k : tie.At-loop-sizes invariant-loop-sizes decreases-loop-sizes) → ℕ → List ℕ → ReadAnswer
 behind_size k n bytes = behind (number_from STRIDE bytes) (behind_stride k n)
 
-returns-2 : tie.Need-returns-2 invariant-loop decreases-loop
+returns-then-n-ne0 : tie.Need-returns-then-n-ne0 invariant-loop-sizes decreases-loop-sizes
 unfolding read_of
-returns-2 c =
+returns-then-n-ne0 c =
     let n = c.before.before.before in
     let k = n.before.before.before.before in
     let s = k.before.before in
-    c.refused2.ensures
+    c.refused-then-n-ne0.ensures
     ∙ ap record_of
-    (sym (stops_at s.args.bytes.now (drop k.loop.at s.args.bytes.now) SIZE n.read_number.result n.read_number.ensures.0
-    (behind_size k) c.before.if3.true)
+    (sym (stops_at s.args.bytes.now (drop k.loop-sizes.at s.args.bytes.now) SIZE n.read_number-n.result n.read_number-n.ensures.0
+    (behind_size k) c.before.if-n-ne0.true)
     ∙ one_more n.before)
 
 -- behind a size
-size_read : (c : tie.Else3 invariant-loop decreases-loop) → let n = c.before.before in let k = n.before.before.before.before in let s = k.before.before in
-    behind_size k n.read_number.result.value (drop n.read_number.result.next s.args.bytes.now) ≡ job_from s.args.bytes.now
+size_read : (c : tie.Else-n-ne0 invariant-loop-sizes decreases-loop-sizes) → let n = c.before.before in let k = n.before.before.before.before in let s = k.before.before in
+    behind_size k n.read_number-n.result.value (drop n.read_number-n.result.next s.args.bytes.now) ≡ job_from s.args.bytes.now
 size_read c =
     let n = c.before.before in
     let k = n.before.before.before.before in
     let s = k.before.before in
-    sym (reads_on s.args.bytes.now (drop k.loop.at s.args.bytes.now) SIZE n.read_number.result n.read_number.ensures.0
-    (behind_size k) c.if3.false)
+    sym (reads_on s.args.bytes.now (drop k.loop-sizes.at s.args.bytes.now) SIZE n.read_number-n.result n.read_number-n.ensures.0
+    (behind_size k) c.if-n-ne0.false)
     ∙ one_more n.before
 
-read-number-requires-2 : tie.Need-read-number-requires-2 invariant-loop decreases-loop
-read-number-requires-2 c κs = (c.before.before.read_number.ensures.1, omega arith)
+read_number-s-requires : tie.Need-read_number-s-requires invariant-loop-sizes decreases-loop-sizes
+read_number-s-requires c κs = (c.before.before.read_number-n.ensures.1, omega arith)
 
-refused-requires-3 : tie.Need-refused-requires-3 invariant-loop decreases-loop
-refused-requires-3 c κs = search rules
+refused-requires-then-s-ne0 : tie.Need-refused-requires-then-s-ne0 invariant-loop-sizes decreases-loop-sizes
+refused-requires-then-s-ne0 c κs = search rules
 
-returns-3 : tie.Need-returns-3 invariant-loop decreases-loop
+returns-then-s-ne0 : tie.Need-returns-then-s-ne0 invariant-loop-sizes decreases-loop-sizes
 unfolding read_of
-returns-3 c =
+returns-then-s-ne0 c =
     let m = c.before.before.before in
     let n = m.before.before.before in
     let k = n.before.before.before.before in
     let s = k.before.before in
-    c.refused3.ensures
+    c.refused-then-s-ne0.ensures
     ∙ ap record_of
-    (sym (stops_at s.args.bytes.now (drop n.read_number.result.next s.args.bytes.now) STRIDE m.read-number2.result
-    m.read-number2.ensures.0 (behind_stride k n.read_number.result.value) c.before.if4.true)
+    (sym (stops_at s.args.bytes.now (drop n.read_number-n.result.next s.args.bytes.now) STRIDE m.read_number-s.result
+    m.read_number-s.ensures.0 (behind_stride k n.read_number-n.result.value) c.before.if-s-ne0.true)
     ∙ size_read m.before)
 
 -- there is a place left
-room : (c : tie.Else4 invariant-loop decreases-loop) → c.before.before.before.before.before.before.before.before.before.loop.count < PLACES
+room : (c : tie.Else-s-ne0 invariant-loop-sizes decreases-loop-sizes) → c.before.before.before.before.before.before.before.before.before.loop-sizes.count < PLACES
 room c =
     let e = c.before.before.before.before.before.before in
     let k = e.before.before.before in
-    omega (arith, k.loop.invariant.few, e.if2.false)
+    omega (arith, k.loop-sizes.invariant.few, e.if-count-eq-PLACES.false)
 
-mul-sizes : tie.Need-overflow-mul-sizes invariant-loop decreases-loop
-mul-sizes c = omega (arith, room c)
+offset_bounds-sizes-count : tie.Need-offset_bounds-sizes-count invariant-loop-sizes decreases-loop-sizes
+offset_bounds-sizes-count c = omega (arith, room c)
 
-array-write-sizes : tie.Need-array-write-sizes invariant-loop decreases-loop
-array-write-sizes c = omega (arith, room c)
+bounds-sizes-count : tie.Need-bounds-sizes-count invariant-loop-sizes decreases-loop-sizes
+bounds-sizes-count c = omega (arith, room c)
 
-signed-requires : tie.Need-signed-requires invariant-loop decreases-loop
+signed-requires : tie.Need-signed-requires invariant-loop-sizes decreases-loop-sizes
 signed-requires c κs = search rules
 
-mul-strides : tie.Need-overflow-mul-strides invariant-loop decreases-loop
-mul-strides c = omega (arith, room c.before)
+offset_bounds-strides-count : tie.Need-offset_bounds-strides-count invariant-loop-sizes decreases-loop-sizes
+offset_bounds-strides-count c = omega (arith, room c.before)
 
-array-set-from-strides : tie.Need-array-set-from-strides invariant-loop decreases-loop
-array-set-from-strides c = omega (arith, room c.before)
+bounds-strides-count : tie.Need-bounds-strides-count invariant-loop-sizes decreases-loop-sizes
+bounds-strides-count c = omega (arith, room c.before)
 
-add-count : tie.Need-overflow-add-count invariant-loop decreases-loop
-add-count c = omega (arith, room c.before)
+overflow_add-count : tie.Need-overflow_add-count invariant-loop-sizes decreases-loop-sizes
+overflow_add-count c = omega (arith, room c.before)
 
-loop-less : tie.Need-loop-smaller invariant-loop decreases-loop
-loop-less c = omega (arith, room c.before)
+loop-sizes-smaller : tie.Need-loop-sizes-smaller invariant-loop-sizes decreases-loop-sizes
+loop-sizes-smaller c = omega (arith, room c.before)
 
-loop-again : tie.Need-loop-preserved invariant-loop decreases-loop
-loop-again c =
+loop-sizes-preserved : tie.Need-loop-sizes-preserved invariant-loop-sizes decreases-loop-sizes
+loop-sizes-preserved c =
     let i = c.before in
     let m = i.before.before in
     let n = m.before.before.before in
     let e = n.before in
     let k = e.before.before.before in
     let s = k.before.before in
-    rw (to_z-of_z (record { sfits = c.signed.type-inv }), c.signed.ensures)
-    (axes-next s.args.bytes.now _ _ _ _ k.loop.invariant (sized e.before) e.if2.false n.read_number.result.value
-    (signed_of m.read-number2.result.value) m.read-number2.result.next m.read-number2.ensures.1
-    (sym (reads_on s.args.bytes.now (drop n.read_number.result.next s.args.bytes.now) STRIDE m.read-number2.result
-    m.read-number2.ensures.0 (behind_stride k n.read_number.result.value) i.if4.false)
+    rw (to_z-of_z (record { sfits = c.signed.type_inv }), c.signed.ensures)
+    (axes-next s.args.bytes.now _ _ _ _ k.loop-sizes.invariant (sized e.before) e.if-count-eq-PLACES.false n.read_number-n.result.value
+    (signed_of m.read_number-s.result.value) m.read_number-s.result.next m.read_number-s.ensures.1
+    (sym (reads_on s.args.bytes.now (drop n.read_number-n.result.next s.args.bytes.now) STRIDE m.read_number-s.result
+    m.read_number-s.ensures.0 (behind_stride k n.read_number-n.result.value) i.if-s-ne0.false)
     ∙ size_read m.before))
 
-read-range-requires : tie.Need-read-range-requires invariant-loop decreases-loop
-read-range-requires c κs = c.before.before.loop.invariant.inside
+read_range-range-requires : tie.Need-read_range-range-requires invariant-loop-sizes decreases-loop-sizes
+read_range-range-requires c κs = c.before.before.loop-sizes.invariant.inside
 
-refused-requires-4 : tie.Need-refused-requires-4 invariant-loop decreases-loop
-refused-requires-4 c κs = search rules
+refused-requires-then-range-ne0 : tie.Need-refused-requires-then-range-ne0 invariant-loop-sizes decreases-loop-sizes
+refused-requires-then-range-ne0 c κs = search rules
 
 -- the range behind the axes gives the answer
-ranged : (c : tie.After-read-range invariant-loop decreases-loop) → let k = c.before.before.before in
-    range_told k.loop.invariant.ns k.loop.invariant.ss c.read-range.result ≡ job_from k.before.before.args.bytes.now
+ranged : (c : tie.After-read_range-range invariant-loop-sizes decreases-loop-sizes) → let k = c.before.before.before in
+    range_told k.loop-sizes.invariant.ns k.loop-sizes.invariant.ss c.read_range-range.result ≡ job_from k.before.before.args.bytes.now
 ranged c =
     let i = c.before in
     let k = i.before.before in
-    let q = k.loop.invariant in
-    c.read-range.ensures q.ns q.ss
-    ∙ axes-answer-done k.before.before.args.bytes.now _ _ _ _ q (λ z. i.if1.false (ap (λ (w : ℕ). w / 2 ^ 29) i.before.word_at.ensures ∙ z))
+    let q = k.loop-sizes.invariant in
+    c.read_range-range.ensures q.ns q.ss
+    ∙ axes-answer-done k.before.before.args.bytes.now _ _ _ _ q (λ z. i.loop-sizes-test.false (ap (λ (w : ℕ). w / 2 ^ 29) i.before.word_at.ensures ∙ z))
 
-returns-4 : tie.Need-returns-4 invariant-loop decreases-loop
+returns-then-range-ne0 : tie.Need-returns-then-range-ne0 invariant-loop-sizes decreases-loop-sizes
 unfolding read_of
-returns-4 c =
+returns-then-range-ne0 c =
     let r = c.before.before.before in
-    let q = r.before.before.before.loop.invariant in
-    c.refused4.ensures ∙ ap record_of (range-refused q.ns q.ss r.read-range.result _ (ranged r) c.before.if5.true)
+    let q = r.before.before.before.loop-sizes.invariant in
+    c.refused-then-range-ne0.ensures ∙ ap record_of (range-refused q.ns q.ss r.read_range-range.result _ (ranged r) c.before.if-range-ne0.true)
 
-returns-5 : tie.Need-returns-5 invariant-loop decreases-loop
+returns : tie.Need-returns invariant-loop-sizes decreases-loop-sizes
 unfolding read_of
-returns-5 c =
+returns c =
     let r = c.before.before.before in
     let k = r.before.before.before in
-    let q = k.loop.invariant in
-    let x = r.read-range.result in
-    rw (to_z-of_z {w = w64} {z = x.base} (record { sfits = c.struct_told.given.1.0.1 }))
+    let q = k.loop-sizes.invariant in
+    let x = r.read_range-range.result in
+    rw (to_z-of_z {w = w64} {z = x.base} (record { sfits = c.struct_told-1.given.1.0.1 }))
     (axes-record k.before.before.args.bytes.now _ _ _ _ q x.base x.start x.end
-    ∙ ap record_of (range-read q.ns q.ss x _ (ranged r) c.before.if5.false))
+    ∙ ap record_of (range-read q.ns q.ss x _ (ranged r) c.before.if-range-ne0.false))
 
-pub read-job-spec : {M : Type 1} → statement M
-read-job-spec =
-    tie.close
-    (tie.spec
-    invariant-loop
-    decreases-loop
-    loop-holds
-    word-at-requires
-    refused-requires
-    returns
-    read-number-requires
-    refused-requires-2
-    returns-2
-    read-number-requires-2
-    refused-requires-3
-    returns-3
-    mul-sizes
-    array-write-sizes
-    signed-requires
-    mul-strides
-    array-set-from-strides
-    add-count
-    loop-less
-    loop-again
-    read-range-requires
-    refused-requires-4
-    returns-4
-    returns-5)
+pub read_job_spec : {M : Type 1} → statement M
+read_job_spec = tie.close (tie.spec invariant-loop-sizes decreases-loop-sizes loop-sizes-init word_at-requires refused-requires returns-then-count-eq-PLACES read_number-n-requires refused-requires-then-n-ne0 returns-then-n-ne0 read_number-s-requires refused-requires-then-s-ne0 returns-then-s-ne0 offset_bounds-sizes-count bounds-sizes-count signed-requires offset_bounds-strides-count bounds-strides-count overflow_add-count loop-sizes-smaller loop-sizes-preserved read_range-range-requires refused-requires-then-range-ne0 returns-then-range-ne0 returns)

@@ -5,21 +5,21 @@ use Rattle.jobs.specs.Words.{word_of}
 use Rattle.jobs.proofs.words.put_word.Statement.{statement}
 use Rattle.jobs.proofs.words.put_word.Tie as tie
 
-mul-put-bytes : tie.Need-overflow-mul-put-bytes
-mul-put-bytes c = search rules
+overflow_mul-kind : tie.Need-overflow_mul-kind
+overflow_mul-kind c = search rules
 
-add-put-bytes : tie.Need-overflow-add-put-bytes
-add-put-bytes c = search rules
+overflow_add-kind : tie.Need-overflow_add-kind
+overflow_add-kind c = search rules
 
-put-bytes-requires : tie.Need-put-bytes-requires
-put-bytes-requires c κs = search rules
+put_bytes-requires : tie.Need-put_bytes-requires
+put_bytes-requires c κs = search rules
 
-same_length : tie.Need-same-length
-same_length c = search rules
+shape_of-out : tie.Need-shape_of-out
+shape_of-out c = search rules
 
 returns : tie.Need-returns
 unfolding word_of
-returns c = c.before.before.put-bytes.ensures
+returns c = c.before.before.put_bytes.ensures
 
-pub put-word-spec : {M : Type 1} → statement M
-put-word-spec = tie.close (tie.spec mul-put-bytes add-put-bytes put-bytes-requires same_length returns)
+pub put_word_spec : {M : Type 1} → statement M
+put_word_spec = tie.close (tie.spec overflow_mul-kind overflow_add-kind put_bytes-requires shape_of-out returns)

@@ -8,105 +8,83 @@ use Rattle.jobs.proofs.Bytes.{no_word, word-is}
 use Rattle.jobs.proofs.words.word_at.Statement.{statement}
 use Rattle.jobs.proofs.words.word_at.Tie as tie
 
-add-if1 : tie.Need-overflow-add-if1
-add-if1 c = search rules
+overflow_add-at : tie.Need-overflow_add-at
+overflow_add-at c = search rules
 
-returns : tie.Need-returns
-returns c = let s = c.before in no_word s.args.bytes.now s.args.at (omega (arith, s.requires, c.if1.true))
+returns-then-bytes-at : tie.Need-returns-then-bytes-at
+returns-then-bytes-at c = let s = c.before in no_word s.args.bytes.now s.args.at (omega (arith, s.requires, c.if-bytes-at.true))
 
-shared-slice-read-a : tie.Need-shared-slice-read-a
-shared-slice-read-a c = search rules
+bounds-bytes-at : tie.Need-bounds-bytes-at
+bounds-bytes-at c = search rules
 
-cast-a : tie.Need-overflow-cast-a
-cast-a c = omega (arith, c.shared-slice-known.given c.before.before.args.at)
+overflow_cast-a : tie.Need-overflow_cast-a
+overflow_cast-a c = omega (arith, c.shared_slice_known-1.given c.before.before.args.at)
 
-add-b : tie.Need-overflow-add-b
-add-b c = search rules
+overflow_add-b : tie.Need-overflow_add-b
+overflow_add-b c = search rules
 
-shared-slice-read-b : tie.Need-shared-slice-read-b
-shared-slice-read-b c = search rules
+bounds-bytes-at-2 : tie.Need-bounds-bytes-at-2
+bounds-bytes-at-2 c = search rules
 
-cast-b : tie.Need-overflow-cast-b
-cast-b c = omega (arith, c.shared-slice-known2.given (c.before.before.before.args.at + 1))
+overflow_cast-b : tie.Need-overflow_cast-b
+overflow_cast-b c = omega (arith, c.shared_slice_known-2-1.given (c.before.before.before.args.at + 1))
 
-add-c : tie.Need-overflow-add-c
-add-c c = search rules
+overflow_add-c : tie.Need-overflow_add-c
+overflow_add-c c = search rules
 
-shared-slice-read-c : tie.Need-shared-slice-read-c
-shared-slice-read-c c = search rules
+bounds-bytes-at-3 : tie.Need-bounds-bytes-at-3
+bounds-bytes-at-3 c = search rules
 
-cast-c : tie.Need-overflow-cast-c
-cast-c c = omega (arith, c.shared-slice-known3.given (c.before.before.before.before.args.at + 2))
+overflow_cast-c : tie.Need-overflow_cast-c
+overflow_cast-c c = omega (arith, c.shared_slice_known-3-1.given (c.before.before.before.before.args.at + 2))
 
-add-d : tie.Need-overflow-add-d
-add-d c = search rules
+overflow_add-d : tie.Need-overflow_add-d
+overflow_add-d c = search rules
 
-shared-slice-read-d : tie.Need-shared-slice-read-d
-shared-slice-read-d c = search rules
+bounds-bytes-at-4 : tie.Need-bounds-bytes-at-4
+bounds-bytes-at-4 c = search rules
 
-cast-d : tie.Need-overflow-cast-d
-cast-d c = omega (arith, c.shared-slice-known4.given (c.before.before.before.before.before.args.at + 3))
+overflow_cast-d : tie.Need-overflow_cast-d
+overflow_cast-d c = omega (arith, c.shared_slice_known-4-1.given (c.before.before.before.before.before.args.at + 3))
 
 -- the four bytes, each below 2^8
-bytes_fit : (c : tie.After-shared-slice-known4) (i : ℕ) → let s = c.before.before.before.before.before in get_or s.args.bytes.now i 0 < 2 ^ 8
-bytes_fit c i = omega (arith, c.shared-slice-known4.given i)
+bytes_fit : (c : tie.After-shared_slice_known-4-1) (i : ℕ) → let s = c.before.before.before.before.before in get_or s.args.bytes.now i 0 < 2 ^ 8
+bytes_fit c i = omega (arith, c.shared_slice_known-4-1.given i)
 
-mul-result : tie.Need-overflow-mul-result
-mul-result c =
+overflow_mul-result : tie.Need-overflow_mul-result
+overflow_mul-result c =
     let at = c.before.before.before.before.before.args.at in
     omega (arith, bytes_fit c at, bytes_fit c (at + 1), bytes_fit c (at + 2), bytes_fit c (at + 3))
 
-add-result : tie.Need-overflow-add-result
-add-result c =
+overflow_add-result : tie.Need-overflow_add-result
+overflow_add-result c =
     let at = c.before.before.before.before.before.args.at in
     omega (arith, bytes_fit c at, bytes_fit c (at + 1), bytes_fit c (at + 2), bytes_fit c (at + 3))
 
-mul-result-2 : tie.Need-overflow-mul-result-2
-mul-result-2 c =
+overflow_mul-result-2 : tie.Need-overflow_mul-result-2
+overflow_mul-result-2 c =
     let at = c.before.before.before.before.before.args.at in
     omega (arith, bytes_fit c at, bytes_fit c (at + 1), bytes_fit c (at + 2), bytes_fit c (at + 3))
 
-add-result-2 : tie.Need-overflow-add-result-2
-add-result-2 c =
+overflow_add-result-2 : tie.Need-overflow_add-result-2
+overflow_add-result-2 c =
     let at = c.before.before.before.before.before.args.at in
     omega (arith, bytes_fit c at, bytes_fit c (at + 1), bytes_fit c (at + 2), bytes_fit c (at + 3))
 
-mul-result-3 : tie.Need-overflow-mul-result-3
-mul-result-3 c =
+overflow_mul-result-3 : tie.Need-overflow_mul-result-3
+overflow_mul-result-3 c =
     let at = c.before.before.before.before.before.args.at in
     omega (arith, bytes_fit c at, bytes_fit c (at + 1), bytes_fit c (at + 2), bytes_fit c (at + 3))
 
-add-result-3 : tie.Need-overflow-add-result-3
-add-result-3 c =
+overflow_add-result-3 : tie.Need-overflow_add-result-3
+overflow_add-result-3 c =
     let at = c.before.before.before.before.before.args.at in
     omega (arith, bytes_fit c at, bytes_fit c (at + 1), bytes_fit c (at + 2), bytes_fit c (at + 3))
 
-returns-2 : tie.Need-returns-2
-returns-2 c =
+returns : tie.Need-returns
+returns c =
     let s = c.before.before.before.before.before in
-    word-is s.args.bytes.now s.args.at (omega (arith, c.before.before.before.before.if1.false))
+    word-is s.args.bytes.now s.args.at (omega (arith, c.before.before.before.before.if-bytes-at.false))
 
-pub word-at-spec : {M : Type 1} → statement M
-word-at-spec =
-    tie.close
-    (tie.spec
-    add-if1
-    returns
-    shared-slice-read-a
-    cast-a
-    add-b
-    shared-slice-read-b
-    cast-b
-    add-c
-    shared-slice-read-c
-    cast-c
-    add-d
-    shared-slice-read-d
-    cast-d
-    mul-result
-    add-result
-    mul-result-2
-    add-result-2
-    mul-result-3
-    add-result-3
-    returns-2)
+pub word_at_spec : {M : Type 1} → statement M
+word_at_spec = tie.close (tie.spec overflow_add-at returns-then-bytes-at bounds-bytes-at overflow_cast-a overflow_add-b bounds-bytes-at-2 overflow_cast-b overflow_add-c bounds-bytes-at-3 overflow_cast-c overflow_add-d bounds-bytes-at-4 overflow_cast-d overflow_mul-result overflow_add-result overflow_mul-result-2 overflow_add-result-2 overflow_mul-result-3 overflow_add-result-3 returns)

@@ -12,48 +12,48 @@ use Rattle.jobs.proofs.Jobs.{job-length}
 use Rattle.jobs.proofs.writing.job_length.Statement.{statement}
 use Rattle.jobs.proofs.writing.job_length.Tie as tie
 
-axes-length-requires : tie.Need-axes-length-requires
-axes-length-requires c κs = search rules
+axes_length-axes-requires : tie.Need-axes_length-axes-requires
+axes_length-axes-requires c κs = search rules
 
 sent-requires : tie.Need-sent-requires
 sent-requires c κs = search rules
 
-bytes-of-requires : tie.Need-bytes-of-requires
-bytes-of-requires c κs = search rules
+bytes_of-base-requires : tie.Need-bytes_of-base-requires
+bytes_of-base-requires c κs = search rules
 
-bytes-of-requires-2 : tie.Need-bytes-of-requires-2
-bytes-of-requires-2 c κs = search rules
+bytes_of-start-requires : tie.Need-bytes_of-start-requires
+bytes_of-start-requires c κs = search rules
 
-bytes-of-requires-3 : tie.Need-bytes-of-requires-3
-bytes-of-requires-3 c κs = search rules
+bytes_of-end-requires : tie.Need-bytes_of-end-requires
+bytes_of-end-requires c κs = search rules
 
-base-is : (c : tie.After-bytes-of) → c.bytes_of.result ≡ 4 * length (payloads_of (sent_of c.before.before.before.before.args.base))
+base-is : (c : tie.After-bytes_of-base) → c.bytes_of-base.result ≡ 4 * length (payloads_of (sent_of c.before.before.before.before.args.base))
 base-is c =
     let s = c.before.before.before.before in
-    c.bytes_of.ensures ∙ ap (λ (n : ℕ). 4 * length (payloads_of n)) (simp (to_z-of_z s.ranges.base) at c.before.sent.ensures)
+    c.bytes_of-base.ensures ∙ ap (λ (n : ℕ). 4 * length (payloads_of n)) (simp (to_z-of_z s.ranges.base) at c.before.sent.ensures)
 
 -- a number takes at most three words
-few : (c : tie.After-bytes-of3) → let b = c.before.before in
-    b.before.before.axes-length.result + b.bytes_of.result + c.before.bytes-of2.result + c.bytes-of3.result ≤ 420
+few : (c : tie.After-bytes_of-end) → let b = c.before.before in
+    b.before.before.axes_length-axes.result + b.bytes_of-base.result + c.before.bytes_of-start.result + c.bytes_of-end.result ≤ 420
 few c =
     let b = c.before.before in
     let s = b.before.before.before.before in
     let h = few-payloads 2 (sent_of s.args.base) in
     let g = few-payloads 2 s.args.start in
     let f = few-payloads 2 s.args.end in
-    omega (arith, base-is b, c.before.bytes-of2.ensures, c.bytes-of3.ensures, b.before.before.axes-length.ensures.1)
+    omega (arith, base-is b, c.before.bytes_of-start.ensures, c.bytes_of-end.ensures, b.before.before.axes_length-axes.ensures.1)
 
-add-result : tie.Need-overflow-add-result
-add-result c = omega (arith, few c)
+overflow_add-result : tie.Need-overflow_add-result
+overflow_add-result c = omega (arith, few c)
 
-add-result-2 : tie.Need-overflow-add-result-2
-add-result-2 c = omega (arith, few c)
+overflow_add-result-2 : tie.Need-overflow_add-result-2
+overflow_add-result-2 c = omega (arith, few c)
 
-add-result-3 : tie.Need-overflow-add-result-3
-add-result-3 c = omega (arith, few c)
+overflow_add-result-3 : tie.Need-overflow_add-result-3
+overflow_add-result-3 c = omega (arith, few c)
 
-add-result-4 : tie.Need-overflow-add-result-4
-add-result-4 c = omega (arith, few c)
+overflow_add-result-4 : tie.Need-overflow_add-result-4
+overflow_add-result-4 c = omega (arith, few c)
 
 returns : tie.Need-returns
 returns c =
@@ -61,19 +61,7 @@ returns c =
     let s = b.before.before.before.before in
     let a = s.args in
     let e = job-length (record { sizes = a.sizes.now; strides = a.strides.now; base = a.base; start = a.start; end = a.end }) in
-    omega (arith, e, base-is b, c.before.bytes-of2.ensures, c.bytes-of3.ensures, b.before.before.axes-length.ensures.0)
+    omega (arith, e, base-is b, c.before.bytes_of-start.ensures, c.bytes_of-end.ensures, b.before.before.axes_length-axes.ensures.0)
 
-pub job-length-spec : {M : Type 1} → statement M
-job-length-spec =
-    tie.close
-    (tie.spec
-    axes-length-requires
-    sent-requires
-    bytes-of-requires
-    bytes-of-requires-2
-    bytes-of-requires-3
-    add-result
-    add-result-2
-    add-result-3
-    add-result-4
-    returns)
+pub job_length_spec : {M : Type 1} → statement M
+job_length_spec = tie.close (tie.spec axes_length-axes-requires sent-requires bytes_of-base-requires bytes_of-start-requires bytes_of-end-requires overflow_add-result overflow_add-result-2 overflow_add-result-3 overflow_add-result-4 returns)

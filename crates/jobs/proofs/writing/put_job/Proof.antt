@@ -15,8 +15,8 @@ use Rattle.jobs.proofs.Jobs.{Laid, laid-length, laid_more, job-length}
 use Rattle.jobs.proofs.writing.put_job.Statement.{statement}
 use Rattle.jobs.proofs.writing.put_job.Tie as tie
 
-sent-requires : tie.Need-sent-requires
-sent-requires c κs = search rules
+sent-sent-requires : tie.Need-sent-sent-requires
+sent-sent-requires c κs = search rules
 
 -- the job, and the bytes of its parts
 abbrev job_of : tie.Start → Job
@@ -42,67 +42,67 @@ room s =
     let e = length-number END (payloads_of s.args.end) in
     omega (arith, job-length (job_of s), s.requires.2)
 
-put-axes-requires : tie.Need-put-axes-requires
-put-axes-requires c κs = let s = c.before.before.before.before in (s.requires.0, s.requires.1, omega (arith, room s))
+put_axes-at-requires : tie.Need-put_axes-at-requires
+put_axes-at-requires c κs = let s = c.before.before.before.before in (s.requires.0, s.requires.1, omega (arith, room s))
 
-laid-axes : (c : tie.After-put-axes) → let s = c.before.before.before.before.before in
-    Laid s.args.out.now (axes s) c.put-axes.new.0 c.put-axes.result
-laid-axes c = record { holds = c.put-axes.ensures.1; place = c.put-axes.ensures.0 }
+laid-axes : (c : tie.After-put_axes-at) → let s = c.before.before.before.before.before in
+    Laid s.args.out.now (axes s) c.put_axes-at.new.0 c.put_axes-at.result
+laid-axes c = record { holds = c.put_axes-at.ensures.1; place = c.put_axes-at.ensures.0 }
 
 -- the base as it is sent
-sent_is : (c : tie.After-put-axes) → c.before.before.sent.result ≡ sent_of c.before.before.before.before.before.args.base
-sent_is c = simp (to_z-of_z c.before.before.before.before.before.ranges.base) at c.before.before.sent.ensures
+sent_is : (c : tie.After-put_axes-at) → c.before.before.sent-sent.result ≡ sent_of c.before.before.before.before.before.args.base
+sent_is c = simp (to_z-of_z c.before.before.before.before.before.ranges.base) at c.before.before.sent-sent.ensures
 
-put-number-requires : tie.Need-put-number-requires
-put-number-requires c κs =
+put_number-at-requires : tie.Need-put_number-at-requires
+put_number-at-requires c κs =
     let p = c.before.before.before in
     let s = p.before.before.before.before.before in
     let e = ap (λ (n : ℕ). length (number_bytes BASE (payloads_of n))) (sent_is p) in
     (omega (arith, room s, laid-length _ _ _ _ (laid-axes p), (laid-axes p).place, e), omega arith)
 
-laid-base : (c : tie.After-put-number) → let s = c.before.before.before.before.before.before.before.before.before in
-    Laid s.args.out.now (axes s ++ base s) c.put-number.new.0 c.put-number.result
+laid-base : (c : tie.After-put_number-at) → let s = c.before.before.before.before.before.before.before.before.before in
+    Laid s.args.out.now (axes s ++ base s) c.put_number-at.new.0 c.put_number-at.result
 laid-base c =
     let p = c.before.before.before.before in
     let s = p.before.before.before.before.before in
     let e = ap (λ (n : ℕ). number_bytes BASE (payloads_of n)) (sent_is p) in
-    laid_more s.args.out.now (axes s) p.put-axes.new.0 p.put-axes.result (laid-axes p) (base s) c.put-number.new.0 c.put-number.result
-    (c.put-number.ensures.0 ∙ ap (λ (l : List ℕ). p.put-axes.result + length l) e)
-    (c.put-number.ensures.1 ∙ ap (λ (l : List ℕ). sets p.put-axes.new.0 p.put-axes.result l) e)
+    laid_more s.args.out.now (axes s) p.put_axes-at.new.0 p.put_axes-at.result (laid-axes p) (base s) c.put_number-at.new.0 c.put_number-at.result
+    (c.put_number-at.ensures.0 ∙ ap (λ (l : List ℕ). p.put_axes-at.result + length l) e)
+    (c.put_number-at.ensures.1 ∙ ap (λ (l : List ℕ). sets p.put_axes-at.new.0 p.put_axes-at.result l) e)
 
-put-number-requires-2 : tie.Need-put-number-requires-2
-put-number-requires-2 c κs =
+put_number-at-requires-2 : tie.Need-put_number-at-requires-2
+put_number-at-requires-2 c κs =
     let p = c.before.before.before in
     let s = p.before.before.before.before.before.before.before.before.before in
     let l = laid-base p in
     (omega (arith, room s, laid-length _ _ _ _ l, l.place, length-append (axes s) (base s)), omega arith)
 
-laid-start : (c : tie.After-put-number2) → let s = c.before.before.before.before.before.before.before.before.before.before.before.before.before in
-    Laid s.args.out.now (axes s ++ base s ++ start s) c.put-number2.new.0 c.put-number2.result
+laid-start : (c : tie.After-put_number-at-2) → let s = c.before.before.before.before.before.before.before.before.before.before.before.before.before in
+    Laid s.args.out.now (axes s ++ base s ++ start s) c.put_number-at-2.new.0 c.put_number-at-2.result
 laid-start c =
     let p = c.before.before.before.before in
     let s = p.before.before.before.before.before.before.before.before.before in
-    laid_more s.args.out.now (axes s ++ base s) p.put-number.new.0 p.put-number.result (laid-base p) (start s) c.put-number2.new.0
-    c.put-number2.result c.put-number2.ensures.0 c.put-number2.ensures.1
+    laid_more s.args.out.now (axes s ++ base s) p.put_number-at.new.0 p.put_number-at.result (laid-base p) (start s) c.put_number-at-2.new.0
+    c.put_number-at-2.result c.put_number-at-2.ensures.0 c.put_number-at-2.ensures.1
 
-put-number-requires-3 : tie.Need-put-number-requires-3
-put-number-requires-3 c κs =
+put_number-at-requires-3 : tie.Need-put_number-at-requires-3
+put_number-at-requires-3 c κs =
     let p = c.before.before.before in
     let s = p.before.before.before.before.before.before.before.before.before.before.before.before.before in
     let l = laid-start p in
     (omega (arith, room s, laid-length _ _ _ _ l, l.place, length-append (axes s) (base s), length-append (axes s ++ base s) (start s)), omega arith)
 
-laid_end : (c : tie.After-put-number3) → let p = c.before.before.before.before in
+laid_end : (c : tie.After-put_number-at-3) → let p = c.before.before.before.before in
     let s = p.before.before.before.before.before.before.before.before.before.before.before.before.before in
-    Laid s.args.out.now (axes s ++ base s ++ start s ++ end s) c.put-number3.new.0 c.put-number3.result
+    Laid s.args.out.now (axes s ++ base s ++ start s ++ end s) c.put_number-at-3.new.0 c.put_number-at-3.result
 laid_end c =
     let p = c.before.before.before.before in
     let s = p.before.before.before.before.before.before.before.before.before.before.before.before.before in
-    laid_more s.args.out.now (axes s ++ base s ++ start s) p.put-number2.new.0 p.put-number2.result (laid-start p) (end s)
-    c.put-number3.new.0 c.put-number3.result c.put-number3.ensures.0 c.put-number3.ensures.1
+    laid_more s.args.out.now (axes s ++ base s ++ start s) p.put_number-at-2.new.0 p.put_number-at-2.result (laid-start p) (end s)
+    c.put_number-at-3.new.0 c.put_number-at-3.result c.put_number-at-3.ensures.0 c.put_number-at-3.ensures.1
 
-put-word-requires : tie.Need-put-word-requires
-put-word-requires c κs =
+put_word-requires : tie.Need-put_word-requires
+put_word-requires c κs =
     let p = c.before.before.before in
     let s = p.before.before.before.before.before.before.before.before.before.before.before.before.before.before.before.before.before in
     let l = laid_end p in
@@ -112,8 +112,8 @@ put-word-requires c κs =
       omega arith,
     )
 
-same_length : tie.Need-same-length
-same_length c = search rules
+shape_of-out : tie.Need-shape_of-out
+shape_of-out c = search rules
 
 returns : tie.Need-returns
 unfolding job_bytes sent_bytes job_payloads
@@ -121,18 +121,8 @@ returns c =
     let w = c.before.before in
     let p = w.before.before.before.before in
     let s = p.before.before.before.before.before.before.before.before.before.before.before.before.before.before.before.before.before in
-    (laid_more s.args.out.now (axes s ++ base s ++ start s ++ end s) p.put-number3.new.0 p.put-number3.result (laid_end p)
+    (laid_more s.args.out.now (axes s ++ base s ++ start s ++ end s) p.put_number-at-3.new.0 p.put_number-at-3.result (laid_end p)
     (bytes_of (word_of FINISH 0)) w.put_word.new.0 _ refl w.put_word.ensures).holds
 
-pub put-job-spec : {M : Type 1} → statement M
-put-job-spec =
-    tie.close
-    (tie.spec
-    sent-requires
-    put-axes-requires
-    put-number-requires
-    put-number-requires-2
-    put-number-requires-3
-    put-word-requires
-    same_length
-    returns)
+pub put_job_spec : {M : Type 1} → statement M
+put_job_spec = tie.close (tie.spec sent-sent-requires put_axes-at-requires put_number-at-requires put_number-at-requires-2 put_number-at-requires-3 put_word-requires shape_of-out returns)

@@ -17,62 +17,50 @@ job_of s = record { sizes = s.args.sizes.now; strides = s.args.strides.now; base
 refused-requires : tie.Need-refused-requires
 refused-requires c κs = search rules
 
-returns : tie.Need-returns
-returns c = let s = c.before.before.before.before in mismatched (job_of s) s.args.out.now _ c.before.if1.true c.refused.ensures
+returns-then-sizes-strides : tie.Need-returns-then-sizes-strides
+returns-then-sizes-strides c = let s = c.before.before.before.before in mismatched (job_of s) s.args.out.now _ c.before.if-sizes-strides.true c.refused.ensures
 
-refused-requires-2 : tie.Need-refused-requires-2
-refused-requires-2 c κs = search rules
+refused-requires-then-sizes-gt-PLACES : tie.Need-refused-requires-then-sizes-gt-PLACES
+refused-requires-then-sizes-gt-PLACES c κs = search rules
 
-returns-2 : tie.Need-returns-2
-returns-2 c =
+returns-then-sizes-gt-PLACES : tie.Need-returns-then-sizes-gt-PLACES
+returns-then-sizes-gt-PLACES c =
     let s = c.before.before.before.before.before in
-    too_many (job_of s) s.args.out.now _ c.before.before.if1.false c.before.if2.true c.refused2.ensures
+    too_many (job_of s) s.args.out.now _ c.before.before.if-sizes-strides.false c.before.if-sizes-gt-PLACES.true c.refused-then-sizes-gt-PLACES.ensures
 
-job-length-requires : tie.Need-job-length-requires
-job-length-requires c κs = search rules
+job_length-count-requires : tie.Need-job_length-count-requires
+job_length-count-requires c κs = search rules
 
-refused-requires-3 : tie.Need-refused-requires-3
-refused-requires-3 c κs = search rules
+refused-requires-then-out-count : tie.Need-refused-requires-then-out-count
+refused-requires-then-out-count c κs = search rules
 
 -- the length, over the arguments themselves
-length-is : (l : tie.After-job-length) → l.job-length.result ≡ length (job_bytes (job_of l.before.before.before.before.before))
-length-is l = simp (to_z-of_z l.before.before.before.before.before.ranges.base) at l.job-length.ensures
+length-is : (l : tie.After-job_length-count) → l.job_length-count.result ≡ length (job_bytes (job_of l.before.before.before.before.before))
+length-is l = simp (to_z-of_z l.before.before.before.before.before.ranges.base) at l.job_length-count.ensures
 
-returns-3 : tie.Need-returns-3
-returns-3 c =
+returns-then-out-count : tie.Need-returns-then-out-count
+returns-then-out-count c =
     let l = c.before.before in
     let i = l.before in
     let s = c.before.before.before.before.before.before.before in
-    too_short (job_of s) s.args.out.now _ i.before.if1.false i.if2.false (omega (arith, length-is l, c.before.if3.true))
-    c.refused3.ensures
+    too_short (job_of s) s.args.out.now _ i.before.if-sizes-strides.false i.if-sizes-gt-PLACES.false (omega (arith, length-is l, c.before.if-out-count.true))
+    c.refused-then-out-count.ensures
 
-put-job-requires : tie.Need-put-job-requires
-put-job-requires c κs = search rules
+put_job-requires : tie.Need-put_job-requires
+put_job-requires c κs = search rules
 
-same_length : tie.Need-same-length
-same_length c = search rules
+shape_of-out : tie.Need-shape_of-out
+shape_of-out c = search rules
 
-returns-4 : tie.Need-returns-4
-returns-4 c =
+returns : tie.Need-returns
+returns c =
     let p = c.before.before in
     let e = p.before.before in
     let l = e.before in
     let i = l.before in
     let s = i.before.before.before.before in
-    accepted (job_of s) s.args.out.now _ i.before.if1.false i.if2.false (omega (arith, length-is l, e.if3.false))
-    (ap (λ (n : ℕ). record { code = 0; count = n }) (length-is l)) _ (simp (to_z-of_z s.ranges.base) at p.put-job.ensures)
+    accepted (job_of s) s.args.out.now _ i.before.if-sizes-strides.false i.if-sizes-gt-PLACES.false (omega (arith, length-is l, e.if-out-count.false))
+    (ap (λ (n : ℕ). record { code = 0; count = n }) (length-is l)) _ (simp (to_z-of_z s.ranges.base) at p.put_job.ensures)
 
-pub write-job-spec : {M : Type 1} → statement M
-write-job-spec =
-    tie.close
-    (tie.spec
-    refused-requires
-    returns
-    refused-requires-2
-    returns-2
-    job-length-requires
-    refused-requires-3
-    returns-3
-    put-job-requires
-    same_length
-    returns-4)
+pub write_job_spec : {M : Type 1} → statement M
+write_job_spec = tie.close (tie.spec refused-requires returns-then-sizes-strides refused-requires-then-sizes-gt-PLACES returns-then-sizes-gt-PLACES job_length-count-requires refused-requires-then-out-count returns-then-out-count put_job-requires shape_of-out returns)

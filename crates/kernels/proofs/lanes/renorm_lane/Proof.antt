@@ -5,57 +5,44 @@ use Rattle.kernels.proofs.Stepwise.{added-fits, split-near, renorm-one}
 use Rattle.kernels.proofs.lanes.renorm_lane.Statement.{statement}
 use Rattle.kernels.proofs.lanes.renorm_lane.Tie as tie
 
-mul-split-fields : tie.Need-overflow-mul-split-fields
-mul-split-fields c = search rules
+offset_bounds-t-k : tie.Need-offset_bounds-t-k
+offset_bounds-t-k c = search rules
 
-element-copy-out-split-fields : tie.Need-element-copy-out-split-fields
-element-copy-out-split-fields c = search rules
+bounds-t-k : tie.Need-bounds-t-k
+bounds-t-k c = search rules
 
-split-fields-requires : tie.Need-split-fields-requires
-split-fields-requires c κs = search rules
+split_fields-p-requires : tie.Need-split_fields-p-requires
+split_fields-p-requires c κs = search rules
 
-mul-t : tie.Need-overflow-mul-t
-mul-t c = search rules
+offset_bounds-t-k-2 : tie.Need-offset_bounds-t-k-2
+offset_bounds-t-k-2 c = search rules
 
-element-write-t : tie.Need-element-write-t
-element-write-t c = search rules
+bounds-t-k-2 : tie.Need-bounds-t-k-2
+bounds-t-k-2 c = search rules
 
-mul-t-2 : tie.Need-overflow-mul-t-2
-mul-t-2 c = search rules
+offset_bounds-t-k-3 : tie.Need-offset_bounds-t-k-3
+offset_bounds-t-k-3 c = search rules
 
-element-copy-out-t : tie.Need-element-copy-out-t
-element-copy-out-t c = search rules
+bounds-t-k-3 : tie.Need-bounds-t-k-3
+bounds-t-k-3 c = search rules
 
-add-t : tie.Need-overflow-add-t
-add-t c =
+overflow_add-t : tie.Need-overflow_add-t
+overflow_add-t c =
     let p = c.before.before.before in
     let s = p.before.before in
-    added-fits s.args.s s.requires.1 p.split-fields.result (split-near (m_of s.args.s s.args.k) p.split-fields.result (p.split-fields.ensures s.requires.2)) s.args.k
+    added-fits s.args.s s.requires.1 p.split_fields-p.result (split-near (m_of s.args.s s.args.k) p.split_fields-p.result (p.split_fields-p.ensures s.requires.2)) s.args.k
 
 mul-t15 : tie.Need-overflow-mul-t15
 mul-t15 c = search rules
 
-element-set-from-t : tie.Need-element-set-from-t
-element-set-from-t c = search rules
+bounds-t-k-4 : tie.Need-bounds-t-k-4
+bounds-t-k-4 c = search rules
 
 returns : tie.Need-returns
 returns c =
     let p = c.before.before.before in
     let s = p.before.before in
-    renorm-one s.args.s s.requires.1 s.args.k p.split-fields.result (p.split-fields.ensures s.requires.2)
+    renorm-one s.args.s s.requires.1 s.args.k p.split_fields-p.result (p.split_fields-p.ensures s.requires.2)
 
-pub renorm-lane-spec : {M : Type 1} → statement M
-renorm-lane-spec =
-    tie.close
-    (tie.spec
-    mul-split-fields
-    element-copy-out-split-fields
-    split-fields-requires
-    mul-t
-    element-write-t
-    mul-t-2
-    element-copy-out-t
-    add-t
-    mul-t15
-    element-set-from-t
-    returns)
+pub renorm_lane_spec : {M : Type 1} → statement M
+renorm_lane_spec = tie.close (tie.spec offset_bounds-t-k bounds-t-k split_fields-p-requires offset_bounds-t-k-2 bounds-t-k-2 offset_bounds-t-k-3 bounds-t-k-3 overflow_add-t offset_bounds-t-k-4 bounds-t-k-4 returns)

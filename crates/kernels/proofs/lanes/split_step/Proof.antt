@@ -9,19 +9,19 @@ use Rattle.kernels.proofs.Stepwise.{split-near, split-lane}
 use Rattle.kernels.proofs.lanes.split_step.Statement.{statement}
 use Rattle.kernels.proofs.lanes.split_step.Tie as tie
 
-split-f64-requires : tie.Need-split-f64-requires
-split-f64-requires c κs = search rules
+split_f64-requires : tie.Need-split_f64-requires
+split_f64-requires c κs = search rules
 
-put-split-requires : tie.Need-put-split-requires
-put-split-requires c κs =
+put_split-requires : tie.Need-put_split-requires
+put_split-requires c κs =
     let s = c.before in
-    (lane-lt s.args.i, lanes-le (2 ^ 60) (2 ^ 61) s.args.s (lit≤ tt) s.requires, split-near s.args.value c.split-f64.result c.split-f64.ensures)
+    (lane-lt s.args.i, lanes-le (2 ^ 60) (2 ^ 61) s.args.s (lit≤ tt) s.requires, split-near s.args.value c.split_f64.result c.split_f64.ensures)
 
 returns : tie.Need-returns
 returns c =
     let p = c.before in
     let s = p.before.args in
-    c.put-split.ensures ∙ split-lane s.i s.s s.value p.split-f64.result p.split-f64.ensures
+    c.put_split.ensures ∙ split-lane s.i s.s s.value p.split_f64.result p.split_f64.ensures
 
-pub split-step-spec : {M : Type 1} → statement M
-split-step-spec = tie.close (tie.spec split-f64-requires put-split-requires returns)
+pub split_step_spec : {M : Type 1} → statement M
+split_step_spec = tie.close (tie.spec split_f64-requires put_split-requires returns)

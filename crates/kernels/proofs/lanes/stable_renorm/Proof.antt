@@ -15,43 +15,41 @@ use Rattle.kernels.proofs.LaneSizes.{lanes-le, renormed-left, renormed-small}
 use Rattle.kernels.proofs.lanes.stable_renorm.Statement.{statement}
 use Rattle.kernels.proofs.lanes.stable_renorm.Tie as tie
 
-abbrev invariant-loop : tie.invariant-loop
-invariant-loop t₀ k₀ t k = Worked renorm_lane 8 t₀ t k
+abbrev invariant-loop-k : tie.invariant-loop-k
+invariant-loop-k t₀ k₀ t k = Worked renorm_lane 8 t₀ t k
 
-abbrev decreases-loop : tie.decreases-loop
-decreases-loop t₀ k₀ t k = 8 - k
+abbrev decreases-loop-k : tie.decreases-loop-k
+decreases-loop-k t₀ k₀ t k = 8 - k
 
-loop-holds : tie.Need-loop-init invariant-loop decreases-loop
-loop-holds c = worked-none refl
+loop-k-init : tie.Need-loop-k-init invariant-loop-k decreases-loop-k
+loop-k-init c = worked-none refl
 
-renorm-lane-requires : tie.Need-renorm-lane-requires invariant-loop decreases-loop
-renorm-lane-requires c κs =
+renorm_lane-t-requires : tie.Need-renorm_lane-t-requires invariant-loop-k decreases-loop-k
+renorm_lane-t-requires c κs =
     let t = c.before in
     let s = t.before in (
-      c.loop-test.true,
-      subst (SmallLanes (2 ^ 61)) (sym t.loop.invariant.is)
-          (lanes-le (2 ^ 60 + farthest * t.loop.k) (2 ^ 61) (in_order renorm_lane t.loop.k s.args.s) (omega arith)
-          (renormed-small (2 ^ 60) t.loop.k s.args.s s.requires.0)),
-      subst (λ (u : Lanes). is_subnormal (m_of u t.loop.k) ≡ false) (sym t.loop.invariant.is)
-          (ap is_subnormal (renormed-left t.loop.k t.loop.k s.args.s (le_refl t.loop.k)) ∙ s.requires.1 t.loop.k c.loop-test.true),
+      c.loop-k-test.true,
+      subst (SmallLanes (2 ^ 61)) (sym t.loop-k.invariant.is)
+          (lanes-le (2 ^ 60 + farthest * t.loop-k.k) (2 ^ 61) (in_order renorm_lane t.loop-k.k s.args.s) (omega arith)
+          (renormed-small (2 ^ 60) t.loop-k.k s.args.s s.requires.0)),
+      subst (λ (u : Lanes). is_subnormal (m_of u t.loop-k.k) ≡ false) (sym t.loop-k.invariant.is)
+          (ap is_subnormal (renormed-left t.loop-k.k t.loop-k.k s.args.s (le_refl t.loop-k.k)) ∙ s.requires.1 t.loop-k.k c.loop-k-test.true),
     )
 
-add-k : tie.Need-overflow-add-k invariant-loop decreases-loop
-add-k c = omega arith
+overflow_add-k : tie.Need-overflow_add-k invariant-loop-k decreases-loop-k
+overflow_add-k c = omega arith
 
-loop-less : tie.Need-loop-smaller invariant-loop decreases-loop
-loop-less c = omega arith
+loop-k-smaller : tie.Need-loop-k-smaller invariant-loop-k decreases-loop-k
+loop-k-smaller c = omega arith
 
-loop-again : tie.Need-loop-preserved invariant-loop decreases-loop
-loop-again c =
+loop-k-preserved : tie.Need-loop-k-preserved invariant-loop-k decreases-loop-k
+loop-k-preserved c =
     let t = c.before.before in
-    worked-more t.loop.invariant c.before.loop-test.true c.renorm-lane.ensures
+    worked-more t.loop-k.invariant c.before.loop-k-test.true c.renorm_lane-t.ensures
 
-returns : tie.Need-returns invariant-loop decreases-loop
+returns : tie.Need-returns invariant-loop-k decreases-loop-k
 unfolding renorm
-returns c = worked-all c.before.loop.invariant c.loop-test.false
+returns c = worked-all c.before.loop-k.invariant c.loop-k-test.false
 
-pub stable-renorm-spec : {M : Type 1} → statement M
-stable-renorm-spec =
-    tie.close
-    (tie.spec invariant-loop decreases-loop loop-holds renorm-lane-requires add-k loop-less loop-again returns)
+pub stable_renorm_spec : {M : Type 1} → statement M
+stable_renorm_spec = tie.close (tie.spec invariant-loop-k decreases-loop-k loop-k-init renorm_lane-t-requires overflow_add-k loop-k-smaller loop-k-preserved returns)

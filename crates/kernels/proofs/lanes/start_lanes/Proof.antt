@@ -8,5 +8,5 @@ returns : tie.Need-returns
 unfolding of_bits
 returns c = refl
 
-pub start-lanes-spec : {M : Type 1} → statement M
-start-lanes-spec = tie.close (tie.spec returns)
+pub start_lanes_spec : {M : Type 1} → statement M
+start_lanes_spec = tie.close (tie.spec returns)

@@ -12,25 +12,25 @@ use Rattle.layout.proofs.Resets.{last_fits, span_fits, turned-span-fits}
 use Rattle.layout.proofs.axis.with_reset.Statement.{statement}
 use Rattle.layout.proofs.axis.with_reset.Tie as tie
 
-last-of-requires : tie.Need-last-of-requires
-last-of-requires c κs = search rules
+last_of-last-requires : tie.Need-last_of-last-requires
+last_of-last-requires c κs = search rules
 
-cast-span : tie.Need-overflow-cast-span
-cast-span c = let s = c.before in rw c.last_of.ensures (last_fits s.args.extent s.args.step s.requires)
+overflow_cast-span : tie.Need-overflow_cast-span
+overflow_cast-span c = let s = c.before in rw c.last_of-last.ensures (last_fits s.args.extent s.args.step s.requires)
 
-mul-span : tie.Need-overflow-mul-span
-mul-span c =
+overflow_mul-span : tie.Need-overflow_mul-span
+overflow_mul-span c =
     let s = c.before in
     let n = s.args.extent in
     let d = s.args.step in
-    simp (to_z-of_z s.ranges.step, c.last_of.ensures, to_z-small (n - 1) (last_fits n d s.requires).sfits) (span_fits n d s.requires)
+    simp (to_z-of_z s.ranges.step, c.last_of-last.ensures, to_z-small (n - 1) (last_fits n d s.requires).sfits) (span_fits n d s.requires)
 
-sub-t5 : tie.Need-overflow-sub-t5
-sub-t5 c =
+overflow_sub-result : tie.Need-overflow_sub-result
+overflow_sub-result c =
     let s = c.before in
     let n = s.args.extent in
     let d = s.args.step in
-    simp (to_z-of_z s.ranges.step, c.last_of.ensures, to_z-small (n - 1) (last_fits n d s.requires).sfits, to_z-of_z (span_fits n d s.requires))
+    simp (to_z-of_z s.ranges.step, c.last_of-last.ensures, to_z-small (n - 1) (last_fits n d s.requires).sfits, to_z-of_z (span_fits n d s.requires))
     (turned-span-fits n d s.requires)
 
 returns : tie.Need-returns
@@ -41,12 +41,12 @@ returns c =
     let d = s.args.step in
     simp (
       to_z-of_z s.ranges.step,
-      c.last_of.ensures,
+      c.last_of-last.ensures,
       to_z-small (n - 1) (last_fits n d s.requires).sfits,
       to_z-of_z (span_fits n d s.requires),
       to_z-of_z (turned-span-fits n d s.requires),
     )
     (ap (λ (z : ℤ). record { extent = n; source_step = d; source_reset = z }) (+ℤ_idl (neg_ℤ (d *ℤ pos (n - 1)))))
 
-pub with-reset-spec : {M : Type 1} → statement M
-with-reset-spec = tie.close (tie.spec last-of-requires cast-span mul-span sub-t5 returns)
+pub with_reset_spec : {M : Type 1} → statement M
+with_reset_spec = tie.close (tie.spec last_of-last-requires overflow_cast-span overflow_mul-span overflow_sub-result returns)

@@ -24,147 +24,128 @@ use Rattle.layout.proofs.fuse.compress_reduce_outer_axes.Lts as lts
 use Rattle.layout.proofs.axis.axis_at.Reads as axis-at-reads
 use Rattle.layout.proofs.fuse.fuse_next.Reads as fuse-next-reads
 
-abbrev invariant-loop : tie.invariant-loop
-invariant-loop extents₀ steps₀ count f₀ i₀ extents steps f i = Whole extents steps × Fused extents₀ steps₀ count extents steps f i
+abbrev invariant-loop-i : tie.invariant-loop-i
+invariant-loop-i extents₀ steps₀ count f₀ i₀ extents steps f i = Whole extents steps × Fused extents₀ steps₀ count extents steps f i
 
-abbrev decreases-loop : tie.decreases-loop
-decreases-loop extents₀ steps₀ count f₀ i₀ extents steps f i = count - i
+abbrev decreases-loop-i : tie.decreases-loop-i
+decreases-loop-i extents₀ steps₀ count f₀ i₀ extents steps f i = count - i
 
 -- the entry, from the loop
-abbrev from-loop : tie.At-loop invariant-loop decreases-loop → tie.Start invariant-loop decreases-loop
+abbrev from-loop : tie.At-loop-i invariant-loop-i decreases-loop-i → tie.Start invariant-loop-i decreases-loop-i
 from-loop c = c.before.before.before.before.before
 
 -- the tables after the step
-next : (c : tie.Else2 invariant-loop decreases-loop) → let g = c.before.before in let k = g.before.before.before.before.before in let s = from-loop k in
+next : (c : tie.Else-not-f invariant-loop-i decreases-loop-i) → let g = c.before.before in let k = g.before.before.before.before.before in let s = from-loop k in
     Fused s.args.extents.now s.args.steps.now s.args.count
-    (set k.loop.extents g.fuse-next.result.done g.fuse-next.result.last.extent)
-    (set k.loop.steps g.fuse-next.result.done g.fuse-next.result.last.source_step) g.fuse-next.result (k.loop.i + 1)
+    (set k.loop-i.extents g.fuse_next-f.result.done g.fuse_next-f.result.last.extent)
+    (set k.loop-i.steps g.fuse_next-f.result.done g.fuse_next-f.result.last.source_step) g.fuse_next-f.result (k.loop-i.i + 1)
 next c =
     let g = c.before.before in
     let k = g.before.before.before.before.before in
     let s = from-loop k in
-    fused-more s.args.extents.now s.args.steps.now s.args.count k.loop.extents k.loop.steps k.loop.f k.loop.i
-    g.before.before.before.before.loop-test.true (omega (arith, s.pre.0, s.pre.1.0)) (omega (arith, s.pre.0, s.pre.1.1)) k.loop.invariant.1
-    g.before.axis-at2.result g.before.axis-at2.ensures g.fuse-next.result g.fuse-next.ensures (not-false _ c.if2.false)
-    (omega (arith, s.pre.0, k.loop.invariant.0.0)) (omega (arith, s.pre.0, k.loop.invariant.0.1))
+    fused-more s.args.extents.now s.args.steps.now s.args.count k.loop-i.extents k.loop-i.steps k.loop-i.f k.loop-i.i
+    g.before.before.before.before.loop-i-test.true (omega (arith, s.requires.0, s.requires.1.0)) (omega (arith, s.requires.0, s.requires.1.1)) k.loop-i.invariant.1
+    g.before.axis_at-b.result g.before.axis_at-b.ensures g.fuse_next-f.result g.fuse_next-f.ensures (not-false _ c.if-not-f.false)
+    (omega (arith, s.requires.0, k.loop-i.invariant.0.0)) (omega (arith, s.requires.0, k.loop-i.invariant.0.1))
 
-room : (c : tie.After-struct-told invariant-loop decreases-loop) → c.before.before.before.before.fuse-next.result.done < PLACES
+room : (c : tie.After-struct_told-1 invariant-loop-i decreases-loop-i) → c.before.before.before.before.fuse_next-f.result.done < PLACES
 room c =
     let e = c.before.before in
     let g = e.before.before in
     let k = g.before.before.before.before.before in
-    omega (arith, (next e).few, g.before.before.before.before.loop-test.true, (from-loop k).requires.0)
+    omega (arith, (next e).few, g.before.before.before.before.loop-i-test.true, (from-loop k).requires.0)
 
 nothing : (es : List ℕ) (ts : List ℤ) (n : ℕ) → n ≡ 0 → fuse (held n es ts) ≡ held_if true n es ts
 unfolding fuse held_if held axes_in
 nothing es ts n z = ap (λ (k : ℕ). fuse (held k es ts)) z ∙ ap (λ (k : ℕ). some (held k es ts)) (sym z)
 
-returns : tie.Need-returns invariant-loop decreases-loop
-returns c =
+returns-then-count-eq0 : tie.Need-returns-then-count-eq0 invariant-loop-i decreases-loop-i
+returns-then-count-eq0 c =
     let s = c.before in
-    let z : s.args.count ≡ 0 = c.if1.true in
+    let z : s.args.count ≡ 0 = c.if-count-eq0.true in
     (s.requires.1, (nothing s.args.extents.now s.args.steps.now s.args.count z, s.requires.0))
 
-axis-at-requires : tie.Need-axis-at-requires invariant-loop decreases-loop
-axis-at-requires c κs = search rules
+axis_at-first-requires : tie.Need-axis_at-first-requires invariant-loop-i decreases-loop-i
+axis_at-first-requires c κs = search rules
 
-loop-holds : tie.Need-loop-init invariant-loop decreases-loop
-loop-holds c =
+loop-i-init : tie.Need-loop-i-init invariant-loop-i decreases-loop-i
+loop-i-init c =
     let s = c.before.before.before.before in (
       s.requires.1,
       fused-first s.args.extents.now s.args.steps.now s.args.count _ (omega arith) (omega (arith, s.requires.0, s.requires.1.0))
-          (omega (arith, s.requires.0, s.requires.1.1)) refl c.axis-at.ensures,
+          (omega (arith, s.requires.0, s.requires.1.1)) refl c.axis_at-first.ensures,
     )
 
-axis-at-requires-2 : tie.Need-axis-at-requires-2 invariant-loop decreases-loop
-axis-at-requires-2 c κs = let k = c.before.before.before in omega (arith, c.before.before.loop-test.true, (from-loop k).requires.0)
+axis_at-b-requires : tie.Need-axis_at-b-requires invariant-loop-i decreases-loop-i
+axis_at-b-requires c κs = let k = c.before.before.before in omega (arith, c.before.before.loop-i-test.true, (from-loop k).requires.0)
 
-fuse-next-requires : tie.Need-fuse-next-requires invariant-loop decreases-loop
-fuse-next-requires c κs =
+fuse_next-f-requires : tie.Need-fuse_next-f-requires invariant-loop-i decreases-loop-i
+fuse_next-f-requires c κs =
     let k = c.before.before.before.before in
-    omega (arith, k.loop.invariant.1.few, c.before.before.before.loop-test.true, (from-loop k).requires.0)
+    omega (arith, k.loop-i.invariant.1.few, c.before.before.before.loop-i-test.true, (from-loop k).requires.0)
 
-returns-2 : tie.Need-returns-2 invariant-loop decreases-loop
+returns-then-not-f : tie.Need-returns-then-not-f invariant-loop-i decreases-loop-i
 unfolding held_if
-returns-2 c =
+returns-then-not-f c =
     let g = c.before.before in
     let k = g.before.before.before.before.before in
     let s = from-loop k in (
-      k.loop.invariant.0,
+      k.loop-i.invariant.0,
       (
-        fused-stop s.args.extents.now s.args.steps.now s.args.count k.loop.extents k.loop.steps k.loop.f k.loop.i
-            g.before.before.before.before.loop-test.true (omega (arith, s.pre.0, s.pre.1.0)) (omega (arith, s.pre.0, s.pre.1.1))
-            k.loop.invariant.1 g.before.axis-at2.result g.before.axis-at2.ensures
-            g.fuse-next.result g.fuse-next.ensures (not-true _ c.if2.true),
+        fused-stop s.args.extents.now s.args.steps.now s.args.count k.loop-i.extents k.loop-i.steps k.loop-i.f k.loop-i.i
+            g.before.before.before.before.loop-i-test.true (omega (arith, s.requires.0, s.requires.1.0)) (omega (arith, s.requires.0, s.requires.1.1))
+            k.loop-i.invariant.1 g.before.axis_at-b.result g.before.axis_at-b.ensures
+            g.fuse_next-f.result g.fuse_next-f.ensures (not-true _ c.if-not-f.true),
         omega arith,
       ),
     )
 
-mul-extents : tie.Need-overflow-mul-extents invariant-loop decreases-loop
-mul-extents c = omega (arith, room c)
+offset_bounds-extents-done : tie.Need-offset_bounds-extents-done invariant-loop-i decreases-loop-i
+offset_bounds-extents-done c = omega (arith, room c)
 
-element-write-extents : tie.Need-element-write-extents invariant-loop decreases-loop
-element-write-extents c = omega (arith, room c)
+bounds-extents-done : tie.Need-bounds-extents-done invariant-loop-i decreases-loop-i
+bounds-extents-done c = omega (arith, room c)
 
-mul-step : tie.Need-overflow-mul-step invariant-loop decreases-loop
-mul-step c = omega (arith, room c)
+offset_bounds-steps-done : tie.Need-offset_bounds-steps-done invariant-loop-i decreases-loop-i
+offset_bounds-steps-done c = omega (arith, room c)
 
-element-set-from-step : tie.Need-element-set-from-step invariant-loop decreases-loop
-element-set-from-step c = omega (arith, room c)
+bounds-steps-done : tie.Need-bounds-steps-done invariant-loop-i decreases-loop-i
+bounds-steps-done c = omega (arith, room c)
 
-add-i : tie.Need-overflow-add-i invariant-loop decreases-loop
-add-i c = omega arith
+overflow_add-i : tie.Need-overflow_add-i invariant-loop-i decreases-loop-i
+overflow_add-i c = omega arith
 
-loop-less : tie.Need-loop-smaller invariant-loop decreases-loop
-loop-less c = omega arith
+loop-i-smaller : tie.Need-loop-i-smaller invariant-loop-i decreases-loop-i
+loop-i-smaller c = omega arith
 
-loop-again : tie.Need-loop-preserved invariant-loop decreases-loop
-loop-again c =
+loop-i-preserved : tie.Need-loop-i-preserved invariant-loop-i decreases-loop-i
+loop-i-preserved c =
     let e = c.before.before in
     let g = e.before.before in
     let k = g.before.before.before.before.before in
-    let f : SFits w64 g.fuse-next.result.last.source_step = record { sfits = c.struct_told.given.1.0.1 } in
+    let f : SFits w64 g.fuse_next-f.result.last.source_step = record { sfits = c.struct_told-1.given.1.0.1 } in
     simp (to_z-of_z f) (
-      (length-set k.loop.extents _ _ ∙ k.loop.invariant.0.0, length-set k.loop.steps _ _ ∙ k.loop.invariant.0.1),
+      (length-set k.loop-i.extents _ _ ∙ k.loop-i.invariant.0.0, length-set k.loop-i.steps _ _ ∙ k.loop-i.invariant.0.1),
       next e,
     )
 
-add-t22 : tie.Need-overflow-add-t22 invariant-loop decreases-loop
+add-t22 : tie.Need-overflow-add-t22 invariant-loop-i decreases-loop-i
 add-t22 c = omega arith
 
-returns-3 : tie.Need-returns-3 invariant-loop decreases-loop
+returns : tie.Need-returns invariant-loop-i decreases-loop-i
 unfolding held_if
-returns-3 c =
+returns c =
     let k = c.before.before in
     let s = from-loop k in
-    let p = k.loop.invariant.1 in (
-      k.loop.invariant.0,
+    let p = k.loop-i.invariant.1 in (
+      k.loop-i.invariant.0,
       (
-        fused-all s.args.extents.now s.args.steps.now s.args.count k.loop.extents k.loop.steps k.loop.f k.loop.i
-            c.before.loop-test.false p
-            (omega (arith, s.pre.0, k.loop.invariant.0.0)) (omega (arith, s.pre.0, k.loop.invariant.0.1)),
-        omega (arith, p.few, p.within, s.pre.0),
+        fused-all s.args.extents.now s.args.steps.now s.args.count k.loop-i.extents k.loop-i.steps k.loop-i.f k.loop-i.i
+            c.before.loop-i-test.false p
+            (omega (arith, s.requires.0, k.loop-i.invariant.0.0)) (omega (arith, s.requires.0, k.loop-i.invariant.0.1)),
+        omega (arith, p.few, p.within, s.requires.0),
       ),
     )
 
-pub compress-reduce-outer-axes-spec : {M : Type 1} → statement M
-compress-reduce-outer-axes-spec =
-    tie.close
-    (tie.spec
-    invariant-loop
-    decreases-loop
-    returns
-    axis-at-requires
-    loop-holds
-    axis-at-requires-2
-    fuse-next-requires
-    returns-2
-    mul-extents
-    element-write-extents
-    mul-step
-    element-set-from-step
-    add-i
-    loop-less
-    loop-again
-    add-t22
-    returns-3)
+pub compress_reduce_outer_axes_spec : {M : Type 1} → statement M
+compress_reduce_outer_axes_spec = tie.close (tie.spec invariant-loop-i decreases-loop-i returns-then-count-eq0 axis_at-first-requires loop-i-init axis_at-b-requires fuse_next-f-requires returns-then-not-f offset_bounds-extents-done bounds-extents-done offset_bounds-steps-done bounds-steps-done overflow_add-i loop-i-smaller loop-i-preserved overflow_add-result returns)

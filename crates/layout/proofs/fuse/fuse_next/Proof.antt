@@ -13,53 +13,42 @@ use Rattle.layout.proofs.fuse.fuse_next.Lts as lts
 use Rattle.layout.proofs.axis.no_axis.Reads as no-axis-reads
 use Rattle.layout.proofs.fuse.join_axes.Reads as join-axes-reads
 
-join-axes-requires : tie.Need-join-axes-requires
-join-axes-requires c κs = search rules
+join_axes-j-requires : tie.Need-join_axes-j-requires
+join_axes-j-requires c κs = search rules
 
-enum-known-j : tie.Need-enum-known-j
-enum-known-j c = search rules
+enum_known-j : tie.Need-enum_known-j
+enum_known-j c = search rules
 
-enum_told : tie.Need-enum-told
-enum_told c = search rules
+enum_told-1 : tie.Need-enum_told-1
+enum_told-1 c = search rules
 
-add-t8 : tie.Need-overflow-add-t8
-add-t8 c = omega arith
+overflow_add-result : tie.Need-overflow_add-result
+overflow_add-result c = omega arith
 
-enum-told-2 : tie.Need-enum-told-2
-enum-told-2 c = search rules
+enum_told-in-Overflow : tie.Need-enum_told-in-Overflow
+enum_told-in-Overflow c = search rules
 
-no-axis-requires : tie.Need-no-axis-requires
-no-axis-requires c κs = search rules
+no_axis-requires : tie.Need-no_axis-requires
+no_axis-requires c κs = search rules
 
-returns : tie.Need-returns
+returns-in-One : tie.Need-returns-in-One
 unfolding next_of next_from
-returns c =
+returns-in-One c =
     let s = c.before.before.before.before.before in
-    ap (next_from s.args.f.done s.args.b) (sym c.before.j.given.1 ∙ c.before.before.before.join-axes.ensures)
+    ap (next_from s.args.f.done s.args.b) (sym c.before.j-1.given.1 ∙ c.before.before.before.join_axes-j.ensures)
 
-returns-2 : tie.Need-returns-2
+returns-in-Two : tie.Need-returns-in-Two
 unfolding next_of next_from
-returns-2 c =
+returns-in-Two c =
     let s = c.before.before.before.before in
-    ap (next_from s.args.f.done s.args.b) (sym c.enum_told.given.1 ∙ c.before.before.join-axes.ensures)
+    ap (next_from s.args.f.done s.args.b) (sym c.enum_told-1.given.1 ∙ c.before.before.join_axes-j.ensures)
 
-returns-3 : tie.Need-returns-3
+returns-in-Overflow : tie.Need-returns-in-Overflow
 unfolding next_of next_from
-returns-3 c =
+returns-in-Overflow c =
     let s = c.before.before.before.before.before in
-    ap (λ (a : ReduceOuterAxis). record { ok = false; done = 0; last = a }) c.no-axis.ensures
-    ∙ ap (next_from s.args.f.done s.args.b) (sym c.before.enum-told2.given.1 ∙ c.before.before.before.join-axes.ensures)
+    ap (λ (a : ReduceOuterAxis). record { ok = false; done = 0; last = a }) c.no_axis.ensures
+    ∙ ap (next_from s.args.f.done s.args.b) (sym c.before.enum_told-in-Overflow-1.given.1 ∙ c.before.before.before.join_axes-j.ensures)
 
-pub fuse-next-spec : {M : Type 1} → statement M
-fuse-next-spec =
-    tie.close
-    (tie.spec
-    join-axes-requires
-    enum-known-j
-    enum_told
-    add-t8
-    enum-told-2
-    no-axis-requires
-    returns
-    returns-2
-    returns-3)
+pub fuse_next_spec : {M : Type 1} → statement M
+fuse_next_spec = tie.close (tie.spec join_axes-j-requires enum_known-j enum_told-1 overflow_add-result enum_told-in-Overflow no_axis-requires returns-in-One returns-in-Two returns-in-Overflow)

@@ -16,72 +16,59 @@ use Rattle.layout.proofs.traversal.checked_total.Reads as reads
 use Rattle.layout.proofs.traversal.checked_total.Lts as lts
 use Rattle.integers.proofs.checked_mul_u64.Reads as checked-mul-u64-reads
 
-abbrev invariant-loop : tie.invariant-loop
-invariant-loop sizes total₀ i₀ total i = (i ≤ length sizes) × (total_from total (drop i sizes) ≡ total_of sizes)
+abbrev invariant-loop-i : tie.invariant-loop-i
+invariant-loop-i sizes total₀ i₀ total i = (i ≤ length sizes) × (total_from total (drop i sizes) ≡ total_of sizes)
 
-abbrev decreases-loop : tie.decreases-loop
-decreases-loop sizes total₀ i₀ total i = length sizes - i
+abbrev decreases-loop-i : tie.decreases-loop-i
+decreases-loop-i sizes total₀ i₀ total i = length sizes - i
 
-loop-holds : tie.Need-loop-init invariant-loop decreases-loop
+loop-i-init : tie.Need-loop-i-init invariant-loop-i decreases-loop-i
 unfolding total_of
-loop-holds c = (omega arith, refl)
+loop-i-init c = (omega arith, refl)
 
-mul-checked-mul-u64 : tie.Need-overflow-mul-checked-mul-u64 invariant-loop decreases-loop
-mul-checked-mul-u64 c = omega arith
+offset_bounds-sizes-i : tie.Need-offset_bounds-sizes-i invariant-loop-i decreases-loop-i
+offset_bounds-sizes-i c = omega arith
 
-shared-slice-read-checked-mul-u64 : tie.Need-shared-slice-read-checked-mul-u64 invariant-loop decreases-loop
-shared-slice-read-checked-mul-u64 c = omega arith
+bounds-sizes-i : tie.Need-bounds-sizes-i invariant-loop-i decreases-loop-i
+bounds-sizes-i c = omega arith
 
-checked-mul-u64-requires : tie.Need-checked-mul-u64-requires invariant-loop decreases-loop
-checked-mul-u64-requires c κs = search rules
+checked_mul_u64-t-requires : tie.Need-checked_mul_u64-t-requires invariant-loop-i decreases-loop-i
+checked_mul_u64-t-requires c κs = search rules
 
-returns : tie.Need-returns invariant-loop decreases-loop
+returns-then-not-t : tie.Need-returns-then-not-t invariant-loop-i decreases-loop-i
 unfolding checked_or
-returns c =
+returns-then-not-t c =
     let m = c.before.before in
     let l = m.before.before.before in
     let s = l.before.before in
-    let k = narrow_u64-not-ok _ (l.loop.total * get_or s.args.sizes.now l.loop.i 0) m.checked-mul-u64.ensures (not-true _ c.if1.true) in
-    m.checked-mul-u64.ensures
+    let k = narrow_u64-not-ok _ (l.loop-i.total * get_or s.args.sizes.now l.loop-i.i 0) m.checked_mul_u64-t.ensures (not-true _ c.if-not-t.true) in
+    m.checked_mul_u64-t.ensures
     ∙ narrow_u64-no _ k
-    ∙ ap checked_or (sym (sym l.loop.invariant.1 ∙ total-over s.args.sizes.now l.loop.total l.loop.i m.before.before.loop-test.true k))
+    ∙ ap checked_or (sym (sym l.loop-i.invariant.1 ∙ total-over s.args.sizes.now l.loop-i.total l.loop-i.i m.before.before.loop-i-test.true k))
 
-add-i : tie.Need-overflow-add-i invariant-loop decreases-loop
-add-i c = omega arith
+overflow_add-i : tie.Need-overflow_add-i invariant-loop-i decreases-loop-i
+overflow_add-i c = omega arith
 
-loop-less : tie.Need-loop-smaller invariant-loop decreases-loop
-loop-less c = omega arith
+loop-i-smaller : tie.Need-loop-i-smaller invariant-loop-i decreases-loop-i
+loop-i-smaller c = omega arith
 
-loop-again : tie.Need-loop-preserved invariant-loop decreases-loop
-loop-again c =
+loop-i-preserved : tie.Need-loop-i-preserved invariant-loop-i decreases-loop-i
+loop-i-preserved c =
     let m = c.before.before in
     let l = m.before.before.before in
     let s = l.before.before in
-    let k = narrow_u64-ok _ (l.loop.total * get_or s.args.sizes.now l.loop.i 0) m.checked-mul-u64.ensures (not-false _ c.if1.false) in (
+    let k = narrow_u64-ok _ (l.loop-i.total * get_or s.args.sizes.now l.loop-i.i 0) m.checked_mul_u64-t.ensures (not-false _ c.if-not-t.false) in (
       omega arith,
-      ap (λ (t : ℕ). total_from t (drop (l.loop.i + 1) s.args.sizes.now)) k.0
-          ∙ sym (total-more s.args.sizes.now l.loop.total l.loop.i m.before.before.loop-test.true k.1)
-          ∙ l.loop.invariant.1,
+      ap (λ (t : ℕ). total_from t (drop (l.loop-i.i + 1) s.args.sizes.now)) k.0
+          ∙ sym (total-more s.args.sizes.now l.loop-i.total l.loop-i.i m.before.before.loop-i-test.true k.1)
+          ∙ l.loop-i.invariant.1,
     )
 
-returns-2 : tie.Need-returns-2 invariant-loop decreases-loop
+returns : tie.Need-returns invariant-loop-i decreases-loop-i
 unfolding checked_or
-returns-2 c =
+returns c =
     let l = c.before in
-    ap checked_or (sym (total-all l.before.before.args.sizes.now l.loop.total l.loop.i c.loop-test.false) ∙ l.loop.invariant.1)
+    ap checked_or (sym (total-all l.before.before.args.sizes.now l.loop-i.total l.loop-i.i c.loop-i-test.false) ∙ l.loop-i.invariant.1)
 
-pub checked-total-spec : {M : Type 1} → statement M
-checked-total-spec =
-    tie.close
-    (tie.spec
-    invariant-loop
-    decreases-loop
-    loop-holds
-    mul-checked-mul-u64
-    shared-slice-read-checked-mul-u64
-    checked-mul-u64-requires
-    returns
-    add-i
-    loop-less
-    loop-again
-    returns-2)
+pub checked_total_spec : {M : Type 1} → statement M
+checked_total_spec = tie.close (tie.spec invariant-loop-i decreases-loop-i loop-i-init offset_bounds-sizes-i bounds-sizes-i checked_mul_u64-t-requires returns-then-not-t overflow_add-i loop-i-smaller loop-i-preserved returns)

@@ -14,81 +14,68 @@ use Rattle.layout.proofs.Line.{line-empty, line-one, line-3, line-4, line-run}
 use Rattle.layout.proofs.traversal.compile_line.Statement.{statement}
 use Rattle.layout.proofs.traversal.compile_line.Tie as tie
 
-no-elements-requires : tie.Need-no-elements-requires
-no-elements-requires c κs = search rules
+no_elements-requires : tie.Need-no_elements-requires
+no_elements-requires c κs = search rules
 
-returns : tie.Need-returns
-returns c =
+returns-then-size-eq0 : tie.Need-returns-then-size-eq0
+returns-then-size-eq0 c =
     let s = c.before.before in
-    c.no-elements.ensures ∙ sym (line-empty s.args.size s.args.stride s.ranges.size.fits c.before.if1.true)
+    c.no_elements.ensures ∙ sym (line-empty s.args.size s.args.stride s.ranges.size.fits c.before.if-size-eq0.true)
 
-one-run-requires : tie.Need-one-run-requires
-one-run-requires c κs = search rules
+one_run-requires : tie.Need-one_run-requires
+one_run-requires c κs = search rules
 
-returns-2 : tie.Need-returns-2
-returns-2 c =
+returns-then-size-eq1 : tie.Need-returns-then-size-eq1
+returns-then-size-eq1 c =
     let s = c.before.before.before in
-    c.one-run.ensures ∙ sym (line-one s.args.size s.args.stride s.ranges.size.fits c.before.if2.true)
+    c.one_run.ensures ∙ sym (line-one s.args.size s.args.stride s.ranges.size.fits c.before.if-size-eq1.true)
 
-checked-reduce-reset-requires : tie.Need-checked-reduce-reset-requires
-checked-reduce-reset-requires c κs = search rules
+checked_reduce_reset-reset-requires : tie.Need-checked_reduce_reset-reset-requires
+checked_reduce_reset-reset-requires c κs = search rules
 
 -- what the reset is
-reset : (c : tie.After-checked-reduce-reset) → let s = c.before.before.before in
-    c.checked-reduce-reset.result ≡ keep_i (reset_fits s.args.size s.args.stride) (neg_ℤ (span s.args.size s.args.stride))
+reset : (c : tie.After-checked_reduce_reset-reset) → let s = c.before.before.before in
+    c.checked_reduce_reset-reset.result ≡ keep_i (reset_fits s.args.size s.args.stride) (neg_ℤ (span s.args.size s.args.stride))
 reset c =
     let s = c.before.before.before in
-    c.checked-reduce-reset.ensures ∙ ap (λ (z : ℤ). keep_i (reset_fits s.args.size z) (neg_ℤ (span s.args.size z))) (to_z-of_z s.ranges.stride)
+    c.checked_reduce_reset-reset.ensures ∙ ap (λ (z : ℤ). keep_i (reset_fits s.args.size z) (neg_ℤ (span s.args.size z))) (to_z-of_z s.ranges.stride)
 
 refused-requires : tie.Need-refused-requires
 refused-requires c κs = search rules
 
-returns-3 : tie.Need-returns-3
-returns-3 c =
+returns-then-not-reset : tie.Need-returns-then-not-reset
+returns-then-not-reset c =
     let r = c.before.before.before in
     let e = r.before in
     let s = e.before.before in
     c.refused.ensures
-    ∙ sym (line-3 s.args.size s.args.stride s.ranges.size.fits e.before.if1.false e.if2.false
-    (reset-not-ok _ _ _ (reset r) (not-true _ c.before.if3.true)))
+    ∙ sym (line-3 s.args.size s.args.stride s.ranges.size.fits e.before.if-size-eq0.false e.if-size-eq1.false
+    (reset-not-ok _ _ _ (reset r) (not-true _ c.before.if-not-reset.true)))
 
-refused-requires-2 : tie.Need-refused-requires-2
-refused-requires-2 c κs = search rules
+refused-requires-then-size-gt-MOST_ELEMENTS : tie.Need-refused-requires-then-size-gt-MOST_ELEMENTS
+refused-requires-then-size-gt-MOST_ELEMENTS c κs = search rules
 
-returns-4 : tie.Need-returns-4
-returns-4 c =
+returns-then-size-gt-MOST_ELEMENTS : tie.Need-returns-then-size-gt-MOST_ELEMENTS
+returns-then-size-gt-MOST_ELEMENTS c =
     let r = c.before.before.before.before in
     let e = r.before in
     let s = e.before.before in
-    c.refused2.ensures
-    ∙ sym (line-4 s.args.size s.args.stride s.ranges.size.fits e.before.if1.false e.if2.false
-    (reset-ok _ _ _ (reset r) (not-false _ c.before.before.if3.false)).0 c.before.if4.true)
+    c.refused-then-size-gt-MOST_ELEMENTS.ensures
+    ∙ sym (line-4 s.args.size s.args.stride s.ranges.size.fits e.before.if-size-eq0.false e.if-size-eq1.false
+    (reset-ok _ _ _ (reset r) (not-false _ c.before.before.if-not-reset.false)).0 c.before.if-size-gt-MOST_ELEMENTS.true)
 
-one-run-requires-2 : tie.Need-one-run-requires-2
-one-run-requires-2 c κs = search rules
+one_run-requires-2 : tie.Need-one_run-requires-2
+one_run-requires-2 c κs = search rules
 
-returns-5 : tie.Need-returns-5
-returns-5 c =
+returns : tie.Need-returns
+returns c =
     let r = c.before.before.before.before in
     let e = r.before in
     let s = e.before.before in
-    c.one-run2.ensures
+    c.one_run-2.ensures
     ∙ ap (λ (z : ℤ). record { code = 0; traversal = layout_of PLACES s.args.size (axis_of s.args.size z ∷ []) }) (to_z-of_z s.ranges.stride)
-    ∙ sym (line-run s.args.size s.args.stride s.ranges.size.fits e.before.if1.false e.if2.false
-    (reset-ok _ _ _ (reset r) (not-false _ c.before.before.if3.false)).0 c.before.if4.false)
+    ∙ sym (line-run s.args.size s.args.stride s.ranges.size.fits e.before.if-size-eq0.false e.if-size-eq1.false
+    (reset-ok _ _ _ (reset r) (not-false _ c.before.before.if-not-reset.false)).0 c.before.if-size-gt-MOST_ELEMENTS.false)
 
-pub compile-line-spec : {M : Type 1} → statement M
-compile-line-spec =
-    tie.close
-    (tie.spec
-    no-elements-requires
-    returns
-    one-run-requires
-    returns-2
-    checked-reduce-reset-requires
-    refused-requires
-    returns-3
-    refused-requires-2
-    returns-4
-    one-run-requires-2
-    returns-5)
+pub compile_line_spec : {M : Type 1} → statement M
+compile_line_spec = tie.close (tie.spec no_elements-requires returns-then-size-eq0 one_run-requires returns-then-size-eq1 checked_reduce_reset-reset-requires refused-requires returns-then-not-reset refused-requires-then-size-gt-MOST_ELEMENTS returns-then-size-gt-MOST_ELEMENTS one_run-requires-2 returns)

@@ -6,12 +6,12 @@ use Rattle.layout.specs.Compile.{empty_layout}
 use Rattle.layout.proofs.traversal.empty.Statement.{statement}
 use Rattle.layout.proofs.traversal.empty.Tie as tie
 
-no-axis-requires : tie.Need-no-axis-requires
-no-axis-requires c κs = search rules
+no_axis-z-requires : tie.Need-no_axis-z-requires
+no_axis-z-requires c κs = search rules
 
 returns : tie.Need-returns
 unfolding empty_layout places_of
-returns c = rw c.no-axis.ensures
+returns c = rw c.no_axis-z.ensures
 
-pub empty-spec : {M : Type 1} → statement M
-empty-spec = tie.close (tie.spec no-axis-requires returns)
+pub empty_spec : {M : Type 1} → statement M
+empty_spec = tie.close (tie.spec no_axis-z-requires returns)

@@ -10,5 +10,5 @@ empty-requires c κs = search rules
 returns : tie.Need-returns
 returns c = rw c.empty.ensures
 
-pub no-elements-spec : {M : Type 1} → statement M
-no-elements-spec = tie.close (tie.spec empty-requires returns)
+pub no_elements_spec : {M : Type 1} → statement M
+no_elements_spec = tie.close (tie.spec empty-requires returns)

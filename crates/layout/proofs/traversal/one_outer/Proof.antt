@@ -7,20 +7,20 @@ use Rattle.layout.specs.Compile.{layout_of}
 use Rattle.layout.proofs.traversal.one_outer.Statement.{statement}
 use Rattle.layout.proofs.traversal.one_outer.Tie as tie
 
-no-axis-requires : tie.Need-no-axis-requires
-no-axis-requires c κs = search rules
+no_axis-z-requires : tie.Need-no_axis-z-requires
+no_axis-z-requires c κs = search rules
 
-with-reset-requires : tie.Need-with-reset-requires
-with-reset-requires c κs = search rules
+with_reset-a-requires : tie.Need-with_reset-a-requires
+with_reset-a-requires c κs = search rules
 
-array-set-from-places : tie.Need-array-set-from-places
-array-set-from-places c = search rules
+bounds-places-0 : tie.Need-bounds-places-0
+bounds-places-0 c = search rules
 
 returns : tie.Need-returns
 unfolding layout_of axis_of places_of
 returns c =
     let s = c.before.before in
-    rw (to_z-of_z s.ranges.stride, c.before.no-axis.ensures, simp (to_z-of_z s.ranges.step) at c.with-reset.ensures)
+    rw (to_z-of_z s.ranges.stride, c.before.no_axis-z.ensures, simp (to_z-of_z s.ranges.step) at c.with_reset-a.ensures)
 
-pub one-outer-spec : {M : Type 1} → statement M
-one-outer-spec = tie.close (tie.spec no-axis-requires with-reset-requires array-set-from-places returns)
+pub one_outer_spec : {M : Type 1} → statement M
+one_outer_spec = tie.close (tie.spec no_axis-z-requires with_reset-a-requires bounds-places-0 returns)

@@ -7,12 +7,12 @@ use Rattle.layout.specs.Compile.{layout_of}
 use Rattle.layout.proofs.traversal.one_run.Statement.{statement}
 use Rattle.layout.proofs.traversal.one_run.Tie as tie
 
-no-axis-requires : tie.Need-no-axis-requires
-no-axis-requires c κs = search rules
+no_axis-z-requires : tie.Need-no_axis-z-requires
+no_axis-z-requires c κs = search rules
 
 returns : tie.Need-returns
 unfolding layout_of axis_of places_of
-returns c = rw (to_z-of_z c.before.ranges.stride, c.no-axis.ensures)
+returns c = rw (to_z-of_z c.before.ranges.stride, c.no_axis-z.ensures)
 
-pub one-run-spec : {M : Type 1} → statement M
-one-run-spec = tie.close (tie.spec no-axis-requires returns)
+pub one_run_spec : {M : Type 1} → statement M
+one_run_spec = tie.close (tie.spec no_axis-z-requires returns)

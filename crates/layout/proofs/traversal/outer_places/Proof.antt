@@ -21,96 +21,78 @@ use Rattle.layout.proofs.traversal.outer_places.Lts as lts
 use Rattle.layout.proofs.axis.with_reset.Reads as with-reset-reads
 use Rattle.layout.proofs.axis.no_axis.Reads as no-axis-reads
 
-abbrev invariant-loop : tie.invariant-loop
-invariant-loop extents steps count places₀ i₀ places i = (1 ≤ i) × (i - 1 ≤ count - 1) × (places ≡ places_of PLACES (drop 1 (held i extents steps)))
+abbrev invariant-loop-i : tie.invariant-loop-i
+invariant-loop-i extents steps count places₀ i₀ places i = (1 ≤ i) × (i - 1 ≤ count - 1) × (places ≡ places_of PLACES (drop 1 (held i extents steps)))
 
-abbrev decreases-loop : tie.decreases-loop
-decreases-loop extents steps count places₀ i₀ places i = count - i
+abbrev decreases-loop-i : tie.decreases-loop-i
+decreases-loop-i extents steps count places₀ i₀ places i = count - i
 
-no-axis-requires : tie.Need-no-axis-requires invariant-loop decreases-loop
-no-axis-requires c κs = search rules
+no_axis-z-requires : tie.Need-no_axis-z-requires invariant-loop-i decreases-loop-i
+no_axis-z-requires c κs = search rules
 
-loop-holds : tie.Need-loop-init invariant-loop decreases-loop
-loop-holds c =
+loop-i-init : tie.Need-loop-i-init invariant-loop-i decreases-loop-i
+loop-i-init c =
     let s = c.before in
-    (omega arith, omega arith, no_outer s.args.extents.now s.args.steps.now s.requires.1 c.no-axis.result c.no-axis.ensures)
+    (omega arith, omega arith, no_outer s.args.extents.now s.args.steps.now s.requires.1 c.no_axis-z.result c.no_axis-z.ensures)
 
-mul-with-reset : tie.Need-overflow-mul-with-reset invariant-loop decreases-loop
-mul-with-reset c = omega arith
+offset_bounds-extents-i : tie.Need-offset_bounds-extents-i invariant-loop-i decreases-loop-i
+offset_bounds-extents-i c = omega arith
 
-element-copy-out-with-reset : tie.Need-element-copy-out-with-reset invariant-loop decreases-loop
-element-copy-out-with-reset c = omega arith
+bounds-extents-i : tie.Need-bounds-extents-i invariant-loop-i decreases-loop-i
+bounds-extents-i c = omega arith
 
-mul-with-reset-2 : tie.Need-overflow-mul-with-reset-2 invariant-loop decreases-loop
-mul-with-reset-2 c = omega arith
+offset_bounds-steps-i : tie.Need-offset_bounds-steps-i invariant-loop-i decreases-loop-i
+offset_bounds-steps-i c = omega arith
 
-element-copy-out-with-reset-2 : tie.Need-element-copy-out-with-reset-2 invariant-loop decreases-loop
-element-copy-out-with-reset-2 c = omega arith
+bounds-steps-i : tie.Need-bounds-steps-i invariant-loop-i decreases-loop-i
+bounds-steps-i c = omega arith
 
-with-reset-requires : tie.Need-with-reset-requires invariant-loop decreases-loop
-with-reset-requires c κs =
+with_reset-a-requires : tie.Need-with_reset-a-requires invariant-loop-i decreases-loop-i
+with_reset-a-requires c κs =
     let k = c.before.before.before in
     let s = k.before.before in
-    let f : SFits w64 (get_or s.args.steps.now k.loop.i (pos 0)) = record { sfits = c.with-reset-arg2.given } in
+    let f : SFits w64 (get_or s.args.steps.now k.loop-i.i (pos 0)) = record { sfits = c.with_reset-arg-in-loop-i-1.given } in
     simp (to_z-of_z f)
-    (resets-at s.args.extents.now s.args.steps.now s.requires.1 s.args.count k.loop.i c.before.before.loop-test.true s.requires.0
+    (resets-at s.args.extents.now s.args.steps.now s.requires.1 s.args.count k.loop-i.i c.before.before.loop-i-test.true s.requires.0
     s.requires.2)
 
-sub-places : tie.Need-overflow-sub-places invariant-loop decreases-loop
-sub-places c = omega arith
+overflow_sub-places : tie.Need-overflow_sub-places invariant-loop-i decreases-loop-i
+overflow_sub-places c = omega arith
 
-mul-places : tie.Need-overflow-mul-places invariant-loop decreases-loop
-mul-places c = omega arith
+offset_bounds-places-i : tie.Need-offset_bounds-places-i invariant-loop-i decreases-loop-i
+offset_bounds-places-i c = omega arith
 
-array-set-from-places : tie.Need-array-set-from-places invariant-loop decreases-loop
-array-set-from-places c = omega arith
+bounds-places-i : tie.Need-bounds-places-i invariant-loop-i decreases-loop-i
+bounds-places-i c = omega arith
 
-add-i : tie.Need-overflow-add-i invariant-loop decreases-loop
-add-i c = omega arith
+overflow_add-i : tie.Need-overflow_add-i invariant-loop-i decreases-loop-i
+overflow_add-i c = omega arith
 
-loop-less : tie.Need-loop-smaller invariant-loop decreases-loop
-loop-less c = omega arith
+loop-i-smaller : tie.Need-loop-i-smaller invariant-loop-i decreases-loop-i
+loop-i-smaller c = omega arith
 
-loop-again : tie.Need-loop-preserved invariant-loop decreases-loop
-loop-again c =
+loop-i-preserved : tie.Need-loop-i-preserved invariant-loop-i decreases-loop-i
+loop-i-preserved c =
     let k = c.before.before.before.before in
     let s = k.before.before in
-    let n = get_or s.args.extents.now k.loop.i 0 in
-    let d = get_or s.args.steps.now k.loop.i (pos 0) in
-    let f : SFits w64 d = record { sfits = c.before.with-reset-arg2.given } in (
+    let n = get_or s.args.extents.now k.loop-i.i 0 in
+    let d = get_or s.args.steps.now k.loop-i.i (pos 0) in
+    let f : SFits w64 d = record { sfits = c.before.with_reset-arg-in-loop-i-1.given } in (
       omega arith,
       omega arith,
-      ap (set k.loop.places (k.loop.i - 1)) (simp (to_z-of_z f) at c.with-reset.ensures)
-          ∙ ap (λ (l : List ReduceOuterAxis). set l (k.loop.i - 1) (axis_of n d)) k.loop.invariant.2
-          ∙ outer-more s.args.extents.now s.args.steps.now s.requires.1 k.loop.i k.loop.invariant.0 (omega arith),
+      ap (set k.loop-i.places (k.loop-i.i - 1)) (simp (to_z-of_z f) at c.with_reset-a.ensures)
+          ∙ ap (λ (l : List ReduceOuterAxis). set l (k.loop-i.i - 1) (axis_of n d)) k.loop-i.invariant.2
+          ∙ outer-more s.args.extents.now s.args.steps.now s.requires.1 k.loop-i.i k.loop-i.invariant.0 (omega arith),
     )
 
-returns : tie.Need-returns invariant-loop decreases-loop
+returns : tie.Need-returns invariant-loop-i decreases-loop-i
 returns c =
     let k = c.before in
     let s = k.before.before in
-    k.loop.invariant.2
+    k.loop-i.invariant.2
     ∙ ap (places_of PLACES)
-    (outer-all s.args.extents.now s.args.steps.now s.requires.1 s.args.count k.loop.i k.loop.invariant.0 k.loop.invariant.1
-    c.loop-test.false)
+    (outer-all s.args.extents.now s.args.steps.now s.requires.1 s.args.count k.loop-i.i k.loop-i.invariant.0 k.loop-i.invariant.1
+    c.loop-i-test.false)
 
-pub outer-places-spec : {M : Type 1} → statement M
-outer-places-spec =
-    tie.close
-    (tie.spec
-    invariant-loop
-    decreases-loop
-    no-axis-requires
-    loop-holds
-    mul-with-reset
-    element-copy-out-with-reset
-    mul-with-reset-2
-    element-copy-out-with-reset-2
-    with-reset-requires
-    sub-places
-    mul-places
-    array-set-from-places
-    add-i
-    loop-less
-    loop-again
-    returns)
+pub outer_places_spec : {M : Type 1} → statement M
+outer_places_spec = tie.close (tie.spec invariant-loop-i decreases-loop-i no_axis-z-requires loop-i-init offset_bounds-extents-i bounds-extents-i offset_bounds-steps-i bounds-steps-i with_reset-a-requires overflow_sub-places offset_bounds-places-i bounds-places-i overflow_add-i loop-i-smaller loop-i-preserved returns)

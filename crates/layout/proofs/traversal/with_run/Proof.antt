@@ -12,38 +12,37 @@ use Rattle.layout.proofs.Outer.{run_none, run-first}
 use Rattle.layout.proofs.traversal.with_run.Statement.{statement}
 use Rattle.layout.proofs.traversal.with_run.Tie as tie
 
-outer-places-requires : tie.Need-outer-places-requires
-outer-places-requires c κs = search rules
+outer_places-places-requires : tie.Need-outer_places-places-requires
+outer_places-places-requires c κs = search rules
+
+returns-then-count-eq0 : tie.Need-returns-then-count-eq0
+returns-then-count-eq0 c =
+    let s = c.before.before in
+    run_none s.args.extents.now s.args.steps.now s.requires.1 s.args.total s.args.count c.before.outer_places-places.result c.if-count-eq0.true
+    c.before.outer_places-places.ensures
+
+axis_at-run-requires : tie.Need-axis_at-run-requires
+axis_at-run-requires c κs = search rules
+
+overflow_sub-result : tie.Need-overflow_sub-result
+overflow_sub-result c = search rules
 
 returns : tie.Need-returns
 returns c =
-    let s = c.before.before in
-    run_none s.args.extents.now s.args.steps.now s.requires.1 s.args.total s.args.count c.before.outer-places.result c.if1.true
-    c.before.outer-places.ensures
-
-axis-at-requires : tie.Need-axis-at-requires
-axis-at-requires c κs = search rules
-
-sub-t8 : tie.Need-overflow-sub-t8
-sub-t8 c = search rules
-
-returns-2 : tie.Need-returns-2
-returns-2 c =
     let e = c.before.before in
     let s = e.before.before in
-    let f : SFits w64 c.before.axis-at.result.source_step = record { sfits = c.struct_told.given.1.0.1 } in
+    let f : SFits w64 c.before.axis_at-run.result.source_step = record { sfits = c.struct_told-1.given.1.0.1 } in
     simp (to_z-of_z f)
     (ap (λ (a : ReduceOuterAxis). record {
       total = s.args.total;
       run_len = a.extent;
       run_stride = a.source_step;
       axis_count = s.args.count - 1;
-      run_axes = e.before.outer-places.result;
+      run_axes = e.before.outer_places-places.result;
     })
-    c.before.axis-at.ensures
-    ∙ run-first s.args.extents.now s.args.steps.now s.requires.1 s.args.total s.args.count e.before.outer-places.result e.if1.false
-    s.requires.0 e.before.outer-places.ensures)
+    c.before.axis_at-run.ensures
+    ∙ run-first s.args.extents.now s.args.steps.now s.requires.1 s.args.total s.args.count e.before.outer_places-places.result e.if-count-eq0.false
+    s.requires.0 e.before.outer_places-places.ensures)
 
-pub with-run-spec : {M : Type 1} → statement M
-with-run-spec =
-    tie.close (tie.spec outer-places-requires returns axis-at-requires sub-t8 returns-2)
+pub with_run_spec : {M : Type 1} → statement M
+with_run_spec = tie.close (tie.spec outer_places-places-requires returns-then-count-eq0 axis_at-run-requires overflow_sub-result returns)

@@ -22,74 +22,64 @@ use Rattle.offsets.proofs.bounds.inside.Lts as lts
 use Rattle.offsets.proofs.bounds.inside_from.Reads as inside-from-reads
 
 -- a base that is not negative
-whole : (c : tie.Else1) → c.before.before.args.base ≡ pos (nat_abs c.before.before.args.base)
-whole c = nonneg_pos c.before.before.args.base (simp (to_z-of_z c.before.before.ranges.base) at c.if1.false)
+whole : (c : tie.Else-base-lt0) → c.before.before.args.base ≡ pos (nat_abs c.before.before.args.base)
+whole c = nonneg_pos c.before.before.args.base (simp (to_z-of_z c.before.before.ranges.base) at c.if-base-lt0.false)
 
 nat_abs-small : (x : ℤ) → SFits w64 x → lt_z x (pos 0) ≡ false → nat_abs x < 2 ^ 63
 nat_abs-small (pos n) f e = f.sfits
 nat_abs-small (negsuc n) f e = let z : ◌≡◌ {A = ℕ} 0 1 = cc in omega arith
 
-returns : tie.Need-returns
-returns c =
+returns-then-base-lt0 : tie.Need-returns-then-base-lt0
+returns-then-base-lt0 c =
     let s = c.before.before in
     let xs = axes_in s.args.sizes.now s.args.strides.now in
-    base-below xs s.requires.1 s.args.len s.args.base (simp (to_z-of_z s.ranges.base) at c.if1.true)
+    base-below xs s.requires.1 s.args.len s.args.base (simp (to_z-of_z s.ranges.base) at c.if-base-lt0.true)
 
-cast-b : tie.Need-overflow-cast-b
-cast-b c =
+overflow_cast-b : tie.Need-overflow_cast-b
+overflow_cast-b c =
     let f = c.before.before.ranges.base in
     let x = c.before.before.args.base in
     simp (to_z-of_z f) (rw (whole c) (tt, omega (arith, nat_abs-fits x f)))
 
-returns-2 : tie.Need-returns-2
-returns-2 c =
+returns-then-len-b : tie.Need-returns-then-len-b
+returns-then-len-b c =
     let s = c.before.before.before in
     let x = s.args.base in
     let xs = axes_in s.args.sizes.now s.args.strides.now in
     let b : nat_abs (to_z w64 (of_z w64 x)) ≡ nat_abs x = ap nat_abs (to_z-of_z s.ranges.base) in
-    base-past xs s.requires.1 s.args.len (nat_abs x) (omega (arith, c.if2.true, b))
+    base-past xs s.requires.1 s.args.len (nat_abs x) (omega (arith, c.if-len-b.true, b))
     ∙ ap (λ (z : ℤ). all_inside xs (elements xs) z s.args.len) (sym (whole c.before))
 
-sub-inside-from : tie.Need-overflow-sub-inside-from
-sub-inside-from c = search rules
+overflow_sub-len : tie.Need-overflow_sub-len
+overflow_sub-len c = search rules
 
-inside-from-requires : tie.Need-inside-from-requires
-inside-from-requires c κs = search rules
+inside_from-requires : tie.Need-inside_from-requires
+inside_from-requires c κs = search rules
 
-returns-3 : tie.Need-returns-3
-returns-3 c =
+returns-then-len-le-I64_MAX : tie.Need-returns-then-len-le-I64_MAX
+returns-then-len-le-I64_MAX c =
     let s = c.before.before.before.before.before in
     let x = s.args.base in
     let xs = axes_in s.args.sizes.now s.args.strides.now in
-    simp (to_z-of_z s.ranges.base) at c.inside-from.ensures
-    ∙ last-short xs s.requires.1 s.args.len (nat_abs x) (omega (arith, c.before.before.if2.false)) (omega (arith, c.before.if3.true))
+    simp (to_z-of_z s.ranges.base) at c.inside_from.ensures
+    ∙ last-short xs s.requires.1 s.args.len (nat_abs x) (omega (arith, c.before.before.if-len-b.false)) (omega (arith, c.before.if-len-le-I64_MAX.true))
     ∙ ap (λ (z : ℤ). all_inside xs (elements xs) z s.args.len) (sym (whole c.before.before.before))
 
-inside-from-requires-2 : tie.Need-inside-from-requires-2
-inside-from-requires-2 c κs =
+inside_from-requires-2 : tie.Need-inside_from-requires-2
+inside_from-requires-2 c κs =
     let s = c.before.before.before.before in
     let x = s.args.base in
-    let k = nat_abs-small x s.ranges.base (simp (to_z-of_z s.ranges.base) at c.before.before.if1.false) in
+    let k = nat_abs-small x s.ranges.base (simp (to_z-of_z s.ranges.base) at c.before.before.if-base-lt0.false) in
     simp (to_z-of_z s.ranges.base) (s.requires.0, s.requires.1, omega arith, omega arith)
 
-returns-4 : tie.Need-returns-4
-returns-4 c =
+returns : tie.Need-returns
+returns c =
     let s = c.before.before.before.before.before in
     let x = s.args.base in
     let xs = axes_in s.args.sizes.now s.args.strides.now in
-    simp (to_z-of_z s.ranges.base) at c.inside-from2.ensures
-    ∙ last-long xs s.requires.1 s.args.len (nat_abs x) (omega (arith, c.before.if3.false))
+    simp (to_z-of_z s.ranges.base) at c.inside_from-2.ensures
+    ∙ last-long xs s.requires.1 s.args.len (nat_abs x) (omega (arith, c.before.if-len-le-I64_MAX.false))
     ∙ ap (λ (z : ℤ). all_inside xs (elements xs) z s.args.len) (sym (whole c.before.before.before))
 
-pub inside-spec : {M : Type 1} → statement M
-inside-spec =
-    tie.close
-    (tie.spec
-    returns
-    cast-b
-    returns-2
-    sub-inside-from
-    inside-from-requires
-    returns-3
-    inside-from-requires-2
-    returns-4)
+pub inside_spec : {M : Type 1} → statement M
+inside_spec = tie.close (tie.spec returns-then-base-lt0 overflow_cast-b returns-then-len-b overflow_sub-len inside_from-requires returns-then-len-le-I64_MAX inside_from-requires-2 returns)

@@ -26,114 +26,98 @@ use Rattle.offsets.proofs.bounds.inside_from.Lts as lts
 use Rattle.layout.proofs.axis.checked_reduce_reset.Reads as checked-reduce-reset-reads
 use Rattle.offsets.proofs.bounds.widen.Reads as widen-reads
 
-abbrev invariant-loop : tie.invariant-loop
-invariant-loop sizes strides base last s₀ i₀ s i = (i ≤ length sizes) × Spanning (axes_in sizes strides) (drop i (axes_in sizes strides)) base last s
+abbrev invariant-loop-i : tie.invariant-loop-i
+invariant-loop-i sizes strides base last s₀ i₀ s i = (i ≤ length sizes) × Spanning (axes_in sizes strides) (drop i (axes_in sizes strides)) base last s
 
-abbrev decreases-loop : tie.decreases-loop
-decreases-loop sizes strides base last s₀ i₀ s i = length sizes - i
+abbrev decreases-loop-i : tie.decreases-loop-i
+decreases-loop-i sizes strides base last s₀ i₀ s i = length sizes - i
 
-loop-holds : tie.Need-loop-init invariant-loop decreases-loop
-loop-holds c =
+loop-i-init : tie.Need-loop-i-init invariant-loop-i decreases-loop-i
+loop-i-init c =
     let s = c.before in
     (omega arith, spanning-first (axes_in s.args.sizes.now s.args.strides.now) s.args.base s.args.last s.requires.2)
 
-mul-checked-reduce-reset : tie.Need-overflow-mul-checked-reduce-reset invariant-loop decreases-loop
-mul-checked-reduce-reset c = omega arith
+offset_bounds-sizes-i : tie.Need-offset_bounds-sizes-i invariant-loop-i decreases-loop-i
+offset_bounds-sizes-i c = omega arith
 
-shared-slice-read-checked-reduce-reset : tie.Need-shared-slice-read-checked-reduce-reset invariant-loop decreases-loop
-shared-slice-read-checked-reduce-reset c = omega arith
+bounds-sizes-i : tie.Need-bounds-sizes-i invariant-loop-i decreases-loop-i
+bounds-sizes-i c = omega arith
 
-mul-checked-reduce-reset-2 : tie.Need-overflow-mul-checked-reduce-reset-2 invariant-loop decreases-loop
-mul-checked-reduce-reset-2 c = omega arith
+offset_bounds-strides-i : tie.Need-offset_bounds-strides-i invariant-loop-i decreases-loop-i
+offset_bounds-strides-i c = omega arith
 
-shared-slice-copy-out-checked-reduce-reset : tie.Need-shared-slice-copy-out-checked-reduce-reset invariant-loop decreases-loop
-shared-slice-copy-out-checked-reduce-reset c = omega arith
+bounds-strides-i : tie.Need-bounds-strides-i invariant-loop-i decreases-loop-i
+bounds-strides-i c = omega arith
 
-checked-reduce-reset-requires : tie.Need-checked-reduce-reset-requires invariant-loop decreases-loop
-checked-reduce-reset-requires c κs = search rules
+checked_reduce_reset-reset-requires : tie.Need-checked_reduce_reset-reset-requires invariant-loop-i decreases-loop-i
+checked_reduce_reset-reset-requires c κs = search rules
 
 -- the axis at i, and those after it
-here : (c : tie.In-loop invariant-loop decreases-loop) → let k = c.before in let s = k.before.before in
-    drop k.loop.i (axes_in s.args.sizes.now s.args.strides.now)
-    ≡ axis_of (get_or s.args.sizes.now k.loop.i 0) (get_or s.args.strides.now k.loop.i (pos 0))
-    ∷ drop (k.loop.i + 1) (axes_in s.args.sizes.now s.args.strides.now)
+here : (c : tie.In-loop-i invariant-loop-i decreases-loop-i) → let k = c.before in let s = k.before.before in
+    drop k.loop-i.i (axes_in s.args.sizes.now s.args.strides.now)
+    ≡ axis_of (get_or s.args.sizes.now k.loop-i.i 0) (get_or s.args.strides.now k.loop-i.i (pos 0))
+    ∷ drop (k.loop-i.i + 1) (axes_in s.args.sizes.now s.args.strides.now)
 here c =
     let s = c.before.before.before in
-    axes-from s.args.sizes.now s.args.strides.now c.before.loop.i s.requires.0 c.loop-test.true
+    axes-from s.args.sizes.now s.args.strides.now c.before.loop-i.i s.requires.0 c.loop-i-test.true
 
 -- its reset
-reset-is : (c : tie.After-checked-reduce-reset invariant-loop decreases-loop) → let k = c.before.before.before.before in let s = k.before.before in
-    let a = axis_of (get_or s.args.sizes.now k.loop.i 0) (get_or s.args.strides.now k.loop.i (pos 0)) in
-    c.checked-reduce-reset.result.value ≡ neg_ℤ (span a.extent a.source_step)
+reset-is : (c : tie.After-checked_reduce_reset-reset invariant-loop-i decreases-loop-i) → let k = c.before.before.before.before in let s = k.before.before in
+    let a = axis_of (get_or s.args.sizes.now k.loop-i.i 0) (get_or s.args.strides.now k.loop-i.i (pos 0)) in
+    c.checked_reduce_reset-reset.result.value ≡ neg_ℤ (span a.extent a.source_step)
 unfolding axis_of
 reset-is c =
     let t = c.before.before.before in
     let s = t.before.before.before in
-    let n = get_or s.args.sizes.now t.before.loop.i 0 in
-    let d = get_or s.args.strides.now t.before.loop.i (pos 0) in
-    let f : SFits w64 d = record { sfits = c.before.checked-reduce-reset-arg.given } in
-    let w = (axes-at _ _ _ (here t) (axes-drop (axes_in s.args.sizes.now s.args.strides.now) t.before.loop.i s.requires.1)).0 in
-    ap (λ (r : CheckedI64). r.value) (simp (to_z-of_z f) at c.checked-reduce-reset.ensures ∙ ap (λ (b : Bool). keep_i b (neg_ℤ (span n d))) w.2)
+    let n = get_or s.args.sizes.now t.before.loop-i.i 0 in
+    let d = get_or s.args.strides.now t.before.loop-i.i (pos 0) in
+    let f : SFits w64 d = record { sfits = c.before.checked_reduce_reset-arg-1.given } in
+    let w = (axes-at _ _ _ (here t) (axes-drop (axes_in s.args.sizes.now s.args.strides.now) t.before.loop-i.i s.requires.1)).0 in
+    ap (λ (r : CheckedI64). r.value) (simp (to_z-of_z f) at c.checked_reduce_reset-reset.ensures ∙ ap (λ (b : Bool). keep_i b (neg_ℤ (span n d))) w.2)
 
 -- the span after it
-widened_is : (c : tie.After-widen invariant-loop decreases-loop) → let r = c.before.before in let k = r.before.before.before.before in
-    c.widen.result ≡ widened k.loop.s r.checked-reduce-reset.result.value k.before.before.args.last
+widened_is : (c : tie.After-widen-s invariant-loop-i decreases-loop-i) → let r = c.before.before in let k = r.before.before.before.before in
+    c.widen-s.result ≡ widened k.loop-i.s r.checked_reduce_reset-reset.result.value k.before.before.args.last
 widened_is c =
-    let f : SFits w64 c.before.before.checked-reduce-reset.result.value = record { sfits = c.before.struct_told.given.1.0.1 } in
-    simp (to_z-of_z f) at c.widen.ensures
+    let f : SFits w64 c.before.before.checked_reduce_reset-reset.result.value = record { sfits = c.before.struct_told-1.given.1.0.1 } in
+    simp (to_z-of_z f) at c.widen-s.ensures
 
-widen-requires : tie.Need-widen-requires invariant-loop decreases-loop
-widen-requires c κs =
+widen-s-requires : tie.Need-widen-s-requires invariant-loop-i decreases-loop-i
+widen-s-requires c κs =
     let k = c.before.before.before.before.before in
-    (k.loop.invariant.1.high, k.before.before.requires.3)
+    (k.loop-i.invariant.1.high, k.before.before.requires.3)
 
-returns : tie.Need-returns invariant-loop decreases-loop
-returns c =
+returns-then-not-s : tie.Need-returns-then-not-s invariant-loop-i decreases-loop-i
+returns-then-not-s c =
     let w = c.before.before in
     let t = w.before.before.before.before.before in
     let s = t.before.before.before in
-    spanning-out _ _ _ _ s.args.base s.args.last t.before.loop.s w.widen.result _ (here t) (reset-is w.before.before)
-    t.before.loop.invariant.1 (widened_is w) (not-true _ c.if1.true)
+    spanning-out _ _ _ _ s.args.base s.args.last t.before.loop-i.s w.widen-s.result _ (here t) (reset-is w.before.before)
+    t.before.loop-i.invariant.1 (widened_is w) (not-true _ c.if-not-s.true)
 
-add-i : tie.Need-overflow-add-i invariant-loop decreases-loop
-add-i c = omega arith
+overflow_add-i : tie.Need-overflow_add-i invariant-loop-i decreases-loop-i
+overflow_add-i c = omega arith
 
-loop-less : tie.Need-loop-smaller invariant-loop decreases-loop
-loop-less c = omega arith
+loop-i-smaller : tie.Need-loop-i-smaller invariant-loop-i decreases-loop-i
+loop-i-smaller c = omega arith
 
-loop-again : tie.Need-loop-preserved invariant-loop decreases-loop
-loop-again c =
+loop-i-preserved : tie.Need-loop-i-preserved invariant-loop-i decreases-loop-i
+loop-i-preserved c =
     let w = c.before.before in
     let t = w.before.before.before.before.before in
     let s = t.before.before.before in (
-      omega (arith, t.loop-test.true),
-      spanning-more _ _ _ _ s.args.base s.args.last t.before.loop.s w.widen.result _ (here t) (reset-is w.before.before)
-          t.before.loop.invariant.1 (widened_is w) (not-false _ c.if1.false),
+      omega (arith, t.loop-i-test.true),
+      spanning-more _ _ _ _ s.args.base s.args.last t.before.loop-i.s w.widen-s.result _ (here t) (reset-is w.before.before)
+          t.before.loop-i.invariant.1 (widened_is w) (not-false _ c.if-not-s.false),
     )
 
-returns-2 : tie.Need-returns-2 invariant-loop decreases-loop
-returns-2 c =
+returns : tie.Need-returns invariant-loop-i decreases-loop-i
+returns c =
     let k = c.before in
     let s = k.before.before in
     let xs = axes_in s.args.sizes.now s.args.strides.now in
     let e = length-axes_in s.args.sizes.now s.args.strides.now s.requires.0 in
-    spanning-all xs _ s.args.base s.args.last k.loop.s (drop_of_length-le xs {i = k.loop.i} (omega (arith, c.loop-test.false))) k.loop.invariant.1
+    spanning-all xs _ s.args.base s.args.last k.loop-i.s (drop_of_length-le xs {i = k.loop-i.i} (omega (arith, c.loop-i-test.false))) k.loop-i.invariant.1
 
-pub inside-from-spec : {M : Type 1} → statement M
-inside-from-spec =
-    tie.close
-    (tie.spec
-    invariant-loop
-    decreases-loop
-    loop-holds
-    mul-checked-reduce-reset
-    shared-slice-read-checked-reduce-reset
-    mul-checked-reduce-reset-2
-    shared-slice-copy-out-checked-reduce-reset
-    checked-reduce-reset-requires
-    widen-requires
-    returns
-    add-i
-    loop-less
-    loop-again
-    returns-2)
+pub inside_from_spec : {M : Type 1} → statement M
+inside_from_spec = tie.close (tie.spec invariant-loop-i decreases-loop-i loop-i-init offset_bounds-sizes-i bounds-sizes-i offset_bounds-strides-i bounds-strides-i checked_reduce_reset-reset-requires widen-s-requires returns-then-not-s overflow_add-i loop-i-smaller loop-i-preserved returns)

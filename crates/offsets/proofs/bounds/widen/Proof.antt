@@ -12,64 +12,64 @@ use Rattle.offsets.proofs.bounds.widen.Lts as lts
 use Rattle.integers.proofs.magnitude.Reads as magnitude-reads
 use Rattle.offsets.proofs.bounds.outside.Reads as outside-reads
 
-size : (c : tie.After-magnitude) → c.magnitude.result ≡ nat_abs c.before.args.reset
-size c = simp (to_z-of_z c.before.ranges.reset) at c.magnitude.ensures
+size : (c : tie.After-magnitude-p) → c.magnitude-p.result ≡ nat_abs c.before.args.reset
+size c = simp (to_z-of_z c.before.ranges.reset) at c.magnitude-p.ensures
 
-magnitude-requires : tie.Need-magnitude-requires
-magnitude-requires c κs = search rules
+magnitude-p-requires : tie.Need-magnitude-p-requires
+magnitude-p-requires c κs = search rules
 
 outside-requires : tie.Need-outside-requires
 outside-requires c κs = search rules
+
+returns-then-s-p : tie.Need-returns-then-s-p
+returns-then-s-p c =
+    let u = c.before.before.before.before in
+    let s = u.before in
+    c.outside.ensures
+    ∙ sym (back-nowhere s.args.s s.args.reset s.args.last u.magnitude-p.result (size u)
+    (simp (to_z-of_z s.ranges.reset) at c.before.before.before.if-reset-gt0.true) c.before.if-s-p.true)
+
+returns-then-reset-gt0 : tie.Need-returns-then-reset-gt0
+returns-then-reset-gt0 c =
+    let u = c.before.before.before.before in
+    let s = u.before in
+    sym (back-widened s.args.s s.args.reset s.args.last u.magnitude-p.result (size u)
+    (simp (to_z-of_z s.ranges.reset) at c.before.before.before.if-reset-gt0.true) c.before.if-s-p.false)
+
+overflow_sub-last : tie.Need-overflow_sub-last
+overflow_sub-last c = search rules
+
+outside-requires-then-last-s : tie.Need-outside-requires-then-last-s
+outside-requires-then-last-s c κs = search rules
+
+returns-then-last-s : tie.Need-returns-then-last-s
+returns-then-last-s c =
+    let u = c.before.before.before.before in
+    let s = u.before in
+    c.outside-then-last-s.ensures
+    ∙ sym (forth-nowhere s.args.s s.args.reset s.args.last u.magnitude-p.result (size u)
+    (simp (to_z-of_z s.ranges.reset) at c.before.before.before.if-reset-gt0.false) c.before.if-last-s.true)
+
+overflow_add-result : tie.Need-overflow_add-result
+overflow_add-result c = search rules
 
 returns : tie.Need-returns
 returns c =
     let u = c.before.before.before.before in
     let s = u.before in
-    c.outside.ensures
-    ∙ sym (back-nowhere s.args.s s.args.reset s.args.last u.magnitude.result (size u)
-    (simp (to_z-of_z s.ranges.reset) at c.before.before.before.if1.true) c.before.if2.true)
-
-returns-2 : tie.Need-returns-2
-returns-2 c =
-    let u = c.before.before.before.before in
-    let s = u.before in
-    sym (back-widened s.args.s s.args.reset s.args.last u.magnitude.result (size u)
-    (simp (to_z-of_z s.ranges.reset) at c.before.before.before.if1.true) c.before.if2.false)
-
-sub-if3 : tie.Need-overflow-sub-if3
-sub-if3 c = search rules
-
-outside-requires-2 : tie.Need-outside-requires-2
-outside-requires-2 c κs = search rules
-
-returns-3 : tie.Need-returns-3
-returns-3 c =
-    let u = c.before.before.before.before in
-    let s = u.before in
-    c.outside2.ensures
-    ∙ sym (forth-nowhere s.args.s s.args.reset s.args.last u.magnitude.result (size u)
-    (simp (to_z-of_z s.ranges.reset) at c.before.before.before.if1.false) c.before.if3.true)
-
-add-t8 : tie.Need-overflow-add-t8
-add-t8 c = search rules
-
-returns-4 : tie.Need-returns-4
-returns-4 c =
-    let u = c.before.before.before.before in
-    let s = u.before in
-    sym (forth-widened s.args.s s.args.reset s.args.last u.magnitude.result (size u)
-    (simp (to_z-of_z s.ranges.reset) at c.before.before.before.if1.false) c.before.if3.false)
+    sym (forth-widened s.args.s s.args.reset s.args.last u.magnitude-p.result (size u)
+    (simp (to_z-of_z s.ranges.reset) at c.before.before.before.if-reset-gt0.false) c.before.if-last-s.false)
 
 pub widen_spec : {M : Type 1} → statement M
 widen_spec =
     tie.close
     (tie.spec
-    magnitude-requires
+    magnitude-p-requires
     outside-requires
-    returns
-    returns-2
-    sub-if3
-    outside-requires-2
-    returns-3
-    add-t8
-    returns-4)
+    returns-then-s-p
+    returns-then-reset-gt0
+    overflow_sub-last
+    outside-requires-then-last-s
+    returns-then-last-s
+    overflow_add-result
+    returns)

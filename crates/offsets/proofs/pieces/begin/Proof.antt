@@ -14,16 +14,16 @@ use Rattle.offsets.proofs.pieces.begin.Lts as lts
 use Rattle.offsets.proofs.cursor.ReduceOuterCursor.decode.Reads as decode-reads
 
 -- the layout's first element
-returns : tie.Need-returns
-returns c =
+returns-then-start-eq0 : tie.Need-returns-then-start-eq0
+returns-then-start-eq0 c =
     let s = c.before in
-    simp (to_z-of_z s.ranges.base) (first-element s.args.l s.requires.0 s.args.base ∙ ap (range_at s.args.l s.args.base) (sym c.if1.true))
+    simp (to_z-of_z s.ranges.base) (first-element s.args.l s.requires.0 s.args.base ∙ ap (range_at s.args.l s.args.base) (sym c.if-start-eq0.true))
 
-rem-t10 : tie.Need-nonzero-rem-t10
-rem-t10 c = let s = c.before.before in some_left s.args.l s.requires.0 s.args.base s.requires.1 s.args.start
+nonzero_rem-result : tie.Need-nonzero_rem-result
+nonzero_rem-result c = let s = c.before.before in some_left s.args.l s.requires.0 s.args.base s.requires.1 s.args.start
 
-div-decode : tie.Need-nonzero-div-decode
-div-decode c = rem-t10 c
+nonzero_div-start : tie.Need-nonzero_div-start
+nonzero_div-start c = nonzero_rem-result c
 
 decode-requires : tie.Need-decode-requires
 unfolding outer_of
@@ -36,12 +36,12 @@ decode-requires c κs =
       outer-bounded s.args.l s.requires.0 s.args.base s.requires.1 s.args.start,
     )
 
-returns-2 : tie.Need-returns-2
+returns : tie.Need-returns
 unfolding range_at outer_of
-returns-2 c =
+returns c =
     let s = c.before.before.before in
     ap (λ (r : ReduceOuterCursor). record { at = s.args.start; col = s.args.start % s.args.l.run_len; runs = r })
     (simp (to_z-of_z s.ranges.base) at c.decode.ensures)
 
-pub begin-spec : {M : Type 1} → statement M
-begin-spec = tie.close (tie.spec returns rem-t10 div-decode decode-requires returns-2)
+pub begin_spec : {M : Type 1} → statement M
+begin_spec = tie.close (tie.spec returns-then-start-eq0 nonzero_rem-result nonzero_div-start decode-requires returns)

@@ -25,35 +25,35 @@ use Rattle.offsets.proofs.pieces.next_piece.Lts as lts
 use Rattle.offsets.proofs.cursor.ReduceOuterCursor.to_next_run.Reads as to-next-run-reads
 use Rattle.integers.proofs.min_u64.Reads as min-u64-reads
 
-sub-min-u64 : tie.Need-overflow-sub-min-u64
-sub-min-u64 c = let s = c.before.before in omega (arith, on-column s.args.l s.requires.0 s.args.c s.requires.2)
+overflow_sub-l : tie.Need-overflow_sub-l
+overflow_sub-l c = let s = c.before.before in omega (arith, on-column s.args.l s.requires.0 s.args.c s.requires.2)
 
-sub-min-u64-2 : tie.Need-overflow-sub-min-u64-2
-sub-min-u64-2 c = search rules
+overflow_sub-end : tie.Need-overflow_sub-end
+overflow_sub-end c = search rules
 
-min-u64-requires : tie.Need-min-u64-requires
-min-u64-requires c κs = search rules
+min_u64-len-requires : tie.Need-min_u64-len-requires
+min_u64-len-requires c κs = search rules
 
-cast-first : tie.Need-overflow-cast-first
-cast-first c = let s = c.before.before.before in pos-fits _ (on-column-small s.args.l s.requires.0 s.args.c s.requires.2)
+overflow_cast-first : tie.Need-overflow_cast-first
+overflow_cast-first c = let s = c.before.before.before in pos-fits _ (on-column-small s.args.l s.requires.0 s.args.c s.requires.2)
 
-stride-fits : (c : tie.After-struct-told) → let s = c.before.before.before.before.before in
+stride-fits : (c : tie.After-struct_told-1) → let s = c.before.before.before.before.before in
     SFits w64 s.args.l.run_stride
-stride-fits c = record { sfits = c.struct_told.given.1.1.0.1 }
+stride-fits c = record { sfits = c.struct_told-1.given.1.1.0.1 }
 
-mul-first : tie.Need-overflow-mul-first
-mul-first c =
+overflow_mul-first : tie.Need-overflow_mul-first
+overflow_mul-first c =
     let s = c.before.before.before.before.before in
     simp (to_z-of_z (stride-fits c), to_z-small _ (on-column-small s.args.l s.requires.0 s.args.c s.requires.2))
     (share-fits s.args.c.runs.source_offset _ (on-run s.args.l s.requires.0 s.args.c s.requires.2)
     (on-first s.args.l s.requires.0 s.args.c s.requires.2))
 
 -- the sum as the machine forms it is the piece's first offset
-first_fits : (c : tie.After-struct-told2) → let s = c.before.before.before.before.before.before.before in
+first_fits : (c : tie.After-struct_told-2-1) → let s = c.before.before.before.before.before.before.before in
     SFits w64 (s.args.c.runs.source_offset +ℤ s.args.l.run_stride *ℤ pos s.args.c.col)
 first_fits c = let s = c.before.before.before.before.before.before.before in small-fits _ (on-first s.args.l s.requires.0 s.args.c s.requires.2)
 
-first-is : (c : tie.After-struct-told2) → let s = c.before.before.before.before.before.before.before in
+first-is : (c : tie.After-struct_told-2-1) → let s = c.before.before.before.before.before.before.before in
     to_z w64 (of_z w64 s.args.c.runs.source_offset) +ℤ to_z w64 (of_z w64 (to_z w64 (of_z w64 s.args.l.run_stride) *ℤ to_z w64 s.args.c.col))
     ≡ s.args.c.runs.source_offset +ℤ s.args.l.run_stride *ℤ pos s.args.c.col
 first-is c =
@@ -67,43 +67,43 @@ first-is c =
           (on-first s.args.l s.requires.0 s.args.c s.requires.2)),
     ) refl
 
-first-told : (c : tie.After-struct-told2) → let s = c.before.before.before.before.before.before.before in
+first-told : (c : tie.After-struct_told-2-1) → let s = c.before.before.before.before.before.before.before in
     to_z w64 (of_z w64
     (to_z w64 (of_z w64 s.args.c.runs.source_offset) +ℤ to_z w64 (of_z w64 (to_z w64 (of_z w64 s.args.l.run_stride) *ℤ to_z w64 s.args.c.col))))
     ≡ s.args.c.runs.source_offset +ℤ s.args.l.run_stride *ℤ pos s.args.c.col
 first-told c = ap (λ (z : ℤ). to_z w64 (of_z w64 z)) (first-is c) ∙ to_z-of_z (first_fits c)
 
-add-first : tie.Need-overflow-add-first
-add-first c = subst (SFits w64) (sym (first-is c)) (first_fits c)
+overflow_add-first : tie.Need-overflow_add-first
+overflow_add-first c = subst (SFits w64) (sym (first-is c)) (first_fits c)
 
-add-k : tie.Need-overflow-add-k
-add-k c = search rules
+overflow_add-k : tie.Need-overflow_add-k
+overflow_add-k c = search rules
 
-to-next-run-requires : tie.Need-to-next-run-requires
+to_next_run-requires : tie.Need-to_next_run-requires
 unfolding outer_of
-to-next-run-requires c κs =
+to_next_run-requires c κs =
     let s = c.before.before.before.before.before.before.before.before.before in
     (s.requires.0.places, s.requires.0.few, on-element s.args.l s.requires.0 s.args.c s.requires.2)
 
-returns : tie.Need-returns
+returns-then-k-end : tie.Need-returns-then-k-end
 unfolding piece_of outer_of
-returns c =
+returns-then-k-end c =
     let t = c.before.before.before in
     let s = t.before.before.before.before.before.before.before in
-    let n = t.before.before.before.before.min-u64.result in
-    let e = t.before.before.before.before.min-u64.ensures in
-    ap (λ (z : ℤ). record { first = z; len = n; next = record { at = s.args.c.at + n; col = 0; runs = c.to-next-run.result } }) (first-told t)
+    let n = t.before.before.before.before.min_u64-len.result in
+    let e = t.before.before.before.before.min_u64-len.ensures in
+    ap (λ (z : ℤ). record { first = z; len = n; next = record { at = s.args.c.at + n; col = 0; runs = c.to_next_run.result } }) (first-told t)
     ∙ ap (λ (r : ReduceOuterCursor). record {
       first = s.args.c.runs.source_offset +ℤ s.args.l.run_stride *ℤ pos s.args.c.col;
       len = n;
       next = record { at = s.args.c.at + n; col = 0; runs = r };
-    }) c.to-next-run.ensures
+    }) c.to_next_run.ensures
     ∙ ap (λ (x : Bool). record {
       first = s.args.c.runs.source_offset +ℤ s.args.l.run_stride *ℤ pos s.args.c.col;
       len = n;
       next = record { at = s.args.c.at + n; col = 0; runs = cond x (advanced (outer_of s.args.l) s.args.c.runs) s.args.c.runs };
     })
-    (sym (lt-ltb (s.args.c.at + n) s.args.end c.before.before.if1.true))
+    (sym (lt-ltb (s.args.c.at + n) s.args.end c.before.before.if-k-end.true))
     ∙ ap (λ (m : ℕ). record {
       first = s.args.c.runs.source_offset +ℤ s.args.l.run_stride *ℤ pos s.args.c.col;
       len = m;
@@ -114,20 +114,20 @@ returns c =
       };
     }) e
 
-returns-2 : tie.Need-returns-2
+returns : tie.Need-returns
 unfolding piece_of outer_of
-returns-2 c =
+returns c =
     let t = c.before in
     let s = t.before.before.before.before.before.before.before in
-    let n = t.before.before.before.before.min-u64.result in
-    let e = t.before.before.before.before.min-u64.ensures in
+    let n = t.before.before.before.before.min_u64-len.result in
+    let e = t.before.before.before.before.min_u64-len.ensures in
     ap (λ (z : ℤ). record { first = z; len = n; next = record { at = s.args.c.at + n; col = 0; runs = s.args.c.runs } }) (first-told t)
     ∙ ap (λ (x : Bool). record {
       first = s.args.c.runs.source_offset +ℤ s.args.l.run_stride *ℤ pos s.args.c.col;
       len = n;
       next = record { at = s.args.c.at + n; col = 0; runs = cond x (advanced (outer_of s.args.l) s.args.c.runs) s.args.c.runs };
     })
-    (sym (le-ltb (s.args.c.at + n) s.args.end c.if1.false))
+    (sym (le-ltb (s.args.c.at + n) s.args.end c.if-k-end.false))
     ∙ ap (λ (m : ℕ). record {
       first = s.args.c.runs.source_offset +ℤ s.args.l.run_stride *ℤ pos s.args.c.col;
       len = m;
@@ -138,17 +138,5 @@ returns-2 c =
       };
     }) e
 
-pub next-piece-spec : {M : Type 1} → statement M
-next-piece-spec =
-    tie.close
-    (tie.spec
-    sub-min-u64
-    sub-min-u64-2
-    min-u64-requires
-    cast-first
-    mul-first
-    add-first
-    add-k
-    to-next-run-requires
-    returns
-    returns-2)
+pub next_piece_spec : {M : Type 1} → statement M
+next_piece_spec = tie.close (tie.spec overflow_sub-l overflow_sub-end min_u64-len-requires overflow_cast-first overflow_mul-first overflow_add-first overflow_add-k to_next_run-requires returns-then-k-end returns)

@@ -15,91 +15,81 @@ use Rattle.offsets.proofs.Runs.{last-digit, on-last, runs-strip, piece-strip}
 use Rattle.offsets.proofs.pieces.next_strip.Statement.{statement}
 use Rattle.offsets.proofs.pieces.next_strip.Tie as tie
 
-whole-runs-requires : tie.Need-whole-runs-requires
-whole-runs-requires c κs = search rules
+whole_runs-n-requires : tie.Need-whole_runs-n-requires
+whole_runs-n-requires c κs = search rules
 
-next-piece-requires : tie.Need-next-piece-requires
-next-piece-requires c κs = search rules
+next_piece-p-requires : tie.Need-next_piece-p-requires
+next_piece-p-requires c κs = search rules
 
-first_fits : (c : tie.After-struct-told) → SFits w64 c.before.before.next-piece.result.first
-first_fits c = record { sfits = c.struct_told.given.0.1 }
+first_fits : (c : tie.After-struct_told-1) → SFits w64 c.before.before.next_piece-p.result.first
+first_fits c = record { sfits = c.struct_told-1.given.0.1 }
 
-returns : tie.Need-returns
-returns c = λ base b e.
+returns-then-n-lt2 : tie.Need-returns-then-n-lt2
+returns-then-n-lt2 c = λ base b e.
     let p = c.before.before in
     let s = p.before.before.before in
     simp (to_z-of_z (first_fits c))
-    (piece-strip s.args.l base s.args.end s.args.c p.next-piece.result
-    (piece-here s.args.l s.requires.0 base b s.args.end s.args.c e s.requires.1 p.next-piece.result p.next-piece.ensures))
+    (piece-strip s.args.l base s.args.end s.args.c p.next_piece-p.result
+    (piece-here s.args.l s.requires.0 base b s.args.end s.args.c e s.requires.1 p.next_piece-p.result p.next_piece-p.ensures))
 
 -- ---- whole runs
-abbrev entry : tie.Else1 → tie.Start
+abbrev entry : tie.Else-n-lt2 → tie.Start
 entry c = c.before.before
 
 -- what lies ahead of the cursor
-ahead : (c : tie.Else1) → let s = entry c in let l = s.args.l in let n = c.before.whole-runs.result in
+ahead : (c : tie.Else-n-lt2) → let s = entry c in let l = s.args.l in let n = c.before.whole_runs-n.result in
     (0 < l.axis_count) × (s.args.c.at % l.run_len ≡ 0) × (s.args.c.at / l.run_len % (first_axis l).extent + n ≤ (first_axis l).extent)
     × (s.args.c.at + n * l.run_len ≤ s.args.end)
-ahead c = c.before.whole-runs.ensures (omega (arith, c.if1.false))
+ahead c = c.before.whole_runs-n.ensures (omega (arith, c.if-n-lt2.false))
 
-array-copy-out-outer : tie.Need-array-copy-out-outer
-array-copy-out-outer c = search rules
+bounds-axes-0 : tie.Need-bounds-axes-0
+bounds-axes-0 c = search rules
 
-sub-skip-runs : tie.Need-overflow-sub-skip-runs
-sub-skip-runs c = let e = c.before.before in omega (arith, e.if1.false)
+overflow_sub-n : tie.Need-overflow_sub-n
+overflow_sub-n c = let e = c.before.before in omega (arith, e.if-n-lt2.false)
 
-skip-runs-requires : tie.Need-skip-runs-requires
-skip-runs-requires c κs =
+skip_runs-last-requires : tie.Need-skip_runs-last-requires
+skip_runs-last-requires c κs =
     let e = c.before.before in
     let s = entry e in
-    let o = s.pre.2 in
+    let o = s.requires.2 in
     let a = ahead e in
-    let n = e.before.whole-runs.result in
+    let n = e.before.whole_runs-n.result in
     let m : (n - 1) * s.args.l.run_len ≤ n * s.args.l.run_len = mul-le-mul_right s.args.l.run_len (omega arith) in (
-      s.pre.0,
+      s.requires.0,
       o,
       a.0,
-      last-digit s.args.l s.pre.0 o.base o.bounded s.args.end s.args.c o.cursor_is n a.0 a.1 a.2 a.3
-          (omega (arith, e.if1.false)),
-      omega (arith, m, a.3, s.pre.3, s.pre.4),
+      last-digit s.args.l s.requires.0 o.base o.bounded s.args.end s.args.c o.cursor_is n a.0 a.1 a.2 a.3
+          (omega (arith, e.if-n-lt2.false)),
+      omega (arith, m, a.3, s.requires.3, s.requires.4),
     )
 
-next-piece-requires-2 : tie.Need-next-piece-requires-2
-next-piece-requires-2 c κs =
+next_piece-q-requires : tie.Need-next_piece-q-requires
+next_piece-q-requires c κs =
     let e = c.before.before.before in
     let s = entry e in
-    let o = s.pre.2 in
+    let o = s.requires.2 in
     let a = ahead e in
-    let r = on-last s.args.l s.pre.0 o.base o.bounded s.args.end s.args.c o.cursor_is e.before.whole-runs.result a.0 a.1
-    a.2 a.3 (omega (arith, e.if1.false)) c.Skip-runs.result c.Skip-runs.ensures in
-    (s.pre.0, r.0, r.1)
+    let r = on-last s.args.l s.requires.0 o.base o.bounded s.args.end s.args.c o.cursor_is e.before.whole_runs-n.result a.0 a.1
+    a.2 a.3 (omega (arith, e.if-n-lt2.false)) c.Skip-runs.result c.Skip-runs.ensures in
+    (s.requires.0, r.0, r.1)
 
-at-fits : (c : tie.Else1) → SFits w64 (entry c).args.c.runs.source_offset
-at-fits c = let s = entry c in small-fits _ (on-run s.args.l s.pre.0 s.args.c s.pre.2)
+at-fits : (c : tie.Else-n-lt2) → SFits w64 (entry c).args.c.runs.source_offset
+at-fits c = let s = entry c in small-fits _ (on-run s.args.l s.requires.0 s.args.c s.requires.2)
 
-step_fits : (c : tie.After-struct-told3) → SFits w64 (first_axis (entry c.before.before.before.before.before.before.before).args.l).source_step
-step_fits c = record { sfits = c.struct-told3.given.1.0.1 }
+step_fits : (c : tie.After-struct_told-3-1) → SFits w64 (first_axis (entry c.before.before.before.before.before.before.before).args.l).source_step
+step_fits c = record { sfits = c.struct_told-3-1.given.1.0.1 }
 
-returns-2 : tie.Need-returns-2
-returns-2 c = λ base b r.
+returns : tie.Need-returns
+returns c = λ base b r.
     let q = c.before.before.before in
     let k = q.before in
     let e = k.before.before.before in
     let s = entry e in
     let a = ahead e in
     simp (to_z-of_z (at-fits e), to_z-of_z (step_fits c))
-    (runs-strip s.args.l s.pre.0 base b s.args.end s.args.c r e.before.whole-runs.result a.0 a.1 a.2 a.3
-    (omega (arith, e.if1.false)) k.Skip-runs.result k.Skip-runs.ensures q.next-piece2.result q.next-piece2.ensures)
+    (runs-strip s.args.l s.requires.0 base b s.args.end s.args.c r e.before.whole_runs-n.result a.0 a.1 a.2 a.3
+    (omega (arith, e.if-n-lt2.false)) k.Skip-runs.result k.Skip-runs.ensures q.next_piece-q.result q.next_piece-q.ensures)
 
-pub next-strip-spec : {M : Type 1} → statement M
-next-strip-spec =
-    tie.close
-    (tie.spec
-    whole-runs-requires
-    next-piece-requires
-    returns
-    array-copy-out-outer
-    sub-skip-runs
-    skip-runs-requires
-    next-piece-requires-2
-    returns-2)
+pub next_strip_spec : {M : Type 1} → statement M
+next_strip_spec = tie.close (tie.spec whole_runs-n-requires next_piece-p-requires returns-then-n-lt2 bounds-axes-0 overflow_sub-n skip_runs-last-requires next_piece-q-requires returns)

@@ -28,38 +28,38 @@ to-small : (c : tie.Start) → Small (c.args.c.runs.source_offset +ℤ (first_ax
 to-small c =
     skip-small c.args.l c.requires.0 c.requires.2 c.requires.1.base c.requires.1.bounded c.args.c c.requires.1.cursor_is c.args.n c.requires.3
 
-array-copy-out-a : tie.Need-array-copy-out-a
-array-copy-out-a c = search rules
+bounds-axes-0 : tie.Need-bounds-axes-0
+bounds-axes-0 c = search rules
 
-mul_at : tie.Need-overflow-mul-at
-mul_at c = search rules
+overflow_mul-at : tie.Need-overflow_mul-at
+overflow_mul-at c = search rules
 
-add_at : tie.Need-overflow-add-at
-add_at c = search rules
+overflow_add-at : tie.Need-overflow_add-at
+overflow_add-at c = search rules
 
-element-copy-out-runs : tie.Need-element-copy-out-runs
-element-copy-out-runs c = search rules
+bounds-runs-0 : tie.Need-bounds-runs-0
+bounds-runs-0 c = search rules
 
-add-runs : tie.Need-overflow-add-runs
-add-runs c = let s = c.before.before.before.before.before.before in omega (arith, few s)
+overflow_add-runs : tie.Need-overflow_add-runs
+overflow_add-runs c = let s = c.before.before.before.before.before.before in omega (arith, few s)
 
-element-write-runs : tie.Need-element-write-runs
-element-write-runs c = search rules
+bounds-runs-0-2 : tie.Need-bounds-runs-0-2
+bounds-runs-0-2 c = search rules
 
-cast-runs : tie.Need-overflow-cast-runs
-cast-runs c = let s = c.before.before.before.before.before.before.before in pos-fits _ (omega (arith, few s))
+overflow_cast-runs : tie.Need-overflow_cast-runs
+overflow_cast-runs c = let s = c.before.before.before.before.before.before.before in pos-fits _ (omega (arith, few s))
 
-abbrev entry : tie.After-struct-told2 → tie.Start
+abbrev entry : tie.After-struct_told-2-1 → tie.Start
 entry c = c.before.before.before.before.before.before.before.before.before
 
 n-small : (c : tie.Start) → c.args.n < 2 ^ 63
 n-small c = omega (arith, few c)
 
-step_fits : (c : tie.After-struct-told2) → SFits w64 (first_axis (entry c).args.l).source_step
-step_fits c = record { sfits = c.struct-told2.given.1.0.1 }
+step_fits : (c : tie.After-struct_told-2-1) → SFits w64 (first_axis (entry c).args.l).source_step
+step_fits c = record { sfits = c.struct_told-2-1.given.1.0.1 }
 
 -- the sum as the machine forms it
-sum_is : (c : tie.After-struct-told2) → let s = entry c in
+sum_is : (c : tie.After-struct_told-2-1) → let s = entry c in
     to_z w64 (of_z w64 s.args.c.runs.source_offset)
     +ℤ to_z w64 (of_z w64 (to_z w64 (of_z w64 (first_axis s.args.l).source_step) *ℤ to_z w64 s.args.n))
     ≡ s.args.c.runs.source_offset +ℤ (first_axis s.args.l).source_step *ℤ pos s.args.n
@@ -72,13 +72,13 @@ sum_is c =
       to_z-of_z (share-fits s.args.c.runs.source_offset ((first_axis s.args.l).source_step *ℤ pos s.args.n) (from-small s) (to-small s)),
     ) refl
 
-mul-runs : tie.Need-overflow-mul-runs
-mul-runs c =
+overflow_mul-runs : tie.Need-overflow_mul-runs
+overflow_mul-runs c =
     let s = entry c in
     simp (to_z-of_z (step_fits c), to_z-small _ (n-small s)) (share-fits s.args.c.runs.source_offset _ (from-small s) (to-small s))
 
-add-runs-2 : tie.Need-overflow-add-runs-2
-add-runs-2 c = subst (SFits w64) (sym (sum_is c)) (small-fits _ (to-small (entry c)))
+overflow_add-runs-2 : tie.Need-overflow_add-runs-2
+overflow_add-runs-2 c = subst (SFits w64) (sym (sum_is c)) (small-fits _ (to-small (entry c)))
 
 returns : tie.Need-returns
 unfolding skipped
@@ -91,17 +91,5 @@ returns c =
     })
     (ap (λ (z : ℤ). to_z w64 (of_z w64 z)) (sum_is c) ∙ to_z-of_z (small-fits _ (to-small s)))
 
-pub skip-runs-spec : {M : Type 1} → statement M
-skip-runs-spec =
-    tie.close
-    (tie.spec
-    array-copy-out-a
-    mul_at
-    add_at
-    element-copy-out-runs
-    add-runs
-    element-write-runs
-    cast-runs
-    mul-runs
-    add-runs-2
-    returns)
+pub skip_runs_spec : {M : Type 1} → statement M
+skip_runs_spec = tie.close (tie.spec bounds-axes-0 overflow_mul-at overflow_add-at bounds-runs-0 overflow_add-runs bounds-runs-0-2 overflow_cast-runs overflow_mul-runs overflow_add-runs-2 returns)

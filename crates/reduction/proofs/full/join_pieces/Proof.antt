@@ -27,229 +27,229 @@ use Rattle.reduction.proofs.Strips.{runs-inside, reducing-strip}
 use Rattle.reduction.proofs.full.join_pieces.Statement.{statement}
 use Rattle.reduction.proofs.full.join_pieces.Tie as tie
 
-abbrev invariant-loop : tie.invariant-loop
-invariant-loop l base end values stride acc₀ c₀ acc c =
+abbrev invariant-loop-c : tie.invariant-loop-c
+invariant-loop-c l base end values stride acc₀ c₀ acc c =
     Reducing l (to_z w64 base) values end (joined_onto acc₀ (pieces_of l (to_z w64 base) values c₀.at end)) acc c
 
-abbrev decreases-loop : tie.decreases-loop
-decreases-loop l base end values stride acc₀ c₀ acc c = end - c.at
+abbrev decreases-loop-c : tie.decreases-loop-c
+decreases-loop-c l base end values stride acc₀ c₀ acc c = end - c.at
 
 -- the entry, from places further on
-abbrev loop-told : tie.At-loop invariant-loop decreases-loop → tie.After-struct-told invariant-loop decreases-loop
+abbrev loop-told : tie.At-loop-c invariant-loop-c decreases-loop-c → tie.After-struct_told-1 invariant-loop-c decreases-loop-c
 loop-told c = c.before
 
-abbrev from-loop : tie.At-loop invariant-loop decreases-loop → tie.Start invariant-loop decreases-loop
+abbrev from-loop : tie.At-loop-c invariant-loop-c decreases-loop-c → tie.Start invariant-loop-c decreases-loop-c
 from-loop c = (loop-told c).before.before
 
 -- the values are of binary64
-values-fit : (c : tie.At-loop invariant-loop decreases-loop) → (i : ℕ) → T (fits binary64 (get_or (from-loop c).args.values.now i nan))
-values-fit c = (loop-told c).before.shared-slice-known.given
+values-fit : (c : tie.At-loop-c invariant-loop-c decreases-loop-c) → (i : ℕ) → T (fits binary64 (get_or (from-loop c).args.values.now i nan))
+values-fit c = (loop-told c).before.shared_slice_known-1.given
 
-loop-holds : tie.Need-loop-init invariant-loop decreases-loop
-loop-holds c =
+loop-c-init : tie.Need-loop-c-init invariant-loop-c decreases-loop-c
+loop-c-init c =
     let s = c.before.before in
     simp (to_z-of_z s.ranges.base) (record { upto = s.requires.2; cursor_is = s.requires.6; small = omega (arith, s.requires.7); sound = s.requires.8; rest = refl })
 
 -- the invariant, over the base itself
-abbrev whole : tie.At-loop invariant-loop decreases-loop → StableProductFloatAcc
+abbrev whole : tie.At-loop-c invariant-loop-c decreases-loop-c → StableProductFloatAcc
 whole c = let s = from-loop c in joined_onto s.args.acc (pieces_of s.args.l s.args.base s.args.values.now s.args.from.at s.args.end)
 
-reducing : (c : tie.At-loop invariant-loop decreases-loop)
-    → let s = from-loop c in Reducing s.args.l s.args.base s.args.values.now s.args.end (whole c) c.loop.acc c.loop.c
-reducing c = let s = from-loop c in simp (to_z-of_z s.fits.base) at c.loop.invariant
+reducing : (c : tie.At-loop-c invariant-loop-c decreases-loop-c)
+    → let s = from-loop c in Reducing s.args.l s.args.base s.args.values.now s.args.end (whole c) c.loop-c.acc c.loop-c.c
+reducing c = let s = from-loop c in simp (to_z-of_z s.fits.base) at c.loop-c.invariant
 
-stride-kept : (c : tie.At-loop invariant-loop decreases-loop) → SFits w64 (from-loop c).args.l.run_stride
-stride-kept c = record { sfits = (loop-told c).struct_told.given.1.1.0.1 }
+stride-kept : (c : tie.At-loop-c invariant-loop-c decreases-loop-c) → SFits w64 (from-loop c).args.l.run_stride
+stride-kept c = record { sfits = (loop-told c).struct_told-1.given.1.1.0.1 }
 
-on-range : (c : tie.Then1 invariant-loop decreases-loop) → OnRange (from-loop c.before.before).args.l c.before.before.loop.c
+on-range : (c : tie.In-loop-c invariant-loop-c decreases-loop-c) → OnRange (from-loop c.before.before).args.l c.before.before.loop-c.c
 on-range c =
     let k = c.before.before in
     let s = from-loop k in
-    record { base = s.args.base; bounded = s.pre.1; cursor_is = (reducing k).cursor_is c.if1.true }
+    record { base = s.args.base; bounded = s.requires.1; cursor_is = (reducing k).cursor_is c.loop-c-test.true }
 
-whole-runs-requires : tie.Need-whole-runs-requires invariant-loop decreases-loop
-whole-runs-requires c κs = let s = from-loop c.before.before in (s.pre.0, c.if1.true, on-range c, s.pre.4)
+whole_runs-n-requires : tie.Need-whole_runs-n-requires invariant-loop-c decreases-loop-c
+whole_runs-n-requires c κs = let s = from-loop c.before.before in (s.requires.0, c.loop-c-test.true, on-range c, s.requires.4)
 
 -- ---- one piece
-next-piece-requires : tie.Need-next-piece-requires invariant-loop decreases-loop
-next-piece-requires c κs =
+next_piece-q-requires : tie.Need-next_piece-q-requires invariant-loop-c decreases-loop-c
+next_piece-q-requires c κs =
     let t = c.before.before in
-    ((from-loop t.before.before).pre.0, t.if1.true, on-range t)
+    ((from-loop t.before.before).requires.0, t.loop-c-test.true, on-range t)
 
-next-taken : (c : tie.After-next-piece invariant-loop decreases-loop)
+next-taken : (c : tie.After-next_piece-q invariant-loop-c decreases-loop-c)
     → let k = c.before.before.before.before.before in
-    let s = from-loop k in PieceTaken s.args.l s.args.base s.args.values.now s.args.end k.loop.c c.next-piece.result
+    let s = from-loop k in PieceTaken s.args.l s.args.base s.args.values.now s.args.end k.loop-c.c c.next_piece-q.result
 next-taken c =
     let t = c.before.before.before in
     let k = t.before.before in
     let s = from-loop k in
-    taken s.args.l s.pre.0 s.args.base s.pre.1 s.args.values.now s.pre.5 s.args.end s.pre.3 k.loop.c
-    ((reducing k).cursor_is t.if1.true) t.if1.true c.next-piece.result c.next-piece.ensures
+    taken s.args.l s.requires.0 s.args.base s.requires.1 s.args.values.now s.requires.5 s.args.end s.requires.3 k.loop-c.c
+    ((reducing k).cursor_is t.loop-c-test.true) t.loop-c-test.true c.next_piece-q.result c.next_piece-q.ensures
 
-next_fits : (c : tie.After-struct-told2 invariant-loop decreases-loop) → SFits w64 c.before.next-piece.result.first
-next_fits c = record { sfits = c.struct-told2.given.0.1 }
+next_fits : (c : tie.After-struct_told-then-n-lt2-1 invariant-loop-c decreases-loop-c) → SFits w64 c.before.next_piece-q.result.first
+next_fits c = record { sfits = c.struct_told-then-n-lt2-1.given.0.1 }
 
-reduce-piece-requires : tie.Need-reduce-piece-requires invariant-loop decreases-loop
-reduce-piece-requires c κs =
+reduce_piece-b-requires : tie.Need-reduce_piece-b-requires invariant-loop-c decreases-loop-c
+reduce_piece-b-requires c κs =
     let k = c.before.before.before.before.before.before in
     let s = from-loop k in
     let p = next-taken c.before in
-    simp (to_z-of_z (next_fits c), to_z-of_z (stride-kept k)) (p.some_len, p.inside, omega (arith, p.ends, s.pre.3, s.pre.4))
+    simp (to_z-of_z (next_fits c), to_z-of_z (stride-kept k)) (p.some_len, p.inside, omega (arith, p.ends, s.requires.3, s.requires.4))
 
 -- what the next piece gave
-next-worked : (c : tie.After-reduce-piece invariant-loop decreases-loop) → let t = c.before.before.before.before.before.before.before in
-    let p = c.before.before.next-piece.result in
+next-worked : (c : tie.After-reduce_piece-b invariant-loop-c decreases-loop-c) → let t = c.before.before.before.before.before.before.before in
+    let p = c.before.before.next_piece-q.result in
     let s = from-loop t in
-    c.reduce-piece.result ≡ worked (eq_z s.args.l.run_stride (pos 1)) (strided s.args.values.now p.first s.args.l.run_stride p.len)
+    c.reduce_piece-b.result ≡ worked (eq_z s.args.l.run_stride (pos 1)) (strided s.args.values.now p.first s.args.l.run_stride p.len)
 next-worked c =
     let k = c.before.before.before.before.before.before.before in
-    simp (to_z-of_z (next_fits c.before), to_z-of_z (stride-kept k)) at c.reduce-piece.ensures
+    simp (to_z-of_z (next_fits c.before), to_z-of_z (stride-kept k)) at c.reduce_piece-b.ensures
 
-stable-float-combine-requires : tie.Need-stable-float-combine-requires invariant-loop decreases-loop
-stable-float-combine-requires c κs =
+stable_float_combine-acc-requires : tie.Need-stable_float_combine-acc-requires invariant-loop-c decreases-loop-c
+stable_float_combine-acc-requires c κs =
     let n = c.before.before in
     let k = n.before.before.before.before.before in
     let s = from-loop k in
     let p = next-taken n in
     let r = reducing k in
-    let m = near _ _ _ s.args.end _ _ p c.reduce-piece.result (next-worked c) (values-fit k) in
-    (omega (arith, r.small, r.upto, m, p.ends, s.pre.3, s.pre.4), omega (arith, r.small, r.upto, m, p.ends, s.pre.3, s.pre.4))
+    let m = near _ _ _ s.args.end _ _ p c.reduce_piece-b.result (next-worked c) (values-fit k) in
+    (omega (arith, r.small, r.upto, m, p.ends, s.requires.3, s.requires.4), omega (arith, r.small, r.upto, m, p.ends, s.requires.3, s.requires.4))
 
-loop-less : tie.Need-loop-smaller invariant-loop decreases-loop
-loop-less c =
+loop-c-smaller-then-n-lt2 : tie.Need-loop-c-smaller-then-n-lt2 invariant-loop-c decreases-loop-c
+loop-c-smaller-then-n-lt2 c =
     let n = c.before.before.before.before in
     let p = next-taken n in
-    omega (arith, n.before.before.before.if1.true, p.next_at, p.some_len)
+    omega (arith, n.before.before.before.loop-c-test.true, p.next_at, p.some_len)
 
-loop-again : tie.Need-loop-preserved invariant-loop decreases-loop
-loop-again c =
+loop-c-preserved-then-n-lt2 : tie.Need-loop-c-preserved-then-n-lt2 invariant-loop-c decreases-loop-c
+loop-c-preserved-then-n-lt2 c =
     let w = c.before.before in
     let n = w.before.before in
     let k = n.before.before.before.before.before in
     let s = from-loop k in
     simp (to_z-of_z s.fits.base)
-    (reducing-more s.args.l s.args.base s.args.values.now s.args.end k.loop.c n.next-piece.result (next-taken n)
-    w.reduce-piece.result (next-worked w) (values-fit k) (whole k) k.loop.acc (reducing k) c.before.stable-float-combine.result
-    c.before.stable-float-combine.ensures)
+    (reducing-more s.args.l s.args.base s.args.values.now s.args.end k.loop-c.c n.next_piece-q.result (next-taken n)
+    w.reduce_piece-b.result (next-worked w) (values-fit k) (whole k) k.loop-c.acc (reducing k) c.before.stable_float_combine-acc.result
+    c.before.stable_float_combine-acc.ensures)
 
 -- ---- a strip
-abbrev strip-loop : tie.Else2 invariant-loop decreases-loop → tie.At-loop invariant-loop decreases-loop
+abbrev strip-loop : tie.Else-n-lt2 invariant-loop-c decreases-loop-c → tie.At-loop-c invariant-loop-c decreases-loop-c
 strip-loop c = c.before.before.before.before
 
 -- what lies ahead of the cursor
-ahead : (c : tie.Else2 invariant-loop decreases-loop) → let k = strip-loop c in let l = (from-loop k).args.l in let n = c.before.whole-runs.result in
-    (0 < l.axis_count) × (k.loop.c.at % l.run_len ≡ 0) × (k.loop.c.at / l.run_len % (first_axis l).extent + n ≤ (first_axis l).extent)
-    × (k.loop.c.at + n * l.run_len ≤ (from-loop k).args.end)
-ahead c = c.before.whole-runs.ensures (omega (arith, c.if2.false))
+ahead : (c : tie.Else-n-lt2 invariant-loop-c decreases-loop-c) → let k = strip-loop c in let l = (from-loop k).args.l in let n = c.before.whole_runs-n.result in
+    (0 < l.axis_count) × (k.loop-c.c.at % l.run_len ≡ 0) × (k.loop-c.c.at / l.run_len % (first_axis l).extent + n ≤ (first_axis l).extent)
+    × (k.loop-c.c.at + n * l.run_len ≤ (from-loop k).args.end)
+ahead c = c.before.whole_runs-n.ensures (omega (arith, c.if-n-lt2.false))
 
-strip-cursor-is : (c : tie.Else2 invariant-loop decreases-loop)
-    → let k = strip-loop c in let s = from-loop k in k.loop.c ≡ range_at s.args.l s.args.base k.loop.c.at
-strip-cursor-is c = (reducing (strip-loop c)).cursor_is c.before.before.if1.true
+strip-cursor-is : (c : tie.Else-n-lt2 invariant-loop-c decreases-loop-c)
+    → let k = strip-loop c in let s = from-loop k in k.loop-c.c ≡ range_at s.args.l s.args.base k.loop-c.c.at
+strip-cursor-is c = (reducing (strip-loop c)).cursor_is c.before.before.loop-c-test.true
 
-at-fits : (c : tie.Else2 invariant-loop decreases-loop) → SFits w64 (strip-loop c).loop.c.runs.source_offset
+at-fits : (c : tie.Else-n-lt2 invariant-loop-c decreases-loop-c) → SFits w64 (strip-loop c).loop-c.c.runs.source_offset
 at-fits c =
     let k = strip-loop c in
     let s = from-loop k in
-    small-fits _ (on-run s.args.l s.pre.0 k.loop.c (on-range c.before.before))
+    small-fits _ (on-run s.args.l s.requires.0 k.loop-c.c (on-range c.before.before))
 
-step_fits : (c : tie.After-struct-told4 invariant-loop decreases-loop)
+step_fits : (c : tie.After-struct_told-else-n-lt2-2-1 invariant-loop-c decreases-loop-c)
     → SFits w64 (first_axis (from-loop (strip-loop c.before.before.before.before)).args.l).source_step
-step_fits c = record { sfits = c.struct-told4.given.1.0.1 }
+step_fits c = record { sfits = c.struct_told-else-n-lt2-2-1.given.1.0.1 }
 
-array-copy-out-outer : tie.Need-array-copy-out-outer invariant-loop decreases-loop
-array-copy-out-outer c = omega arith
+bounds-axes-0 : tie.Need-bounds-axes-0 invariant-loop-c decreases-loop-c
+bounds-axes-0 c = omega arith
 
-reduce-strip-requires : tie.Need-reduce-strip-requires invariant-loop decreases-loop
-reduce-strip-requires c κs =
+reduce_strip-acc-requires : tie.Need-reduce_strip-acc-requires invariant-loop-c decreases-loop-c
+reduce_strip-acc-requires c κs =
     let e = c.before.before.before.before in
     let k = strip-loop e in
     let s = from-loop k in
-    let n = e.before.whole-runs.result in
+    let n = e.before.whole_runs-n.result in
     let r = reducing k in
     let a = ahead e in
     let len = s.args.l.run_len in
-    let one : 1 ≤ n = omega (arith, e.if2.false) in
+    let one : 1 ≤ n = omega (arith, e.if-n-lt2.false) in
     let m : 1 * len ≤ n * len = mul-le-mul_right len one in
     simp (to_z-of_z (at-fits e), to_z-of_z (step_fits c), to_z-of_z (stride-kept k)) (
-      run-some s.args.l s.pre.0,
-      omega (arith, m, a.3, s.pre.3, s.pre.4),
-      omega (arith, a.3, s.pre.3, s.pre.4),
-      omega (arith, r.small, r.upto, s.pre.3, s.pre.4),
-      runs-inside s.args.l s.pre.0 s.args.base s.pre.1 s.args.values.now s.pre.5 s.args.end s.pre.3 k.loop.c
+      run-some s.args.l s.requires.0,
+      omega (arith, m, a.3, s.requires.3, s.requires.4),
+      omega (arith, a.3, s.requires.3, s.requires.4),
+      omega (arith, r.small, r.upto, s.requires.3, s.requires.4),
+      runs-inside s.args.l s.requires.0 s.args.base s.requires.1 s.args.values.now s.requires.5 s.args.end s.requires.3 k.loop-c.c
           (strip-cursor-is e) n a.0 a.1 a.2 a.3,
       r.sound,
     )
 
 -- the strip's product, and the cursor behind it
-strip-is : (c : tie.After-reduce-strip invariant-loop decreases-loop) → let e = c.before.before.before.before.before in let k = strip-loop e in let s = from-loop k in
-    c.reduce-strip.result
-    ≡ strip s.args.values.now (first_axis s.args.l).source_step s.args.l.run_stride s.args.l.run_len e.before.whole-runs.result
-    k.loop.c.runs.source_offset k.loop.acc
+strip-is : (c : tie.After-reduce_strip-acc invariant-loop-c decreases-loop-c) → let e = c.before.before.before.before.before in let k = strip-loop e in let s = from-loop k in
+    c.reduce_strip-acc.result
+    ≡ strip s.args.values.now (first_axis s.args.l).source_step s.args.l.run_stride s.args.l.run_len e.before.whole_runs-n.result
+    k.loop-c.c.runs.source_offset k.loop-c.acc
 strip-is c =
     let t = c.before.before.before.before.before in
-    simp (to_z-of_z (at-fits t), to_z-of_z (step_fits c.before), to_z-of_z (stride-kept (strip-loop t))) at c.reduce-strip.ensures
+    simp (to_z-of_z (at-fits t), to_z-of_z (step_fits c.before), to_z-of_z (stride-kept (strip-loop t))) at c.reduce_strip-acc.ensures
 
-sub-skip-runs : tie.Need-overflow-sub-skip-runs invariant-loop decreases-loop
-sub-skip-runs c = let e = c.before.before.before.before.before in omega (arith, e.if2.false)
+overflow_sub-n : tie.Need-overflow_sub-n invariant-loop-c decreases-loop-c
+overflow_sub-n c = let e = c.before.before.before.before.before in omega (arith, e.if-n-lt2.false)
 
-skip-runs-requires : tie.Need-skip-runs-requires invariant-loop decreases-loop
-skip-runs-requires c κs =
+skip_runs-last-requires : tie.Need-skip_runs-last-requires invariant-loop-c decreases-loop-c
+skip_runs-last-requires c κs =
     let e = c.before.before.before.before.before in
     let k = strip-loop e in
     let s = from-loop k in
-    let n = e.before.whole-runs.result in
+    let n = e.before.whole_runs-n.result in
     let a = ahead e in
     let m : (n - 1) * s.args.l.run_len ≤ n * s.args.l.run_len = mul-le-mul_right s.args.l.run_len (omega arith) in (
-      s.pre.0,
+      s.requires.0,
       on-range e.before.before,
       a.0,
-      last-digit s.args.l s.pre.0 s.args.base s.pre.1 s.args.end k.loop.c
+      last-digit s.args.l s.requires.0 s.args.base s.requires.1 s.args.end k.loop-c.c
           (strip-cursor-is e) n
-          a.0 a.1 a.2 a.3 (omega (arith, e.if2.false)),
-      omega (arith, m, a.3, s.pre.3, s.pre.4),
+          a.0 a.1 a.2 a.3 (omega (arith, e.if-n-lt2.false)),
+      omega (arith, m, a.3, s.requires.3, s.requires.4),
     )
 
-next-piece-requires-2 : tie.Need-next-piece-requires-2 invariant-loop decreases-loop
-next-piece-requires-2 c κs =
+next_piece-q-requires-else-n-lt2 : tie.Need-next_piece-q-requires-else-n-lt2 invariant-loop-c decreases-loop-c
+next_piece-q-requires-else-n-lt2 c κs =
     let e = c.before.before.before.before.before.before in
     let k = strip-loop e in
     let s = from-loop k in
     let a = ahead e in
-    let o = on-last s.args.l s.pre.0 s.args.base s.pre.1 s.args.end k.loop.c
-    (strip-cursor-is e) e.before.whole-runs.result a.0 a.1 a.2 a.3 (omega (arith, e.if2.false)) c.Skip-runs.result
+    let o = on-last s.args.l s.requires.0 s.args.base s.requires.1 s.args.end k.loop-c.c
+    (strip-cursor-is e) e.before.whole_runs-n.result a.0 a.1 a.2 a.3 (omega (arith, e.if-n-lt2.false)) c.Skip-runs.result
     c.Skip-runs.ensures in
-    (s.pre.0, o.0, o.1)
+    (s.requires.0, o.0, o.1)
 
 -- the strip, from the piece of its last run; and the cursor behind that
-abbrev strip-from : tie.After-next-piece2 invariant-loop decreases-loop → tie.Else2 invariant-loop decreases-loop
+abbrev strip-from : tie.After-next_piece-q-else-n-lt2 invariant-loop-c decreases-loop-c → tie.Else-n-lt2 invariant-loop-c decreases-loop-c
 strip-from c = c.before.before.before.before.before.before.before
 
-behind : (c : tie.After-next-piece2 invariant-loop decreases-loop) → let e = strip-from c in let k = strip-loop e in let s = from-loop k in
-    let d = c.next-piece2.result.next in
-    (d.at ≡ k.loop.c.at + e.before.whole-runs.result * s.args.l.run_len) × (d.at < s.args.end → d ≡ range_at s.args.l s.args.base d.at)
+behind : (c : tie.After-next_piece-q-else-n-lt2 invariant-loop-c decreases-loop-c) → let e = strip-from c in let k = strip-loop e in let s = from-loop k in
+    let d = c.next_piece-q-else-n-lt2.result.next in
+    (d.at ≡ k.loop-c.c.at + e.before.whole_runs-n.result * s.args.l.run_len) × (d.at < s.args.end → d ≡ range_at s.args.l s.args.base d.at)
 behind c =
     let e = strip-from c in
     let k = strip-loop e in
     let s = from-loop k in
     let a = ahead e in
-    behind-strip s.args.l s.pre.0 s.args.base s.pre.1 s.args.end k.loop.c
+    behind-strip s.args.l s.requires.0 s.args.base s.requires.1 s.args.end k.loop-c.c
     (strip-cursor-is e)
-    e.before.whole-runs.result a.0 a.1 a.2 a.3 (omega (arith, e.if2.left)) c.before.Skip-runs.result c.before.Skip-runs.ensures
-    c.next-piece2.result c.next-piece2.ensures
+    e.before.whole_runs-n.result a.0 a.1 a.2 a.3 (omega (arith, e.if-n-lt2.left)) c.before.Skip-runs.result c.before.Skip-runs.ensures
+    c.next_piece-q-else-n-lt2.result c.next_piece-q-else-n-lt2.ensures
 
-loop-less-2 : tie.Need-loop-smaller-2 invariant-loop decreases-loop
-loop-less-2 c =
+loop-c-smaller : tie.Need-loop-c-smaller invariant-loop-c decreases-loop-c
+loop-c-smaller c =
     let e = strip-from c.before in
     let k = strip-loop e in
     let s = from-loop k in
-    let n = e.before.whole-runs.result in
+    let n = e.before.whole_runs-n.result in
     let len = s.args.l.run_len in
-    let one : 1 ≤ n = omega (arith, e.if2.left) in
+    let one : 1 ≤ n = omega (arith, e.if-n-lt2.left) in
     let m : 1 * len ≤ n * len = mul-le-mul_right len one in
-    omega (arith, e.before.before.if1.taken, (behind c.before).0, m, run-some s.args.l s.pre.0)
+    omega (arith, e.before.before.loop-c-test.taken, (behind c.before).0, m, run-some s.args.l s.requires.0)
 
-loop-again-2 : tie.Need-loop-preserved-2 invariant-loop decreases-loop
-loop-again-2 c =
+loop-c-preserved : tie.Need-loop-c-preserved invariant-loop-c decreases-loop-c
+loop-c-preserved c =
     let p = c.before in
     let r = p.before.before in
     let e = strip-from p in
@@ -257,33 +257,14 @@ loop-again-2 c =
     let s = from-loop k in
     let a = ahead e in
     simp (to_z-of_z s.fits.base)
-    (reducing-strip s.args.l s.pre.0 s.args.base s.pre.1 s.args.values.now s.pre.5 s.args.end s.pre.3 k.loop.c
-    (strip-cursor-is e) e.before.whole-runs.result a.0 a.1 a.2 a.3 (values-fit k) (whole k) k.loop.acc (reducing k)
-    r.reduce-strip.result (strip-is r) p.next-piece2.result.next (behind p).0 (behind p).1)
+    (reducing-strip s.args.l s.requires.0 s.args.base s.requires.1 s.args.values.now s.requires.5 s.args.end s.requires.3 k.loop-c.c
+    (strip-cursor-is e) e.before.whole_runs-n.result a.0 a.1 a.2 a.3 (values-fit k) (whole k) k.loop-c.acc (reducing k)
+    r.reduce_strip-acc.result (strip-is r) p.next_piece-q-else-n-lt2.result.next (behind p).0 (behind p).1)
 
-returns : tie.Need-returns invariant-loop decreases-loop
+returns : tie.Need-returns invariant-loop-c decreases-loop-c
 returns c =
     let k = c.before.before in
-    reducing-all _ _ _ _ _ _ _ (reducing k) (omega (arith, c.if1.false))
+    reducing-all _ _ _ _ _ _ _ (reducing k) (omega (arith, c.loop-c-test.false))
 
-pub join-pieces-spec : {M : Type 1} → statement M
-join-pieces-spec =
-    tie.close
-    (tie.spec
-    invariant-loop
-    decreases-loop
-    loop-holds
-    whole-runs-requires
-    next-piece-requires
-    reduce-piece-requires
-    stable-float-combine-requires
-    loop-less
-    loop-again
-    array-copy-out-outer
-    reduce-strip-requires
-    sub-skip-runs
-    skip-runs-requires
-    next-piece-requires-2
-    loop-less-2
-    loop-again-2
-    returns)
+pub join_pieces_spec : {M : Type 1} → statement M
+join_pieces_spec = tie.close (tie.spec invariant-loop-c decreases-loop-c loop-c-init whole_runs-n-requires next_piece-q-requires reduce_piece-b-requires stable_float_combine-acc-requires loop-c-smaller-then-n-lt2 loop-c-preserved-then-n-lt2 bounds-axes-0 reduce_strip-acc-requires overflow_sub-n skip_runs-last-requires next_piece-q-requires-else-n-lt2 loop-c-smaller loop-c-preserved returns)

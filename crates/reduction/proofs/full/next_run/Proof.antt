@@ -21,59 +21,59 @@ use Rattle.reduction.proofs.full.next_run.Statement.{statement}
 use Rattle.reduction.proofs.full.next_run.Tie as tie
 
 -- ---- a short run
-abbrev entry : tie.Then2 → tie.Start
+abbrev entry : tie.Then-len-le-BLOCK → tie.Start
 entry c = c.before.before.before
 
-short-piece-requires : tie.Need-short-piece-requires
-short-piece-requires c κs =
+short_piece-q-requires : tie.Need-short_piece-q-requires
+short_piece-q-requires c κs =
     let s = entry c in
-    simp (to_z-of_z w64 s.args.at s.fits.at, to_z-of_z w64 s.args.stride s.fits.stride) (s.pre.1, s.pre.3 (le_trans c.if2.true (lit≤ tt)))
+    simp (to_z-of_z w64 s.args.at s.fits.at, to_z-of_z w64 s.args.stride s.fits.stride) (s.requires.1, s.requires.3 (le_trans c.if-len-le-BLOCK.true (lit≤ tt)))
 
-returns : tie.Need-returns
-returns c =
+returns-then-q : tie.Need-returns-then-q
+returns-then-q c =
     let t = c.before in
     let r = t.before in
     let q = r.before in
     let s = entry q in
     let xs = s.args.values.now in
     let piece = strided xs s.args.at s.args.stride s.args.len in
-    let fits : SFits w64 r.short-piece.result.e = record { sfits = c.struct_told.given.1.1.0.1 } in
-    let e = simp (to_z-of_z w64 s.args.at s.fits.at, to_z-of_z w64 s.args.stride s.fits.stride) at (r.short-piece.ensures t.if3.true) in
-    ap (λ (z : ℤ). record { m = r.short-piece.result.m; e = z; bad = false }) (to_z-of_z w64 r.short-piece.result.e fits)
+    let fits : SFits w64 r.short_piece-q.result.e = record { sfits = c.struct_told-1.given.1.1.0.1 } in
+    let e = simp (to_z-of_z w64 s.args.at s.fits.at, to_z-of_z w64 s.args.stride s.fits.stride) at (r.short_piece-q.ensures t.if-q.true) in
+    ap (λ (z : ℤ). record { m = r.short_piece-q.result.m; e = z; bad = false }) (to_z-of_z w64 r.short_piece-q.result.e fits)
     ∙ e
     ∙ unmarked-worked (eq_z s.args.stride (pos 1)) piece
-    (strided-values xs q.before.before.shared-slice-known.given s.args.at s.args.stride s.args.len)
+    (strided-values xs q.before.before.shared_slice_known-1.given s.args.at s.args.stride s.args.len)
     (ap (λ (a : StableProductFloatAcc). a.bad) (sym e))
 
 -- ---- any other
-reduce-piece-requires : tie.Need-reduce-piece-requires
-reduce-piece-requires c κs =
+reduce_piece-b-requires : tie.Need-reduce_piece-b-requires
+reduce_piece-b-requires c κs =
     let s = c.before.before in
     simp (to_z-of_z w64 s.args.at s.ranges.at, to_z-of_z w64 s.args.stride s.ranges.stride) (s.requires.0, s.requires.1, s.requires.2)
 
-held-longer-requires : tie.Need-held-longer-requires
-held-longer-requires c κs = search rules
+held_longer-requires : tie.Need-held_longer-requires
+held_longer-requires c κs = search rules
 
-product : (c : tie.After-struct-told2) → let b = c.before.reduce-piece.result in let s = c.before.before.before.before in
+product : (c : tie.After-struct_told-2-1) → let b = c.before.reduce_piece-b.result in let s = c.before.before.before.before in
     record { m = b.m; e = to_z w64 (of_z w64 b.e); bad = b.bad }
     ≡ worked (eq_z s.args.stride (pos 1)) (strided s.args.values.now s.args.at s.args.stride s.args.len)
 product c =
     let r = c.before in
     let s = r.before.before.before in
-    handed r.reduce-piece.result (record { sfits = c.struct-told2.given.1.0.1 })
-    ∙ simp (to_z-of_z w64 s.args.at s.ranges.at, to_z-of_z w64 s.args.stride s.ranges.stride) at r.reduce-piece.ensures
+    handed r.reduce_piece-b.result (record { sfits = c.struct_told-2-1.given.1.0.1 })
+    ∙ simp (to_z-of_z w64 s.args.at s.ranges.at, to_z-of_z w64 s.args.stride s.ranges.stride) at r.reduce_piece-b.ensures
 
-returns-2 : tie.Need-returns-2
-returns-2 c = product c.before.before
+returns-then-hold-eq0-2 : tie.Need-returns-then-hold-eq0-2
+returns-then-hold-eq0-2 c = product c.before.before
 
-sub-left : tie.Need-overflow-sub-left
-sub-left c = positive _ c.if4.false
+overflow_sub-left : tie.Need-overflow_sub-left
+overflow_sub-left c = positive _ c.if-hold-eq0-2.false
   where
     positive : (n : ℕ) → (n ≡ 0 → ⊥) → 1 ≤ n
     positive n h = omega arith
 
-returns-3 : tie.Need-returns-3
-returns-3 c = product c.before
+returns : tie.Need-returns
+returns c = product c.before
 
-pub next-run-spec : {M : Type 1} → statement M
-next-run-spec = tie.close (tie.spec short-piece-requires returns reduce-piece-requires held-longer-requires returns-2 sub-left returns-3)
+pub next_run_spec : {M : Type 1} → statement M
+next_run_spec = tie.close (tie.spec short_piece-q-requires returns-then-q reduce_piece-b-requires held_longer-requires returns-then-hold-eq0-2 overflow_sub-left returns)

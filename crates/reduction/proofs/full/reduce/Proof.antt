@@ -22,52 +22,51 @@ use Rattle.layout.proofs.traversal.FullTraversal.compile.Reads as compile-reads
 use Rattle.offsets.proofs.list.range_code.Reads as range-code-reads
 use Rattle.reduction.proofs.full.reduce_full_range.Reads as reduce-full-range-reads
 
-compile-requires : tie.Need-compile-requires
-compile-requires c κs = search rules
+compile-compiled-requires : tie.Need-compile-compiled-requires
+compile-compiled-requires c κs = search rules
 
-range-code-requires : tie.Need-range-code-requires
-range-code-requires c κs =
-    let e = c.compile.ensures in (ap (λ (r : Compiled). r.code) e, ap (λ (r : Compiled). r.traversal.total) e)
+range_code-code-requires : tie.Need-range_code-code-requires
+range_code-code-requires c κs =
+    let e = c.compile-compiled.ensures in (ap (λ (r : Compiled). r.code) e, ap (λ (r : Compiled). r.traversal.total) e)
 
 -- the range's code, over the arguments themselves
-code_of : (c : tie.After-range-code) → let s = c.before.before.before.before in
-    c.range-code.result
+code_of : (c : tie.After-range_code-code) → let s = c.before.before.before.before in
+    c.range_code-code.result
     ≡ range_code s.args.sizes.now s.args.strides.now s.args.base s.args.start s.args.end (length s.args.values.now)
-code_of c = simp (to_z-of_z c.before.before.before.before.ranges.base) at c.range-code.ensures
+code_of c = simp (to_z-of_z c.before.before.before.before.ranges.base) at c.range_code-code.ensures
 
 -- an accepted range
-accepted : (c : tie.Else1) → let s = c.before.before.before.before.before in
+accepted : (c : tie.Else-code-ne0) → let s = c.before.before.before.before.before in
     Checked s.args.sizes.now s.args.strides.now s.args.base s.args.start s.args.end (length s.args.values.now)
-    c.before.before.compile.result.traversal
+    c.before.before.compile-compiled.result.traversal
 accepted c =
     let m = c.before in
     let k = m.before in
-    checked _ _ _ _ _ _ k.compile.result k.compile.ensures m.range-code.result (code_of m) c.if1.false
+    checked _ _ _ _ _ _ k.compile-compiled.result k.compile-compiled.ensures m.range_code-code.result (code_of m) c.if-code-ne0.false
 
-returns : tie.Need-returns
-returns c =
+returns-then-code-ne0 : tie.Need-returns-then-code-ne0
+returns-then-code-ne0 c =
     let m = c.before in
     let s = m.before.before.before.before in
     ap refusal (code_of m)
     ∙ sym (reduce-refused s.args.sizes.now s.args.strides.now s.args.base s.args.start s.args.end s.args.values.now
-    (λ e. c.if1.true (code_of m ∙ e)))
+    (λ e. c.if-code-ne0.true (code_of m ∙ e)))
 
-reduce-full-range-requires : tie.Need-reduce-full-range-requires
-reduce-full-range-requires c κs =
+reduce_full_range-acc-requires : tie.Need-reduce_full_range-acc-requires
+reduce_full_range-acc-requires c κs =
     let s = c.before.before.before.before.before in
     let a = accepted c in
     simp (to_z-of_z s.ranges.base) (a.traversal, a.bounded, a.forward, a.inside, a.few, a.within)
 
-returns-2 : tie.Need-returns-2
-returns-2 c =
+returns : tie.Need-returns
+returns c =
     let b = c.before in
     let s = b.before.before.before.before.before in
     ap (λ (a : StableProductFloatAcc). answer_of (Acc a))
-    (simp (to_z-of_z s.ranges.base) at c.reduce-full-range.ensures
+    (simp (to_z-of_z s.ranges.base) at c.reduce_full_range-acc.ensures
     ∙ ap (λ (l : FullTraversal). joined_pieces (pieces_of l s.args.base s.args.values.now s.args.start s.args.end)) (accepted b).is)
     ∙ sym
     (reduce-accepted s.args.sizes.now s.args.strides.now s.args.base s.args.start s.args.end s.args.values.now (accepted b).code)
 
-pub reduce-spec : {M : Type 1} → statement M
-reduce-spec =
-    tie.close (tie.spec compile-requires range-code-requires returns reduce-full-range-requires returns-2)
+pub reduce_spec : {M : Type 1} → statement M
+reduce_spec = tie.close (tie.spec compile-compiled-requires range_code-code-requires returns-then-code-ne0 reduce_full_range-acc-requires returns)

@@ -14,29 +14,29 @@ use Rattle.reduction.proofs.full.reduce_full_range.Lts as lts
 use Rattle.reduction.proofs.full.reduce_line.Reads as reduce-line-reads
 use Rattle.reduction.proofs.full.reduce_runs.Reads as reduce-runs-reads
 
-stride-fits : (c : tie.After-struct-told) → SFits w64 c.before.before.before.before.args.l.run_stride
-stride-fits c = record { sfits = c.struct_told.given.1.1.0.1 }
+stride-fits : (c : tie.After-struct_told-1) → SFits w64 c.before.before.before.before.args.l.run_stride
+stride-fits c = record { sfits = c.struct_told-1.given.1.1.0.1 }
 
-reduce-line-requires : tie.Need-reduce-line-requires
-reduce-line-requires c κs =
+reduce_line-requires : tie.Need-reduce_line-requires
+reduce_line-requires c κs =
     let s = c.before.before.before.before in
-    let inside = line-inside s.args.l s.requires.0 c.before.if1.true s.args.base s.requires.1 s.args.values.now s.requires.5 s.args.end
+    let inside = line-inside s.args.l s.requires.0 c.before.if-l-eq0.true s.args.base s.requires.1 s.args.values.now s.requires.5 s.args.end
     s.requires.3 (omega (arith, s.requires.2)) in
     simp (to_z-of_z s.ranges.base, to_z-of_z (stride-fits c)) (s.requires.2, inside, omega (arith, s.requires.3, s.requires.4))
 
-returns : tie.Need-returns
-returns c =
+returns-then-l-eq0 : tie.Need-returns-then-l-eq0
+returns-then-l-eq0 c =
     let t = c.before in
     let s = t.before.before.before.before in
-    simp (to_z-of_z s.ranges.base, to_z-of_z (stride-fits t)) at c.reduce-line.ensures
-    ∙ line-joined s.args.l s.requires.0 t.before.if1.true s.args.base s.requires.1 s.args.values.now s.requires.5 s.args.end s.requires.3
+    simp (to_z-of_z s.ranges.base, to_z-of_z (stride-fits t)) at c.reduce_line.ensures
+    ∙ line-joined s.args.l s.requires.0 t.before.if-l-eq0.true s.args.base s.requires.1 s.args.values.now s.requires.5 s.args.end s.requires.3
     s.args.start s.requires.2
 
-reduce-runs-requires : tie.Need-reduce-runs-requires
-reduce-runs-requires c κs = search rules
+reduce_runs-requires : tie.Need-reduce_runs-requires
+reduce_runs-requires c κs = search rules
 
-returns-2 : tie.Need-returns-2
-returns-2 c = let s = c.before.before.before.before in simp (to_z-of_z s.ranges.base) at c.reduce_runs.ensures
+returns : tie.Need-returns
+returns c = let s = c.before.before.before.before in simp (to_z-of_z s.ranges.base) at c.reduce_runs.ensures
 
-pub reduce-full-range-spec : {M : Type 1} → statement M
-reduce-full-range-spec = tie.close (tie.spec reduce-line-requires returns reduce-runs-requires returns-2)
+pub reduce_full_range_spec : {M : Type 1} → statement M
+reduce_full_range_spec = tie.close (tie.spec reduce_line-requires returns-then-l-eq0 reduce_runs-requires returns)

@@ -19,7 +19,7 @@ use Rattle.reduction.proofs.full.reduce_line.Lts as lts
 use Rattle.reduction.proofs.full.reduce_piece.Reads as reduce-piece-reads
 
 few : (s : tie.Start) → length s.args.values.now ≤ 2 ^ 63
-few s = omega (arith, s.well-formed.0.1)
+few s = omega (arith, s.well_formed.0.1)
 
 start_small : (s : tie.Start) → s.args.start < 2 ^ 63
 start_small s = omega (arith, s.requires.0, s.requires.2)
@@ -41,27 +41,27 @@ first-is : (s : tie.Start)
     ≡ s.args.base +ℤ s.args.stride *ℤ pos s.args.start
 first-is s = ap (λ (z : ℤ). to_z w64 (of_z w64 z)) (sum_is s) ∙ to_z-of_z (sum_fits s)
 
-cast-first : tie.Need-overflow-cast-first
-cast-first c = search rules
+overflow_cast-first : tie.Need-overflow_cast-first
+overflow_cast-first c = search rules
 
-mul-first : tie.Need-overflow-mul-first
-mul-first c = let s = c.before in simp (to_z-of_z s.ranges.stride, to_z-small _ (start_small s)) (product-fits s)
+overflow_mul-first : tie.Need-overflow_mul-first
+overflow_mul-first c = let s = c.before in simp (to_z-of_z s.ranges.stride, to_z-small _ (start_small s)) (product-fits s)
 
-add-first : tie.Need-overflow-add-first
-add-first c = subst (SFits w64) (sym (sum_is c.before)) (sum_fits c.before)
+overflow_add-first : tie.Need-overflow_add-first
+overflow_add-first c = subst (SFits w64) (sym (sum_is c.before)) (sum_fits c.before)
 
-sub-reduce-piece : tie.Need-overflow-sub-reduce-piece
-sub-reduce-piece c = search rules
+overflow_sub-end : tie.Need-overflow_sub-end
+overflow_sub-end c = search rules
 
-reduce-piece-requires : tie.Need-reduce-piece-requires
-reduce-piece-requires c κs =
+reduce_piece-requires : tie.Need-reduce_piece-requires
+reduce_piece-requires c κs =
     let s = c.before in
     let n = s.args.end - s.args.start in
     let inside = inside-part _ s.args.base s.args.stride s.args.end s.args.start n s.requires.1 (omega (arith, s.requires.0)) in
     rw (first-is s, to_z-of_z s.ranges.stride) (omega (arith, s.requires.0), inside, omega (arith, s.requires.2))
 
 returns : tie.Need-returns
-returns c = let s = c.before.before in rw (first-is s, to_z-of_z s.ranges.stride) at c.reduce-piece.ensures
+returns c = let s = c.before.before in rw (first-is s, to_z-of_z s.ranges.stride) at c.reduce_piece.ensures
 
-pub reduce-line-spec : {M : Type 1} → statement M
-reduce-line-spec = tie.close (tie.spec cast-first mul-first add-first sub-reduce-piece reduce-piece-requires returns)
+pub reduce_line_spec : {M : Type 1} → statement M
+reduce_line_spec = tie.close (tie.spec overflow_cast-first overflow_mul-first overflow_add-first overflow_sub-end reduce_piece-requires returns)

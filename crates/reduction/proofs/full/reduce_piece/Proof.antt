@@ -25,52 +25,52 @@ use Rattle.vectors.proofs.piece.stable_float_contiguous.Reads as stable-float-co
 use Rattle.vectors.proofs.piece.lanes_strided.Reads as lanes-strided-reads
 
 -- at stride 1 the piece is a part of the slice
-one : (c : tie.Then1) → c.before.before.args.stride ≡ pos 1
-one c = same_bits _ (pos 1) c.before.before.ranges.stride (pos-fits 1 (omega arith)) c.if1.true
+one : (c : tie.Then-stride-eq1) → c.before.before.args.stride ≡ pos 1
+one c = same_bits _ (pos 1) c.before.before.ranges.stride (pos-fits 1 (omega arith)) c.if-stride-eq1.true
 
-inside : (c : tie.Then1) → PlacesInside (length c.before.before.args.values.now) c.before.before.args.first (pos 1) c.before.before.args.len
+inside : (c : tie.Then-stride-eq1) → PlacesInside (length c.before.before.args.values.now) c.before.before.args.first (pos 1) c.before.before.args.len
 inside c =
     let s = c.before.before in
     subst (λ (z : ℤ). PlacesInside (length s.args.values.now) s.args.first z s.args.len) (one c) s.requires.1
 
-ends : (c : tie.Then1) → let s = c.before.before in
+ends : (c : tie.Then-stride-eq1) → let s = c.before.before in
     nat_abs (to_z w64 (of_z w64 s.args.first)) + s.args.len ≤ length s.args.values.now
 ends c =
     let s = c.before.before in
     at_last _ _ s.args.first s.args.len (inside c) s.requires.0 (sym (ap nat_abs (to_z-of_z s.ranges.first)))
 
-cast-at : tie.Need-overflow-cast-at
-cast-at c =
+overflow_cast-at : tie.Need-overflow_cast-at
+overflow_cast-at c =
     let s = c.before.before in
-    (rw (to_z-of_z s.ranges.first) (first-natural _ _ _ _ (inside c) s.requires.0), omega (arith, ends c, c.before.before.well-formed.0.1))
+    (rw (to_z-of_z s.ranges.first) (first-natural _ _ _ _ (inside c) s.requires.0), omega (arith, ends c, c.before.before.well_formed.0.1))
 
-add-part : tie.Need-overflow-add-part
-add-part c = omega (arith, ends c, c.before.before.well-formed.0.1)
+overflow_add-part : tie.Need-overflow_add-part
+overflow_add-part c = omega (arith, ends c, c.before.before.well_formed.0.1)
 
-mul-part : tie.Need-overflow-mul-part
-mul-part c = omega (arith, ends c, c.before.before.well-formed.0.1)
+offset_bounds-values-at : tie.Need-offset_bounds-values-at
+offset_bounds-values-at c = omega (arith, ends c, c.before.before.well_formed.0.1)
 
-sub_part : tie.Need-overflow-sub-part
-sub_part c = search rules
+slice_bounds-part-count : tie.Need-slice_bounds-part-count
+slice_bounds-part-count c = search rules
 
-part-part-start : tie.Need-slice-bounds-part-start
-part-part-start c = search rules
+slice_bounds-part-start : tie.Need-slice_bounds-part-start
+slice_bounds-part-start c = search rules
 
-part-part-end : tie.Need-slice-bounds-part-end
-part-part-end c = ends c
+slice_bounds-part-end : tie.Need-slice_bounds-part-end
+slice_bounds-part-end c = ends c
 
-stable-float-contiguous-requires : tie.Need-stable-float-contiguous-requires
-stable-float-contiguous-requires c κs = search rules
+stable_float_contiguous-a-requires : tie.Need-stable_float_contiguous-a-requires
+stable_float_contiguous-a-requires c κs = search rules
 
-returns : tie.Need-returns
+returns-then-stride-eq1 : tie.Need-returns-then-stride-eq1
 unfolding eq_z
-returns c =
+returns-then-stride-eq1 c =
     let r = c.before in
     let t = r.before.before in
     let s = t.before.before in
     let at = nat_abs (to_z w64 (of_z w64 s.args.first)) in
-    handed r.stable-float-contiguous.result (record { sfits = c.struct_told.given.1.0.1 })
-    ∙ r.stable-float-contiguous.ensures
+    handed r.stable_float_contiguous-a.result (record { sfits = c.struct_told-1.given.1.0.1 })
+    ∙ r.stable_float_contiguous-a.ensures
     ∙ ap (λ (n : ℕ). contiguous (take n (drop at s.args.values.now))) (count at s.args.len)
     ∙ ap contiguous (strided-window s.args.values.now at s.args.len (ends t))
     ∙ ap (λ (z : ℤ). contiguous (strided s.args.values.now z (pos 1) s.args.len))
@@ -80,29 +80,17 @@ returns c =
     count : (a n : ℕ) → a + n - a ≡ n
     count a n = omega arith
 
-lanes-strided-requires : tie.Need-lanes-strided-requires
-lanes-strided-requires c κs = search rules
+lanes_strided-a-requires : tie.Need-lanes_strided-a-requires
+lanes_strided-a-requires c κs = search rules
 
-returns-2 : tie.Need-returns-2
-returns-2 c =
+returns : tie.Need-returns
+returns c =
     let r = c.before in
     let s = r.before.before.before in
-    handed r.lanes-strided.result (record { sfits = c.struct-told2.given.1.0.1 })
-    ∙ simp (to_z-of_z s.ranges.first, to_z-of_z s.ranges.stride) at r.lanes-strided.ensures
+    handed r.lanes_strided-a.result (record { sfits = c.struct_told-2-1.given.1.0.1 })
+    ∙ simp (to_z-of_z s.ranges.first, to_z-of_z s.ranges.stride) at r.lanes_strided-a.ensures
     ∙ ap (λ (b : Bool). worked b (strided s.args.values.now s.args.first s.args.stride s.args.len))
-    (sym (ne-eq_z _ _ (λ q. r.before.if1.false (ap (of_z w64) q))))
+    (sym (ne-eq_z _ _ (λ q. r.before.if-stride-eq1.false (ap (of_z w64) q))))
 
-pub reduce-piece-spec : {M : Type 1} → statement M
-reduce-piece-spec =
-    tie.close
-    (tie.spec
-    cast-at
-    add-part
-    mul-part
-    sub_part
-    part-part-start
-    part-part-end
-    stable-float-contiguous-requires
-    returns
-    lanes-strided-requires
-    returns-2)
+pub reduce_piece_spec : {M : Type 1} → statement M
+reduce_piece_spec = tie.close (tie.spec overflow_cast-at overflow_add-part offset_bounds-values-at slice_bounds-part-count slice_bounds-part-start slice_bounds-part-end stable_float_contiguous-a-requires returns-then-stride-eq1 lanes_strided-a-requires returns)

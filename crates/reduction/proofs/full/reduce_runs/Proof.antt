@@ -33,45 +33,45 @@ cursor-is c = let s = c.before.before in began c ∙ ap (range_at s.args.l s.arg
 before-end : (c : tie.After-begin) → c.begin.result.at < c.before.before.args.end
 before-end c = omega (arith, start_is c, c.before.before.requires.2)
 
-next-piece-requires : tie.Need-next-piece-requires
-next-piece-requires c κs =
+next_piece-p-requires : tie.Need-next_piece-p-requires
+next_piece-p-requires c κs =
     let s = c.before.before in
     (s.requires.0, before-end c, record { base = s.args.base; bounded = s.requires.1; cursor_is = cursor-is c })
 
-first_taken : (c : tie.After-next-piece)
+first_taken : (c : tie.After-next_piece-p)
     → let s = c.before.before.before in
-    PieceTaken s.args.l s.args.base s.args.values.now s.args.end c.before.begin.result c.next-piece.result
+    PieceTaken s.args.l s.args.base s.args.values.now s.args.end c.before.begin.result c.next_piece-p.result
 first_taken c =
     let s = c.before.before.before in
     taken s.args.l s.requires.0 s.args.base s.requires.1 s.args.values.now s.requires.5 s.args.end s.requires.3 c.before.begin.result
-    (cursor-is c.before) (before-end c.before) c.next-piece.result c.next-piece.ensures
+    (cursor-is c.before) (before-end c.before) c.next_piece-p.result c.next_piece-p.ensures
 
-first_fits : (c : tie.After-struct-told2) → SFits w64 c.before.before.next-piece.result.first
-first_fits c = record { sfits = c.before.struct_told.given.0.1 }
+first_fits : (c : tie.After-struct_told-2-1) → SFits w64 c.before.before.next_piece-p.result.first
+first_fits c = record { sfits = c.before.struct_told-1.given.0.1 }
 
-stride-fits : (c : tie.After-struct-told2) → SFits w64 c.before.before.before.before.before.args.l.run_stride
-stride-fits c = record { sfits = c.struct-told2.given.1.1.0.1 }
+stride-fits : (c : tie.After-struct_told-2-1) → SFits w64 c.before.before.before.before.before.args.l.run_stride
+stride-fits c = record { sfits = c.struct_told-2-1.given.1.1.0.1 }
 
-reduce-piece-requires : tie.Need-reduce-piece-requires
-reduce-piece-requires c κs =
+reduce_piece-first-requires : tie.Need-reduce_piece-first-requires
+reduce_piece-first-requires c κs =
     let n = c.before.before in
     let s = n.before.before.before in
     let p = first_taken n in
     simp (to_z-of_z (first_fits c), to_z-of_z (stride-fits c)) (p.some_len, p.inside, omega (arith, p.ends, s.requires.3, s.requires.4))
 
-first-worked : (c : tie.After-reduce-piece) → let n = c.before.before.before in
+first-worked : (c : tie.After-reduce_piece-first) → let n = c.before.before.before in
     let s = n.before.before.before in
-    let p = n.next-piece.result in
-    c.reduce-piece.result ≡ worked (eq_z s.args.l.run_stride (pos 1)) (strided s.args.values.now p.first s.args.l.run_stride p.len)
-first-worked c = simp (to_z-of_z (first_fits c.before), to_z-of_z (stride-fits c.before)) at c.reduce-piece.ensures
+    let p = n.next_piece-p.result in
+    c.reduce_piece-first.result ≡ worked (eq_z s.args.l.run_stride (pos 1)) (strided s.args.values.now p.first s.args.l.run_stride p.len)
+first-worked c = simp (to_z-of_z (first_fits c.before), to_z-of_z (stride-fits c.before)) at c.reduce_piece-first.ensures
 
-join-pieces-requires : tie.Need-join-pieces-requires
-join-pieces-requires c κs =
+join_pieces-requires : tie.Need-join_pieces-requires
+join_pieces-requires c κs =
     let n = c.before.before.before in
     let s = n.before.before.before in
-    let v = n.before.before.shared-slice-known.given in
+    let v = n.before.before.shared_slice_known-1.given in
     let p = first_taken n in
-    let m = near _ _ _ _ _ _ p c.reduce-piece.result (first-worked c) v in
+    let m = near _ _ _ _ _ _ p c.reduce_piece-first.result (first-worked c) v in
     simp (to_z-of_z s.ranges.base) (
       s.requires.0,
       s.requires.1,
@@ -81,7 +81,7 @@ join-pieces-requires c κs =
       s.requires.5,
       p.next_cursor_is,
       omega (arith, m, p.ends, s.requires.3, s.requires.4),
-      piece-sound _ _ _ _ _ _ p c.reduce-piece.result (first-worked c) v,
+      piece-sound _ _ _ _ _ _ p c.reduce_piece-first.result (first-worked c) v,
     )
 
 returns : tie.Need-returns
@@ -89,10 +89,10 @@ returns c =
     let r = c.before in
     let n = r.before.before.before in
     let s = n.before.before.before in
-    simp (to_z-of_z s.ranges.base) at c.join-pieces.ensures
-    ∙ joined-first s.args.l s.args.base s.args.values.now s.args.end n.before.begin.result n.next-piece.result (first_taken n)
-    r.reduce-piece.result (first-worked r) n.before.before.shared-slice-known.given
+    simp (to_z-of_z s.ranges.base) at c.join_pieces.ensures
+    ∙ joined-first s.args.l s.args.base s.args.values.now s.args.end n.before.begin.result n.next_piece-p.result (first_taken n)
+    r.reduce_piece-first.result (first-worked r) n.before.before.shared_slice_known-1.given
     ∙ ap (λ k. joined_pieces (pieces_of s.args.l s.args.base s.args.values.now k s.args.end)) (start_is n.before)
 
-pub reduce-runs-spec : {M : Type 1} → statement M
-reduce-runs-spec = tie.close (tie.spec begin-requires next-piece-requires reduce-piece-requires join-pieces-requires returns)
+pub reduce_runs_spec : {M : Type 1} → statement M
+reduce_runs_spec = tie.close (tie.spec begin-requires next_piece-p-requires reduce_piece-first-requires join_pieces-requires returns)

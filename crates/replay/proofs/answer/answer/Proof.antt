@@ -5,56 +5,56 @@ use Rattle.replay.proofs.Parts.{counts}
 use Rattle.replay.proofs.answer.answer.Statement.{statement}
 use Rattle.replay.proofs.answer.answer.Tie as tie
 
-find-requires : tie.Need-find-requires
-find-requires c κs = search rules
+find-end-requires : tie.Need-find-end-requires
+find-end-requires c κs = search rules
 
-slice-aggregate-same : tie.Need-slice-aggregate-same
-slice-aggregate-same c = counts _ _ (search rules)
+slice_bounds-same-end : tie.Need-slice_bounds-same-end
+slice_bounds-same-end c = counts _ _ (search rules)
 
-slice-aggregate-same-2 : tie.Need-slice-aggregate-same-2
-slice-aggregate-same-2 c = search rules
+slice_bounds-same-end-3 : tie.Need-slice_bounds-same-end-3
+slice_bounds-same-end-3 c = search rules
 
 same-requires : tie.Need-same-requires
 same-requires c κs = search rules
 
-add-read-join : tie.Need-overflow-add-read-join
-add-read-join c = search rules
+overflow_add-end : tie.Need-overflow_add-end
+overflow_add-end c = search rules
 
-read-join-requires : tie.Need-read-join-requires
-read-join-requires c κs = search rules
+read_join-requires : tie.Need-read_join-requires
+read_join-requires c κs = search rules
 
-put-answer-requires : tie.Need-put-answer-requires
-put-answer-requires c κs = search rules
+put_answer-requires : tie.Need-put_answer-requires
+put_answer-requires c κs = search rules
 
-same_length : tie.Need-same-length
-same_length c = search rules
+shape_of-out-then-same : tie.Need-shape_of-out-then-same
+shape_of-out-then-same c = search rules
 
-returns : tie.Need-returns
-returns c = search rules
+returns-then-same : tie.Need-returns-then-same
+returns-then-same c = search rules
 
-slice-aggregate-same-3 : tie.Need-slice-aggregate-same-3
-slice-aggregate-same-3 c = counts _ _ (search rules)
+slice_bounds-same-end-5 : tie.Need-slice_bounds-same-end-5
+slice_bounds-same-end-5 c = counts _ _ (search rules)
 
-slice-aggregate-same-4 : tie.Need-slice-aggregate-same-4
-slice-aggregate-same-4 c = search rules
+slice_bounds-same-end-7 : tie.Need-slice_bounds-same-end-7
+slice_bounds-same-end-7 c = search rules
 
 same-requires-2 : tie.Need-same-requires-2
 same-requires-2 c κs = search rules
 
-add-read-finish : tie.Need-overflow-add-read-finish
-add-read-finish c = search rules
+overflow_add-end-then-same-2 : tie.Need-overflow_add-end-then-same-2
+overflow_add-end-then-same-2 c = search rules
 
-read-finish-requires : tie.Need-read-finish-requires
-read-finish-requires c κs = search rules
+read_finish-requires : tie.Need-read_finish-requires
+read_finish-requires c κs = search rules
 
-put-answer-requires-2 : tie.Need-put-answer-requires-2
-put-answer-requires-2 c κs = search rules
+put_answer-requires-then-same-2 : tie.Need-put_answer-requires-then-same-2
+put_answer-requires-then-same-2 c κs = search rules
 
-same-length-2 : tie.Need-same-length-2
-same-length-2 c = search rules
+shape_of-out-then-same-2 : tie.Need-shape_of-out-then-same-2
+shape_of-out-then-same-2 c = search rules
 
-returns-2 : tie.Need-returns-2
-returns-2 c = search rules
+returns-then-same-2 : tie.Need-returns-then-same-2
+returns-then-same-2 c = search rules
 
 slice-aggregate-same-5 : tie.Need-slice-aggregate-same-5
 slice-aggregate-same-5 c = counts _ _ (search rules)
@@ -65,17 +65,17 @@ slice-aggregate-same-6 c = search rules
 same-requires-3 : tie.Need-same-requires-3
 same-requires-3 c κs = search rules
 
-add-answer-read : tie.Need-overflow-add-answer-read
-add-answer-read c = search rules
+overflow_add-end-then-same-3 : tie.Need-overflow_add-end-then-same-3
+overflow_add-end-then-same-3 c = search rules
 
-answer-read-requires : tie.Need-answer-read-requires
-answer-read-requires c κs = search rules
+answer_read-requires : tie.Need-answer_read-requires
+answer_read-requires c κs = search rules
 
-same-length-3 : tie.Need-same-length-3
-same-length-3 c = search rules
+shape_of-out-then-same-3 : tie.Need-shape_of-out-then-same-3
+shape_of-out-then-same-3 c = search rules
 
-returns-3 : tie.Need-returns-3
-returns-3 c = search rules
+returns-then-same-3 : tie.Need-returns-then-same-3
+returns-then-same-3 c = search rules
 
 slice-aggregate-same-7 : tie.Need-slice-aggregate-same-7
 slice-aggregate-same-7 c = counts _ _ (search rules)
@@ -86,70 +86,32 @@ slice-aggregate-same-8 c = search rules
 same-requires-4 : tie.Need-same-requires-4
 same-requires-4 c κs = search rules
 
-add-answer-windows : tie.Need-overflow-add-answer-windows
-add-answer-windows c = search rules
+overflow_add-end-then-same-4 : tie.Need-overflow_add-end-then-same-4
+overflow_add-end-then-same-4 c = search rules
 
-answer-windows-requires : tie.Need-answer-windows-requires
-answer-windows-requires c κs = search rules
+answer_windows-requires : tie.Need-answer_windows-requires
+answer_windows-requires c κs = search rules
 
-same-length-4 : tie.Need-same-length-4
-same-length-4 c = search rules
+shape_of-out-then-same-4 : tie.Need-shape_of-out-then-same-4
+shape_of-out-then-same-4 c = search rules
 
-returns-4 : tie.Need-returns-4
-returns-4 c = search rules
+returns-then-same-4 : tie.Need-returns-then-same-4
+returns-then-same-4 c = search rules
 
-slice-aggregate-answer-axes : tie.Need-slice-aggregate-answer-axes
-slice-aggregate-answer-axes c = counts _ _ (search rules)
+slice_bounds-answer_axes-end : tie.Need-slice_bounds-answer_axes-end
+slice_bounds-answer_axes-end c = counts _ _ (search rules)
 
-add-answer-axes : tie.Need-overflow-add-answer-axes
-add-answer-axes c = search rules
+overflow_add-end-2 : tie.Need-overflow_add-end-2
+overflow_add-end-2 c = search rules
 
-answer-axes-requires : tie.Need-answer-axes-requires
-answer-axes-requires c κs = search rules
+answer_axes-requires : tie.Need-answer_axes-requires
+answer_axes-requires c κs = search rules
 
-same-length-5 : tie.Need-same-length-5
-same-length-5 c = search rules
+shape_of-out : tie.Need-shape_of-out
+shape_of-out c = search rules
 
-returns-5 : tie.Need-returns-5
-returns-5 c = search rules
+returns : tie.Need-returns
+returns c = search rules
 
-pub answer-spec : {M : Type 1} → statement M
-answer-spec =
-    tie.close
-    (tie.spec
-    find-requires
-    slice-aggregate-same
-    slice-aggregate-same-2
-    same-requires
-    add-read-join
-    read-join-requires
-    put-answer-requires
-    same_length
-    returns
-    slice-aggregate-same-3
-    slice-aggregate-same-4
-    same-requires-2
-    add-read-finish
-    read-finish-requires
-    put-answer-requires-2
-    same-length-2
-    returns-2
-    slice-aggregate-same-5
-    slice-aggregate-same-6
-    same-requires-3
-    add-answer-read
-    answer-read-requires
-    same-length-3
-    returns-3
-    slice-aggregate-same-7
-    slice-aggregate-same-8
-    same-requires-4
-    add-answer-windows
-    answer-windows-requires
-    same-length-4
-    returns-4
-    slice-aggregate-answer-axes
-    add-answer-axes
-    answer-axes-requires
-    same-length-5
-    returns-5)
+pub answer_spec : {M : Type 1} → statement M
+answer_spec = tie.close (tie.spec find-end-requires slice_bounds-same-end same-requires overflow_add-end read_join-requires put_answer-requires shape_of-out-then-same returns-then-same slice_bounds-same-end-3 same-requires-2 overflow_add-end-then-same-2 read_finish-requires put_answer-requires-then-same-2 shape_of-out-then-same-2 returns-then-same-2 slice_bounds-same-end-5 same-requires-3 overflow_add-end-then-same-3 answer_read-requires shape_of-out-then-same-3 returns-then-same-3 slice_bounds-same-end-7 same-requires-4 overflow_add-end-then-same-4 answer_windows-requires shape_of-out-then-same-4 returns-then-same-4 slice_bounds-answer_axes-end overflow_add-end-2 answer_axes-requires shape_of-out returns)

@@ -5,75 +5,56 @@ use Rattle.replay.proofs.Parts.{counts}
 use Rattle.replay.proofs.answer.answer_axes.Statement.{statement}
 use Rattle.replay.proofs.answer.answer_axes.Tie as tie
 
-slice-aggregate-read-u64s : tie.Need-slice-aggregate-read-u64s
-slice-aggregate-read-u64s c = search rules
+slice_bounds-read_u64s-end : tie.Need-slice_bounds-read_u64s-end
+slice_bounds-read_u64s-end c = search rules
 
-read-u64s-requires : tie.Need-read-u64s-requires
-read-u64s-requires c κs = search rules
+read_u64s-a-requires : tie.Need-read_u64s-a-requires
+read_u64s-a-requires c κs = search rules
 
 malformed-requires : tie.Need-malformed-requires
 malformed-requires c κs = search rules
 
-same_length : tie.Need-same-length
-same_length c = search rules
+shape_of-out-then-not-a : tie.Need-shape_of-out-then-not-a
+shape_of-out-then-not-a c = search rules
+
+returns-then-not-a : tie.Need-returns-then-not-a
+returns-then-not-a c = search rules
+
+slice_bounds-read_i64s-end : tie.Need-slice_bounds-read_i64s-end
+slice_bounds-read_i64s-end c = search rules
+
+read_i64s-b-requires : tie.Need-read_i64s-b-requires
+read_i64s-b-requires c κs = search rules
+
+malformed-requires-then-not-b : tie.Need-malformed-requires-then-not-b
+malformed-requires-then-not-b c κs = search rules
+
+shape_of-out-then-not-b : tie.Need-shape_of-out-then-not-b
+shape_of-out-then-not-b c = search rules
+
+returns-then-not-b : tie.Need-returns-then-not-b
+returns-then-not-b c = search rules
+
+slice_bounds-sizes-end : tie.Need-slice_bounds-sizes-end
+slice_bounds-sizes-end c = search rules
+
+slice_bounds-answer_layout-end : tie.Need-slice_bounds-answer_layout-end
+slice_bounds-answer_layout-end c = counts _ _ (search rules)
+
+slice_bounds-strides-end : tie.Need-slice_bounds-strides-end
+slice_bounds-strides-end c = search rules
+
+slice_bounds-answer_layout-end-2 : tie.Need-slice_bounds-answer_layout-end-2
+slice_bounds-answer_layout-end-2 c = counts _ _ (search rules)
+
+answer_layout-requires : tie.Need-answer_layout-requires
+answer_layout-requires c κs = search rules
+
+shape_of-out : tie.Need-shape_of-out
+shape_of-out c = search rules
 
 returns : tie.Need-returns
 returns c = search rules
 
-slice-aggregate-read-i64s : tie.Need-slice-aggregate-read-i64s
-slice-aggregate-read-i64s c = search rules
-
-read-i64s-requires : tie.Need-read-i64s-requires
-read-i64s-requires c κs = search rules
-
-malformed-requires-2 : tie.Need-malformed-requires-2
-malformed-requires-2 c κs = search rules
-
-same-length-2 : tie.Need-same-length-2
-same-length-2 c = search rules
-
-returns-2 : tie.Need-returns-2
-returns-2 c = search rules
-
-array-share-prefix-sizes : tie.Need-array-share-prefix-sizes
-array-share-prefix-sizes c = search rules
-
-slice-aggregate-answer-layout : tie.Need-slice-aggregate-answer-layout
-slice-aggregate-answer-layout c = counts _ _ (search rules)
-
-array-share-prefix-strides : tie.Need-array-share-prefix-strides
-array-share-prefix-strides c = search rules
-
-slice-aggregate-answer-layout-2 : tie.Need-slice-aggregate-answer-layout-2
-slice-aggregate-answer-layout-2 c = counts _ _ (search rules)
-
-answer-layout-requires : tie.Need-answer-layout-requires
-answer-layout-requires c κs = search rules
-
-same-length-3 : tie.Need-same-length-3
-same-length-3 c = search rules
-
-returns-3 : tie.Need-returns-3
-returns-3 c = search rules
-
-pub answer-axes-spec : {M : Type 1} → statement M
-answer-axes-spec =
-    tie.close
-    (tie.spec
-    slice-aggregate-read-u64s
-    read-u64s-requires
-    malformed-requires
-    same_length
-    returns
-    slice-aggregate-read-i64s
-    read-i64s-requires
-    malformed-requires-2
-    same-length-2
-    returns-2
-    array-share-prefix-sizes
-    slice-aggregate-answer-layout
-    array-share-prefix-strides
-    slice-aggregate-answer-layout-2
-    answer-layout-requires
-    same-length-3
-    returns-3)
+pub answer_axes_spec : {M : Type 1} → statement M
+answer_axes_spec = tie.close (tie.spec slice_bounds-read_u64s-end read_u64s-a-requires malformed-requires shape_of-out-then-not-a returns-then-not-a slice_bounds-read_i64s-end read_i64s-b-requires malformed-requires-then-not-b shape_of-out-then-not-b returns-then-not-b slice_bounds-sizes-end slice_bounds-answer_layout-end slice_bounds-strides-end slice_bounds-answer_layout-end-2 answer_layout-requires shape_of-out returns)

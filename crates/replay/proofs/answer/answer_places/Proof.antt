@@ -6,66 +6,50 @@ use Rattle.replay.proofs.Parts.{counts, at_most}
 use Rattle.replay.proofs.answer.answer_places.Statement.{statement}
 use Rattle.replay.proofs.answer.answer_places.Tie as tie
 
-slice-aggregate-read-i64s : tie.Need-slice-aggregate-read-i64s
-slice-aggregate-read-i64s c = search rules
+slice_bounds-read_i64s-end : tie.Need-slice_bounds-read_i64s-end
+slice_bounds-read_i64s-end c = search rules
 
-read-i64s-requires : tie.Need-read-i64s-requires
-read-i64s-requires c κs = search rules
+read_i64s-b-requires : tie.Need-read_i64s-b-requires
+read_i64s-b-requires c κs = search rules
 
 malformed-requires : tie.Need-malformed-requires
 malformed-requires c κs = search rules
 
-same_length : tie.Need-same-length
-same_length c = search rules
+shape_of-out-then-not-b : tie.Need-shape_of-out-then-not-b
+shape_of-out-then-not-b c = search rules
+
+returns-then-not-b : tie.Need-returns-then-not-b
+returns-then-not-b c = search rules
+
+at_end-requires : tie.Need-at_end-requires
+at_end-requires c κs = search rules
+
+malformed-requires-then-not-at_end : tie.Need-malformed-requires-then-not-at_end
+malformed-requires-then-not-at_end c κs = search rules
+
+shape_of-out-then-not-at_end : tie.Need-shape_of-out-then-not-at_end
+shape_of-out-then-not-at_end c = search rules
+
+returns-then-not-at_end : tie.Need-returns-then-not-at_end
+returns-then-not-at_end c = search rules
+
+slice_bounds-places-end : tie.Need-slice_bounds-places-end
+slice_bounds-places-end c = search rules
+
+slice_bounds-answer_offsets-end : tie.Need-slice_bounds-answer_offsets-end
+slice_bounds-answer_offsets-end c = counts _ _ (search rules)
+
+answer_offsets-requires : tie.Need-answer_offsets-requires
+answer_offsets-requires c κs =
+    let read = c.before.before.before.before in
+    let call = read.before.before.before.read_i64s-b in
+    (omega (arith, at_most call.result.count call.new.1.1.0, call.ensures), search rules)
+
+shape_of-out : tie.Need-shape_of-out
+shape_of-out c = search rules
 
 returns : tie.Need-returns
 returns c = search rules
 
-at-end-requires : tie.Need-at-end-requires
-at-end-requires c κs = search rules
-
-malformed-requires-2 : tie.Need-malformed-requires-2
-malformed-requires-2 c κs = search rules
-
-same-length-2 : tie.Need-same-length-2
-same-length-2 c = search rules
-
-returns-2 : tie.Need-returns-2
-returns-2 c = search rules
-
-array-borrow-prefix-places : tie.Need-array-borrow-prefix-places
-array-borrow-prefix-places c = search rules
-
-slice-aggregate-answer-offsets : tie.Need-slice-aggregate-answer-offsets
-slice-aggregate-answer-offsets c = counts _ _ (search rules)
-
-answer-offsets-requires : tie.Need-answer-offsets-requires
-answer-offsets-requires c κs =
-    let read = c.before.before.before.before in
-    let call = read.before.before.before.read-i64s in
-    (omega (arith, at_most call.result.count call.new.1.1.0, call.ensures), search rules)
-
-same-length-3 : tie.Need-same-length-3
-same-length-3 c = search rules
-
-returns-3 : tie.Need-returns-3
-returns-3 c = search rules
-
-pub answer-places-spec : {M : Type 1} → statement M
-answer-places-spec =
-    tie.close
-    (tie.spec
-    slice-aggregate-read-i64s
-    read-i64s-requires
-    malformed-requires
-    same_length
-    returns
-    at-end-requires
-    malformed-requires-2
-    same-length-2
-    returns-2
-    array-borrow-prefix-places
-    slice-aggregate-answer-offsets
-    answer-offsets-requires
-    same-length-3
-    returns-3)
+pub answer_places_spec : {M : Type 1} → statement M
+answer_places_spec = tie.close (tie.spec slice_bounds-read_i64s-end read_i64s-b-requires malformed-requires shape_of-out-then-not-b returns-then-not-b at_end-requires malformed-requires-then-not-at_end shape_of-out-then-not-at_end returns-then-not-at_end slice_bounds-places-end slice_bounds-answer_offsets-end answer_offsets-requires shape_of-out returns)

@@ -5,14 +5,14 @@ use Rattle.floats.proofs.Splitting.{number_is}
 use Rattle.replay.proofs.float.bits_of.Statement.{statement}
 use Rattle.replay.proofs.float.bits_of.Tie as tie
 
+returns-then-value : tie.Need-returns-then-value
+returns-then-value c = search rules
+
+float_to_bits-result : tie.Need-float_to_bits-result
+float_to_bits-result c = number_is c.before.args.value c.if-value.false
+
 returns : tie.Need-returns
 returns c = search rules
 
-float-to-bits-result : tie.Need-float-to-bits-result
-float-to-bits-result c = number_is c.before.args.value c.if1.false
-
-returns-2 : tie.Need-returns-2
-returns-2 c = search rules
-
-pub bits-of-spec : {M : Type 1} → statement M
-bits-of-spec = tie.close (tie.spec returns float-to-bits-result returns-2)
+pub bits_of_spec : {M : Type 1} → statement M
+bits_of_spec = tie.close (tie.spec returns-then-value float_to_bits-result returns)

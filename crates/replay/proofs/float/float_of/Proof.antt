@@ -10,16 +10,16 @@ use borrow.Author.Tests.{le-ltb}
 use Rattle.replay.proofs.float.float_of.Statement.{statement}
 use Rattle.replay.proofs.float.float_of.Tie as tie
 
+returns-then-bits-gt-INFINITE : tie.Need-returns-then-bits-gt-INFINITE
+returns-then-bits-gt-INFINITE c = search rules
+
+float_from_bits-result : tie.Need-float_from_bits-result
+float_from_bits-result c =
+    let b = c.before.args.bits in
+    subst (λ (t : Bool). T (not t)) (sym (nan_bits_above binary64 b ∙ le-ltb _ _ c.if-bits-gt-INFINITE.false)) tt
+
 returns : tie.Need-returns
 returns c = search rules
 
-float-from-bits-result : tie.Need-float-from-bits-result
-float-from-bits-result c =
-    let b = c.before.args.bits in
-    subst (λ (t : Bool). T (not t)) (sym (nan_bits_above binary64 b ∙ le-ltb _ _ c.if1.false)) tt
-
-returns-2 : tie.Need-returns-2
-returns-2 c = search rules
-
-pub float-of-spec : {M : Type 1} → statement M
-float-of-spec = tie.close (tie.spec returns float-from-bits-result returns-2)
+pub float_of_spec : {M : Type 1} → statement M
+float_of_spec = tie.close (tie.spec returns-then-bits-gt-INFINITE float_from_bits-result returns)

@@ -8,59 +8,44 @@ use borrow.Author.Rules.{rules}
 use Rattle.replay.proofs.input.answer_all.Statement.{statement}
 use Rattle.replay.proofs.input.answer_all.Tie as tie
 
-abbrev invariant-loop : tie.invariant-loop
-invariant-loop buf₀ out₀ held₀ turns₀ buf out held turns = (held.count ≤ length buf) × (length buf ≡ length buf₀) × (length out ≡ length out₀)
+abbrev invariant-loop-turns : tie.invariant-loop-turns
+invariant-loop-turns buf₀ out₀ held₀ turns₀ buf out held turns = (held.count ≤ length buf) × (length buf ≡ length buf₀) × (length out ≡ length out₀)
 
-abbrev decreases-loop : tie.decreases-loop
-decreases-loop buf₀ out₀ held₀ turns₀ buf out held turns = turns
+abbrev decreases-loop-turns : tie.decreases-loop-turns
+decreases-loop-turns buf₀ out₀ held₀ turns₀ buf out held turns = turns
 
-loop-holds : tie.Need-loop-init invariant-loop decreases-loop
-loop-holds c = search rules
+loop-turns-init : tie.Need-loop-turns-init invariant-loop-turns decreases-loop-turns
+loop-turns-init c = search rules
 
-turn-requires : tie.Need-turn-requires invariant-loop decreases-loop
-turn-requires c κs = search rules
+turn-held-requires : tie.Need-turn-held-requires invariant-loop-turns decreases-loop-turns
+turn-held-requires c κs = search rules
 
-same_length : tie.Need-same-length invariant-loop decreases-loop
-same_length c = search rules
+shape_of-buf-then-not-held : tie.Need-shape_of-buf-then-not-held invariant-loop-turns decreases-loop-turns
+shape_of-buf-then-not-held c = search rules
 
-same-length-2 : tie.Need-same-length-2 invariant-loop decreases-loop
-same-length-2 c = search rules
+shape_of-out-then-not-held : tie.Need-shape_of-out-then-not-held invariant-loop-turns decreases-loop-turns
+shape_of-out-then-not-held c = search rules
 
-returns : tie.Need-returns invariant-loop decreases-loop
+returns-then-not-held : tie.Need-returns-then-not-held invariant-loop-turns decreases-loop-turns
+returns-then-not-held c = search rules
+
+overflow_sub-turns : tie.Need-overflow_sub-turns invariant-loop-turns decreases-loop-turns
+overflow_sub-turns c = search rules
+
+loop-turns-smaller : tie.Need-loop-turns-smaller invariant-loop-turns decreases-loop-turns
+loop-turns-smaller c = search rules
+
+loop-turns-preserved : tie.Need-loop-turns-preserved invariant-loop-turns decreases-loop-turns
+loop-turns-preserved c = search rules
+
+shape_of-buf : tie.Need-shape_of-buf invariant-loop-turns decreases-loop-turns
+shape_of-buf c = search rules
+
+shape_of-out : tie.Need-shape_of-out invariant-loop-turns decreases-loop-turns
+shape_of-out c = search rules
+
+returns : tie.Need-returns invariant-loop-turns decreases-loop-turns
 returns c = search rules
 
-sub-turns : tie.Need-overflow-sub-turns invariant-loop decreases-loop
-sub-turns c = search rules
-
-loop-less : tie.Need-loop-smaller invariant-loop decreases-loop
-loop-less c = search rules
-
-loop-again : tie.Need-loop-preserved invariant-loop decreases-loop
-loop-again c = search rules
-
-same-length-3 : tie.Need-same-length-3 invariant-loop decreases-loop
-same-length-3 c = search rules
-
-same-length-4 : tie.Need-same-length-4 invariant-loop decreases-loop
-same-length-4 c = search rules
-
-returns-2 : tie.Need-returns-2 invariant-loop decreases-loop
-returns-2 c = search rules
-
-pub answer-all-spec : {M : Type 1} → statement M
-answer-all-spec =
-    tie.close
-    (tie.spec
-    invariant-loop
-    decreases-loop
-    loop-holds
-    turn-requires
-    same_length
-    same-length-2
-    returns
-    sub-turns
-    loop-less
-    loop-again
-    same-length-3
-    same-length-4
-    returns-2)
+pub answer_all_spec : {M : Type 1} → statement M
+answer_all_spec = tie.close (tie.spec invariant-loop-turns decreases-loop-turns loop-turns-init turn-held-requires shape_of-buf-then-not-held shape_of-out-then-not-held returns-then-not-held overflow_sub-turns loop-turns-smaller loop-turns-preserved shape_of-buf shape_of-out returns)

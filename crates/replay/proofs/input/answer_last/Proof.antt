@@ -5,39 +5,29 @@ use Rattle.replay.proofs.Parts.{counts}
 use Rattle.replay.proofs.input.answer_last.Statement.{statement}
 use Rattle.replay.proofs.input.answer_last.Tie as tie
 
-answer-line-requires : tie.Need-answer-line-requires
-answer-line-requires c κs = search rules
+answer_line-requires : tie.Need-answer_line-requires
+answer_line-requires c κs = search rules
 
-same_length : tie.Need-same-length
-same_length c = search rules
+shape_of-out-then-cut : tie.Need-shape_of-out-then-cut
+shape_of-out-then-cut c = search rules
 
-returns : tie.Need-returns
-returns c = search rules
+returns-then-cut : tie.Need-returns-then-cut
+returns-then-cut c = search rules
 
-slice-aggregate-answer-line : tie.Need-slice-aggregate-answer-line
-slice-aggregate-answer-line c = counts _ _ (search rules)
+slice_bounds-answer_line-end : tie.Need-slice_bounds-answer_line-end
+slice_bounds-answer_line-end c = counts _ _ (search rules)
 
-answer-line-requires-2 : tie.Need-answer-line-requires-2
-answer-line-requires-2 c κs = search rules
+answer_line-requires-then-count-gt0 : tie.Need-answer_line-requires-then-count-gt0
+answer_line-requires-then-count-gt0 c κs = search rules
 
-same-length-2 : tie.Need-same-length-2
-same-length-2 c = search rules
+shape_of-out : tie.Need-shape_of-out
+shape_of-out c = search rules
 
-returns-2 : tie.Need-returns-2
-returns-2 c = search rules
+returns-then-count-gt0 : tie.Need-returns-then-count-gt0
+returns-then-count-gt0 c = search rules
 
-returns-3 : tie.Need-returns-3
-returns-3 c = search rules
+returns-else-count-gt0 : tie.Need-returns-else-count-gt0
+returns-else-count-gt0 c = search rules
 
-pub answer-last-spec : {M : Type 1} → statement M
-answer-last-spec =
-    tie.close
-    (tie.spec
-    answer-line-requires
-    same_length
-    returns
-    slice-aggregate-answer-line
-    answer-line-requires-2
-    same-length-2
-    returns-2
-    returns-3)
+pub answer_last_spec : {M : Type 1} → statement M
+answer_last_spec = tie.close (tie.spec answer_line-requires shape_of-out-then-cut returns-then-cut slice_bounds-answer_line-end answer_line-requires-then-count-gt0 shape_of-out returns-then-count-gt0 returns-else-count-gt0)

@@ -5,31 +5,23 @@ use Rattle.replay.proofs.Parts.{counts}
 use Rattle.replay.proofs.input.answer_line.Statement.{statement}
 use Rattle.replay.proofs.input.answer_line.Tie as tie
 
-answer-of-requires : tie.Need-answer-of-requires
-answer-of-requires c κs = search rules
+answer_of-n-requires : tie.Need-answer_of-n-requires
+answer_of-n-requires c κs = search rules
 
-slice-reshare-prefix-write-answer : tie.Need-slice-reshare-prefix-write-answer
-slice-reshare-prefix-write-answer c = search rules
+slice_bounds-write_answer-end : tie.Need-slice_bounds-write_answer-end
+slice_bounds-write_answer-end c = search rules
 
-slice-aggregate-write-answer : tie.Need-slice-aggregate-write-answer
-slice-aggregate-write-answer c = counts _ _ (search rules)
+slice_bounds-write_answer-end-2 : tie.Need-slice_bounds-write_answer-end-2
+slice_bounds-write_answer-end-2 c = counts _ _ (search rules)
 
-write-answer-requires : tie.Need-write-answer-requires
-write-answer-requires c κs = search rules
+write_answer-requires : tie.Need-write_answer-requires
+write_answer-requires c κs = search rules
 
-same_length : tie.Need-same-length
-same_length c = search rules
+shape_of-out : tie.Need-shape_of-out
+shape_of-out c = search rules
 
 returns : tie.Need-returns
 returns c = search rules
 
-pub answer-line-spec : {M : Type 1} → statement M
-answer-line-spec =
-    tie.close
-    (tie.spec
-    answer-of-requires
-    slice-reshare-prefix-write-answer
-    slice-aggregate-write-answer
-    write-answer-requires
-    same_length
-    returns)
+pub answer_line_spec : {M : Type 1} → statement M
+answer_line_spec = tie.close (tie.spec answer_of-n-requires slice_bounds-write_answer-end slice_bounds-write_answer-end-2 write_answer-requires shape_of-out returns)

@@ -7,75 +7,56 @@ use borrow.Author.Rules.{rules}
 use Rattle.replay.proofs.input.answer_lines.Statement.{statement}
 use Rattle.replay.proofs.input.answer_lines.Tie as tie
 
-abbrev invariant-loop : tie.invariant-loop
-invariant-loop chunk cut-before out₀ cut₀ from₀ out cut from = (from ≤ length chunk) × (length out ≡ length out₀)
+abbrev invariant-loop-from : tie.invariant-loop-from
+invariant-loop-from chunk cut-before out₀ cut₀ from₀ out cut from = (from ≤ length chunk) × (length out ≡ length out₀)
 
-abbrev decreases-loop : tie.decreases-loop
-decreases-loop chunk cut-before out₀ cut₀ from₀ out cut from = length chunk - from
+abbrev decreases-loop-from : tie.decreases-loop-from
+decreases-loop-from chunk cut-before out₀ cut₀ from₀ out cut from = length chunk - from
 
-loop-holds : tie.Need-loop-init invariant-loop decreases-loop
-loop-holds c = search rules
+loop-from-init : tie.Need-loop-from-init invariant-loop-from decreases-loop-from
+loop-from-init c = search rules
 
-find-requires : tie.Need-find-requires invariant-loop decreases-loop
-find-requires c κs = search rules
+find-end-requires : tie.Need-find-end-requires invariant-loop-from decreases-loop-from
+find-end-requires c κs = search rules
 
-same_length : tie.Need-same-length invariant-loop decreases-loop
-same_length c = search rules
+shape_of-out-then-end-chunk : tie.Need-shape_of-out-then-end-chunk invariant-loop-from decreases-loop-from
+shape_of-out-then-end-chunk c = search rules
 
-returns : tie.Need-returns invariant-loop decreases-loop
+returns-then-end-chunk : tie.Need-returns-then-end-chunk invariant-loop-from decreases-loop-from
+returns-then-end-chunk c = search rules
+
+slice_bounds-answer_line-count : tie.Need-slice_bounds-answer_line-count invariant-loop-from decreases-loop-from
+slice_bounds-answer_line-count c = search rules
+
+slice_bounds-answer_line-start : tie.Need-slice_bounds-answer_line-start invariant-loop-from decreases-loop-from
+slice_bounds-answer_line-start c = search rules
+
+slice_bounds-answer_line-end : tie.Need-slice_bounds-answer_line-end invariant-loop-from decreases-loop-from
+slice_bounds-answer_line-end c = search rules
+
+answer_line-requires : tie.Need-answer_line-requires invariant-loop-from decreases-loop-from
+answer_line-requires c κs = search rules
+
+shape_of-out-then-not-answer_line : tie.Need-shape_of-out-then-not-answer_line invariant-loop-from decreases-loop-from
+shape_of-out-then-not-answer_line c = search rules
+
+returns-then-not-answer_line : tie.Need-returns-then-not-answer_line invariant-loop-from decreases-loop-from
+returns-then-not-answer_line c = search rules
+
+overflow_add-from : tie.Need-overflow_add-from invariant-loop-from decreases-loop-from
+overflow_add-from c = search rules
+
+loop-from-smaller : tie.Need-loop-from-smaller invariant-loop-from decreases-loop-from
+loop-from-smaller c = search rules
+
+loop-from-preserved : tie.Need-loop-from-preserved invariant-loop-from decreases-loop-from
+loop-from-preserved c = search rules
+
+shape_of-out : tie.Need-shape_of-out invariant-loop-from decreases-loop-from
+shape_of-out c = search rules
+
+returns : tie.Need-returns invariant-loop-from decreases-loop-from
 returns c = search rules
 
-sub-answer-line : tie.Need-overflow-sub-answer-line invariant-loop decreases-loop
-sub-answer-line c = search rules
-
-part-answer-line-start : tie.Need-slice-bounds-answer-line-start invariant-loop decreases-loop
-part-answer-line-start c = search rules
-
-part-answer-line-end : tie.Need-slice-bounds-answer-line-end invariant-loop decreases-loop
-part-answer-line-end c = search rules
-
-answer-line-requires : tie.Need-answer-line-requires invariant-loop decreases-loop
-answer-line-requires c κs = search rules
-
-same-length-2 : tie.Need-same-length-2 invariant-loop decreases-loop
-same-length-2 c = search rules
-
-returns-2 : tie.Need-returns-2 invariant-loop decreases-loop
-returns-2 c = search rules
-
-add-from : tie.Need-overflow-add-from invariant-loop decreases-loop
-add-from c = search rules
-
-loop-less : tie.Need-loop-smaller invariant-loop decreases-loop
-loop-less c = search rules
-
-loop-again : tie.Need-loop-preserved invariant-loop decreases-loop
-loop-again c = search rules
-
-same-length-3 : tie.Need-same-length-3 invariant-loop decreases-loop
-same-length-3 c = search rules
-
-returns-3 : tie.Need-returns-3 invariant-loop decreases-loop
-returns-3 c = search rules
-
-pub answer-lines-spec : {M : Type 1} → statement M
-answer-lines-spec =
-    tie.close
-    (tie.spec
-    invariant-loop
-    decreases-loop
-    loop-holds
-    find-requires
-    same_length
-    returns
-    sub-answer-line
-    part-answer-line-start
-    part-answer-line-end
-    answer-line-requires
-    same-length-2
-    returns-2
-    add-from
-    loop-less
-    loop-again
-    same-length-3
-    returns-3)
+pub answer_lines_spec : {M : Type 1} → statement M
+answer_lines_spec = tie.close (tie.spec invariant-loop-from decreases-loop-from loop-from-init find-end-requires shape_of-out-then-end-chunk returns-then-end-chunk slice_bounds-answer_line-count slice_bounds-answer_line-start slice_bounds-answer_line-end answer_line-requires shape_of-out-then-not-answer_line returns-then-not-answer_line overflow_add-from loop-from-smaller loop-from-preserved shape_of-out returns)

@@ -6,73 +6,55 @@ use Rattle.replay.proofs.Parts.{counts, at_most}
 use Rattle.replay.proofs.job.answer_write.Statement.{statement}
 use Rattle.replay.proofs.job.answer_write.Tie as tie
 
-read-range-requires : tie.Need-read-range-requires
-read-range-requires c κs = search rules
+read_range-requires : tie.Need-read_range-requires
+read_range-requires c κs = search rules
 
-enum-known-r : tie.Need-enum-known-r
-enum-known-r c = search rules
+enum_known-r : tie.Need-enum_known-r
+enum_known-r c = search rules
 
-enum_told : tie.Need-enum-told
-enum_told c = search rules
+enum_told-1 : tie.Need-enum_told-1
+enum_told-1 c = search rules
 
 malformed-requires : tie.Need-malformed-requires
 malformed-requires c κs = search rules
 
-same_length : tie.Need-same-length
-same_length c = search rules
+shape_of-out-in_default : tie.Need-shape_of-out-in_default
+shape_of-out-in_default c = search rules
+
+returns-in_default : tie.Need-returns-in_default
+returns-in_default c = search rules
+
+slice_bounds-read_last_bytes-end : tie.Need-slice_bounds-read_last_bytes-end
+slice_bounds-read_last_bytes-end c = search rules
+
+read_last_bytes-b-requires : tie.Need-read_last_bytes-b-requires
+read_last_bytes-b-requires c κs = search rules
+
+malformed-requires-then-not-b : tie.Need-malformed-requires-then-not-b
+malformed-requires-then-not-b c κs = search rules
+
+shape_of-out-then-not-b : tie.Need-shape_of-out-then-not-b
+shape_of-out-then-not-b c = search rules
+
+returns-then-not-b : tie.Need-returns-then-not-b
+returns-then-not-b c = search rules
+
+slice_bounds-bytes-end : tie.Need-slice_bounds-bytes-end
+slice_bounds-bytes-end c = search rules
+
+slice_bounds-write_job-end : tie.Need-slice_bounds-write_job-end
+slice_bounds-write_job-end c = counts _ _ (search rules)
+
+write_job-requires : tie.Need-write_job-requires
+write_job-requires c κs =
+    let call = c.before.before.before.before.before.read_last_bytes-b in
+    (omega (arith, at_most call.result.count call.new.1.1.0, call.ensures), search rules)
+
+shape_of-out : tie.Need-shape_of-out
+shape_of-out c = search rules
 
 returns : tie.Need-returns
 returns c = search rules
 
-slice-aggregate-read-last-bytes : tie.Need-slice-aggregate-read-last-bytes
-slice-aggregate-read-last-bytes c = search rules
-
-read-last-bytes-requires : tie.Need-read-last-bytes-requires
-read-last-bytes-requires c κs = search rules
-
-malformed-requires-2 : tie.Need-malformed-requires-2
-malformed-requires-2 c κs = search rules
-
-same-length-2 : tie.Need-same-length-2
-same-length-2 c = search rules
-
-returns-2 : tie.Need-returns-2
-returns-2 c = search rules
-
-array-borrow-prefix-bytes : tie.Need-array-borrow-prefix-bytes
-array-borrow-prefix-bytes c = search rules
-
-slice-aggregate-write-job : tie.Need-slice-aggregate-write-job
-slice-aggregate-write-job c = counts _ _ (search rules)
-
-write-job-requires : tie.Need-write-job-requires
-write-job-requires c κs =
-    let call = c.before.before.before.before.before.read-last-bytes in
-    (omega (arith, at_most call.result.count call.new.1.1.0, call.ensures), search rules)
-
-same-length-3 : tie.Need-same-length-3
-same-length-3 c = search rules
-
-returns-3 : tie.Need-returns-3
-returns-3 c = search rules
-
-pub answer-write-spec : {M : Type 1} → statement M
-answer-write-spec =
-    tie.close
-    (tie.spec
-    read-range-requires
-    enum-known-r
-    enum_told
-    malformed-requires
-    same_length
-    returns
-    slice-aggregate-read-last-bytes
-    read-last-bytes-requires
-    malformed-requires-2
-    same-length-2
-    returns-2
-    array-borrow-prefix-bytes
-    slice-aggregate-write-job
-    write-job-requires
-    same-length-3
-    returns-3)
+pub answer_write_spec : {M : Type 1} → statement M
+answer_write_spec = tie.close (tie.spec read_range-requires enum_known-r enum_told-1 malformed-requires shape_of-out-in_default returns-in_default slice_bounds-read_last_bytes-end read_last_bytes-b-requires malformed-requires-then-not-b shape_of-out-then-not-b returns-then-not-b slice_bounds-bytes-end slice_bounds-write_job-end write_job-requires shape_of-out returns)

@@ -5,71 +5,53 @@ use Rattle.replay.proofs.Parts.{counts}
 use Rattle.replay.proofs.many.answer_lists.Statement.{statement}
 use Rattle.replay.proofs.many.answer_lists.Tie as tie
 
-slice-aggregate-read-lists : tie.Need-slice-aggregate-read-lists
-slice-aggregate-read-lists c = search rules
+slice_bounds-read_lists-end : tie.Need-slice_bounds-read_lists-end
+slice_bounds-read_lists-end c = search rules
 
-slice-aggregate-read-lists-2 : tie.Need-slice-aggregate-read-lists-2
-slice-aggregate-read-lists-2 c = search rules
+slice_bounds-read_lists-end-2 : tie.Need-slice_bounds-read_lists-end-2
+slice_bounds-read_lists-end-2 c = search rules
 
-slice-aggregate-read-lists-3 : tie.Need-slice-aggregate-read-lists-3
-slice-aggregate-read-lists-3 c = search rules
+slice_bounds-read_lists-end-3 : tie.Need-slice_bounds-read_lists-end-3
+slice_bounds-read_lists-end-3 c = search rules
 
-read-lists-requires : tie.Need-read-lists-requires
-read-lists-requires c κs = search rules
+read_lists-n-requires : tie.Need-read_lists-n-requires
+read_lists-n-requires c κs = search rules
 
 malformed-requires : tie.Need-malformed-requires
 malformed-requires c κs = search rules
 
-same_length : tie.Need-same-length
-same_length c = search rules
+shape_of-out-then-not-n : tie.Need-shape_of-out-then-not-n
+shape_of-out-then-not-n c = search rules
+
+returns-then-not-n : tie.Need-returns-then-not-n
+returns-then-not-n c = search rules
+
+slice_bounds-starts-end : tie.Need-slice_bounds-starts-end
+slice_bounds-starts-end c = search rules
+
+slice_bounds-answer_buffers-end : tie.Need-slice_bounds-answer_buffers-end
+slice_bounds-answer_buffers-end c = counts _ _ (search rules)
+
+slice_bounds-ends-end : tie.Need-slice_bounds-ends-end
+slice_bounds-ends-end c = search rules
+
+slice_bounds-answer_buffers-end-2 : tie.Need-slice_bounds-answer_buffers-end-2
+slice_bounds-answer_buffers-end-2 c = counts _ _ (search rules)
+
+slice_bounds-values-end : tie.Need-slice_bounds-values-end
+slice_bounds-values-end c = search rules
+
+slice_bounds-answer_buffers-end-3 : tie.Need-slice_bounds-answer_buffers-end-3
+slice_bounds-answer_buffers-end-3 c = counts _ _ (search rules)
+
+answer_buffers-requires : tie.Need-answer_buffers-requires
+answer_buffers-requires c κs = search rules
+
+shape_of-out : tie.Need-shape_of-out
+shape_of-out c = search rules
 
 returns : tie.Need-returns
 returns c = search rules
 
-array-share-prefix-starts : tie.Need-array-share-prefix-starts
-array-share-prefix-starts c = search rules
-
-slice-aggregate-answer-buffers : tie.Need-slice-aggregate-answer-buffers
-slice-aggregate-answer-buffers c = counts _ _ (search rules)
-
-array-share-prefix-ends : tie.Need-array-share-prefix-ends
-array-share-prefix-ends c = search rules
-
-slice-aggregate-answer-buffers-2 : tie.Need-slice-aggregate-answer-buffers-2
-slice-aggregate-answer-buffers-2 c = counts _ _ (search rules)
-
-array-share-prefix-values : tie.Need-array-share-prefix-values
-array-share-prefix-values c = search rules
-
-slice-aggregate-answer-buffers-3 : tie.Need-slice-aggregate-answer-buffers-3
-slice-aggregate-answer-buffers-3 c = counts _ _ (search rules)
-
-answer-buffers-requires : tie.Need-answer-buffers-requires
-answer-buffers-requires c κs = search rules
-
-same-length-2 : tie.Need-same-length-2
-same-length-2 c = search rules
-
-returns-2 : tie.Need-returns-2
-returns-2 c = search rules
-
-pub answer-lists-spec : {M : Type 1} → statement M
-answer-lists-spec =
-    tie.close
-    (tie.spec
-    slice-aggregate-read-lists
-    slice-aggregate-read-lists-2
-    slice-aggregate-read-lists-3
-    read-lists-requires
-    malformed-requires
-    same_length
-    returns
-    array-share-prefix-starts
-    slice-aggregate-answer-buffers
-    array-share-prefix-ends
-    slice-aggregate-answer-buffers-2
-    array-share-prefix-values
-    slice-aggregate-answer-buffers-3
-    answer-buffers-requires
-    same-length-2
-    returns-2)
+pub answer_lists_spec : {M : Type 1} → statement M
+answer_lists_spec = tie.close (tie.spec slice_bounds-read_lists-end slice_bounds-read_lists-end-2 slice_bounds-read_lists-end-3 read_lists-n-requires malformed-requires shape_of-out-then-not-n returns-then-not-n slice_bounds-starts-end slice_bounds-answer_buffers-end slice_bounds-ends-end slice_bounds-answer_buffers-end-2 slice_bounds-values-end slice_bounds-answer_buffers-end-3 answer_buffers-requires shape_of-out returns)

@@ -6,77 +6,59 @@ use Rattle.replay.proofs.Parts.{counts, at_most}
 use Rattle.replay.proofs.moving.answer_buffers.Statement.{statement}
 use Rattle.replay.proofs.moving.answer_buffers.Tie as tie
 
-slice-aggregate-read-buffers : tie.Need-slice-aggregate-read-buffers
-slice-aggregate-read-buffers c = search rules
+slice_bounds-read_buffers-end : tie.Need-slice_bounds-read_buffers-end
+slice_bounds-read_buffers-end c = search rules
 
-slice-aggregate-read-buffers-2 : tie.Need-slice-aggregate-read-buffers-2
-slice-aggregate-read-buffers-2 c = search rules
+slice_bounds-read_buffers-end-2 : tie.Need-slice_bounds-read_buffers-end-2
+slice_bounds-read_buffers-end-2 c = search rules
 
-slice-aggregate-read-buffers-3 : tie.Need-slice-aggregate-read-buffers-3
-slice-aggregate-read-buffers-3 c = search rules
+slice_bounds-read_buffers-end-3 : tie.Need-slice_bounds-read_buffers-end-3
+slice_bounds-read_buffers-end-3 c = search rules
 
-read-buffers-requires : tie.Need-read-buffers-requires
-read-buffers-requires c κs = search rules
+read_buffers-n-requires : tie.Need-read_buffers-n-requires
+read_buffers-n-requires c κs = search rules
 
 malformed-requires : tie.Need-malformed-requires
 malformed-requires c κs = search rules
 
-same_length : tie.Need-same-length
-same_length c = search rules
+shape_of-out-then-not-n : tie.Need-shape_of-out-then-not-n
+shape_of-out-then-not-n c = search rules
 
-returns : tie.Need-returns
-returns c = search rules
+returns-then-not-n : tie.Need-returns-then-not-n
+returns-then-not-n c = search rules
 
-array-borrow-prefix-ms : tie.Need-array-borrow-prefix-ms
-array-borrow-prefix-ms c = search rules
+slice_bounds-ms-end : tie.Need-slice_bounds-ms-end
+slice_bounds-ms-end c = search rules
 
-slice-aggregate-reduce-windows : tie.Need-slice-aggregate-reduce-windows
-slice-aggregate-reduce-windows c = counts _ _ (search rules)
+slice_bounds-reduce_windows-end : tie.Need-slice_bounds-reduce_windows-end
+slice_bounds-reduce_windows-end c = counts _ _ (search rules)
 
-array-borrow-prefix-es : tie.Need-array-borrow-prefix-es
-array-borrow-prefix-es c = search rules
+slice_bounds-es-end : tie.Need-slice_bounds-es-end
+slice_bounds-es-end c = search rules
 
-slice-aggregate-reduce-windows-2 : tie.Need-slice-aggregate-reduce-windows-2
-slice-aggregate-reduce-windows-2 c = counts _ _ (search rules)
+slice_bounds-reduce_windows-end-2 : tie.Need-slice_bounds-reduce_windows-end-2
+slice_bounds-reduce_windows-end-2 c = counts _ _ (search rules)
 
-array-borrow-prefix-bads : tie.Need-array-borrow-prefix-bads
-array-borrow-prefix-bads c = search rules
+slice_bounds-bads-end : tie.Need-slice_bounds-bads-end
+slice_bounds-bads-end c = search rules
 
-slice-aggregate-reduce-windows-3 : tie.Need-slice-aggregate-reduce-windows-3
-slice-aggregate-reduce-windows-3 c = counts _ _ (search rules)
+slice_bounds-reduce_windows-end-3 : tie.Need-slice_bounds-reduce_windows-end-3
+slice_bounds-reduce_windows-end-3 c = counts _ _ (search rules)
 
-reduce-windows-requires : tie.Need-reduce-windows-requires
-reduce-windows-requires c κs =
-    let call = c.before.before.before.before.before.before.before.before.before.read-buffers in (
+reduce_windows-requires : tie.Need-reduce_windows-requires
+reduce_windows-requires c κs =
+    let call = c.before.before.before.before.before.before.before.before.before.read_buffers-n in (
       omega (arith, at_most call.result.ms call.new.1.1.0, call.ensures.0),
       omega (arith, at_most call.result.es call.new.1.1.1.0, call.ensures.1),
       omega (arith, at_most call.result.bads call.new.1.1.1.1.0, call.ensures.2),
       search rules,
     )
 
-same-length-2 : tie.Need-same-length-2
-same-length-2 c = search rules
+shape_of-out : tie.Need-shape_of-out
+shape_of-out c = search rules
 
-returns-2 : tie.Need-returns-2
-returns-2 c = search rules
+returns : tie.Need-returns
+returns c = search rules
 
-pub answer-buffers-spec : {M : Type 1} → statement M
-answer-buffers-spec =
-    tie.close
-    (tie.spec
-    slice-aggregate-read-buffers
-    slice-aggregate-read-buffers-2
-    slice-aggregate-read-buffers-3
-    read-buffers-requires
-    malformed-requires
-    same_length
-    returns
-    array-borrow-prefix-ms
-    slice-aggregate-reduce-windows
-    array-borrow-prefix-es
-    slice-aggregate-reduce-windows-2
-    array-borrow-prefix-bads
-    slice-aggregate-reduce-windows-3
-    reduce-windows-requires
-    same-length-2
-    returns-2)
+pub answer_buffers_spec : {M : Type 1} → statement M
+answer_buffers_spec = tie.close (tie.spec slice_bounds-read_buffers-end slice_bounds-read_buffers-end-2 slice_bounds-read_buffers-end-3 read_buffers-n-requires malformed-requires shape_of-out-then-not-n returns-then-not-n slice_bounds-ms-end slice_bounds-reduce_windows-end slice_bounds-es-end slice_bounds-reduce_windows-end-2 slice_bounds-bads-end slice_bounds-reduce_windows-end-3 reduce_windows-requires shape_of-out returns)

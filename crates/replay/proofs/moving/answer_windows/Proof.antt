@@ -5,71 +5,53 @@ use Rattle.replay.proofs.Parts.{counts}
 use Rattle.replay.proofs.moving.answer_windows.Statement.{statement}
 use Rattle.replay.proofs.moving.answer_windows.Tie as tie
 
-slice-aggregate-read-floats : tie.Need-slice-aggregate-read-floats
-slice-aggregate-read-floats c = search rules
+slice_bounds-read_floats-end : tie.Need-slice_bounds-read_floats-end
+slice_bounds-read_floats-end c = search rules
 
-read-floats-requires : tie.Need-read-floats-requires
-read-floats-requires c κs = search rules
+read_floats-v-requires : tie.Need-read_floats-v-requires
+read_floats-v-requires c κs = search rules
 
 malformed-requires : tie.Need-malformed-requires
 malformed-requires c κs = search rules
 
-same_length : tie.Need-same-length
-same_length c = search rules
+shape_of-out-then-not-v : tie.Need-shape_of-out-then-not-v
+shape_of-out-then-not-v c = search rules
+
+returns-then-not-v : tie.Need-returns-then-not-v
+returns-then-not-v c = search rules
+
+read_u64-requires : tie.Need-read_u64-requires
+read_u64-requires c κs = search rules
+
+enum_known-w : tie.Need-enum_known-w
+enum_known-w c = search rules
+
+enum_told-1 : tie.Need-enum_told-1
+enum_told-1 c = search rules
+
+malformed-requires-in_default : tie.Need-malformed-requires-in_default
+malformed-requires-in_default c κs = search rules
+
+shape_of-out-in_default : tie.Need-shape_of-out-in_default
+shape_of-out-in_default c = search rules
+
+returns-in_default : tie.Need-returns-in_default
+returns-in_default c = search rules
+
+slice_bounds-values-end : tie.Need-slice_bounds-values-end
+slice_bounds-values-end c = search rules
+
+slice_bounds-answer_buffers-end : tie.Need-slice_bounds-answer_buffers-end
+slice_bounds-answer_buffers-end c = counts _ _ (search rules)
+
+answer_buffers-requires : tie.Need-answer_buffers-requires
+answer_buffers-requires c κs = search rules
+
+shape_of-out : tie.Need-shape_of-out
+shape_of-out c = search rules
 
 returns : tie.Need-returns
 returns c = search rules
 
-read-u64-requires : tie.Need-read-u64-requires
-read-u64-requires c κs = search rules
-
-enum-known-w : tie.Need-enum-known-w
-enum-known-w c = search rules
-
-enum_told : tie.Need-enum-told
-enum_told c = search rules
-
-malformed-requires-2 : tie.Need-malformed-requires-2
-malformed-requires-2 c κs = search rules
-
-same-length-2 : tie.Need-same-length-2
-same-length-2 c = search rules
-
-returns-2 : tie.Need-returns-2
-returns-2 c = search rules
-
-array-share-prefix-values : tie.Need-array-share-prefix-values
-array-share-prefix-values c = search rules
-
-slice-aggregate-answer-buffers : tie.Need-slice-aggregate-answer-buffers
-slice-aggregate-answer-buffers c = counts _ _ (search rules)
-
-answer-buffers-requires : tie.Need-answer-buffers-requires
-answer-buffers-requires c κs = search rules
-
-same-length-3 : tie.Need-same-length-3
-same-length-3 c = search rules
-
-returns-3 : tie.Need-returns-3
-returns-3 c = search rules
-
-pub answer-windows-spec : {M : Type 1} → statement M
-answer-windows-spec =
-    tie.close
-    (tie.spec
-    slice-aggregate-read-floats
-    read-floats-requires
-    malformed-requires
-    same_length
-    returns
-    read-u64-requires
-    enum-known-w
-    enum_told
-    malformed-requires-2
-    same-length-2
-    returns-2
-    array-share-prefix-values
-    slice-aggregate-answer-buffers
-    answer-buffers-requires
-    same-length-3
-    returns-3)
+pub answer_windows_spec : {M : Type 1} → statement M
+answer_windows_spec = tie.close (tie.spec slice_bounds-read_floats-end read_floats-v-requires malformed-requires shape_of-out-then-not-v returns-then-not-v read_u64-requires enum_known-w enum_told-1 malformed-requires-in_default shape_of-out-in_default returns-in_default slice_bounds-values-end slice_bounds-answer_buffers-end answer_buffers-requires shape_of-out returns)

@@ -5,67 +5,50 @@ use Rattle.replay.proofs.Parts.{counts}
 use Rattle.replay.proofs.product.read_over_range.Statement.{statement}
 use Rattle.replay.proofs.product.read_over_range.Tie as tie
 
-read-range-requires : tie.Need-read-range-requires
-read-range-requires c κs = search rules
+read_range-requires : tie.Need-read_range-requires
+read_range-requires c κs = search rules
 
-enum-known-r : tie.Need-enum-known-r
-enum-known-r c = search rules
+enum_known-r : tie.Need-enum_known-r
+enum_known-r c = search rules
 
-enum_told : tie.Need-enum-told
-enum_told c = search rules
+enum_told-1 : tie.Need-enum_told-1
+enum_told-1 c = search rules
+
+returns-in_default : tie.Need-returns-in_default
+returns-in_default c = search rules
+
+slice_bounds-read_floats-end : tie.Need-slice_bounds-read_floats-end
+slice_bounds-read_floats-end c = search rules
+
+read_floats-v-requires : tie.Need-read_floats-v-requires
+read_floats-v-requires c κs = search rules
+
+returns-then-not-v : tie.Need-returns-then-not-v
+returns-then-not-v c = search rules
+
+read_call-requires : tie.Need-read_call-requires
+read_call-requires c κs = search rules
+
+enum_known-call : tie.Need-enum_known-call
+enum_known-call c = search rules
+
+enum_told-in_default-read_call : tie.Need-enum_told-in_default-read_call
+enum_told-in_default-read_call c = search rules
+
+returns-in_default-read_call : tie.Need-returns-in_default-read_call
+returns-in_default-read_call c = search rules
+
+slice_bounds-values-end : tie.Need-slice_bounds-values-end
+slice_bounds-values-end c = search rules
+
+slice_bounds-over_range-end : tie.Need-slice_bounds-over_range-end
+slice_bounds-over_range-end c = counts _ _ (search rules)
+
+over_range-requires : tie.Need-over_range-requires
+over_range-requires c κs = search rules
 
 returns : tie.Need-returns
 returns c = search rules
 
-slice-aggregate-read-floats : tie.Need-slice-aggregate-read-floats
-slice-aggregate-read-floats c = search rules
-
-read-floats-requires : tie.Need-read-floats-requires
-read-floats-requires c κs = search rules
-
-returns-2 : tie.Need-returns-2
-returns-2 c = search rules
-
-read-call-requires : tie.Need-read-call-requires
-read-call-requires c κs = search rules
-
-enum-known-call : tie.Need-enum-known-call
-enum-known-call c = search rules
-
-enum-told-2 : tie.Need-enum-told-2
-enum-told-2 c = search rules
-
-returns-3 : tie.Need-returns-3
-returns-3 c = search rules
-
-array-share-prefix-values : tie.Need-array-share-prefix-values
-array-share-prefix-values c = search rules
-
-slice-aggregate-over-range : tie.Need-slice-aggregate-over-range
-slice-aggregate-over-range c = counts _ _ (search rules)
-
-over-range-requires : tie.Need-over-range-requires
-over-range-requires c κs = search rules
-
-returns-4 : tie.Need-returns-4
-returns-4 c = search rules
-
-pub read-over-range-spec : {M : Type 1} → statement M
-read-over-range-spec =
-    tie.close
-    (tie.spec
-    read-range-requires
-    enum-known-r
-    enum_told
-    returns
-    slice-aggregate-read-floats
-    read-floats-requires
-    returns-2
-    read-call-requires
-    enum-known-call
-    enum-told-2
-    returns-3
-    array-share-prefix-values
-    slice-aggregate-over-range
-    over-range-requires
-    returns-4)
+pub read_over_range_spec : {M : Type 1} → statement M
+read_over_range_spec = tie.close (tie.spec read_range-requires enum_known-r enum_told-1 returns-in_default slice_bounds-read_floats-end read_floats-v-requires returns-then-not-v read_call-requires enum_known-call enum_told-in_default-read_call returns-in_default-read_call slice_bounds-values-end slice_bounds-over_range-end over_range-requires returns)

@@ -5,44 +5,43 @@ use borrow.Author.Tests.{lt-ltb, le-ltb, le-leb, lt-leb}
 use Rattle.text.proofs.number.digit_of.Statement.{statement}
 use Rattle.text.proofs.number.digit_of.Tie as tie
 
+returns-then-byte-lt48 : tie.Need-returns-then-byte-lt48
+returns-then-byte-lt48 c = simp (lt-ltb _ _ c.if-byte-lt48.true)
+
+overflow_cast-result : tie.Need-overflow_cast-result
+overflow_cast-result c = search rules
+
+returns-then-byte-le57 : tie.Need-returns-then-byte-le57
+returns-then-byte-le57 c = simp (le-ltb _ _ c.before.if-byte-lt48.false, le-leb _ _ c.if-byte-le57.true)
+
+returns-then-byte-lt97 : tie.Need-returns-then-byte-lt97
+returns-then-byte-lt97 c = simp (le-ltb _ _ c.before.before.if-byte-lt48.false, lt-leb _ _ c.before.if-byte-le57.false, lt-ltb _ _ c.if-byte-lt97.true)
+
+overflow_sub-result-then-byte-le102 : tie.Need-overflow_sub-result-then-byte-le102
+overflow_sub-result-then-byte-le102 c = search rules
+
+overflow_cast-result-then-byte-le102 : tie.Need-overflow_cast-result-then-byte-le102
+overflow_cast-result-then-byte-le102 c = search rules
+
+returns-then-byte-le102 : tie.Need-returns-then-byte-le102
+returns-then-byte-le102 c =
+    let no-decimal = c.before.before in
+    simp (
+      le-ltb _ _ no-decimal.before.if-byte-lt48.false,
+      lt-leb _ _ no-decimal.if-byte-le57.false,
+      le-ltb _ _ c.before.if-byte-lt97.false,
+      le-leb _ _ c.if-byte-le102.true,
+    )
+
 returns : tie.Need-returns
-returns c = simp (lt-ltb _ _ c.if1.true)
-
-cast-t4 : tie.Need-overflow-cast-t4
-cast-t4 c = search rules
-
-returns-2 : tie.Need-returns-2
-returns-2 c = simp (le-ltb _ _ c.before.if1.false, le-leb _ _ c.if2.true)
-
-returns-3 : tie.Need-returns-3
-returns-3 c = simp (le-ltb _ _ c.before.before.if1.false, lt-leb _ _ c.before.if2.false, lt-ltb _ _ c.if3.true)
-
-sub-t5 : tie.Need-overflow-sub-t5
-sub-t5 c = search rules
-
-cast-t6 : tie.Need-overflow-cast-t6
-cast-t6 c = search rules
-
-returns-4 : tie.Need-returns-4
-returns-4 c =
+returns c =
     let no-decimal = c.before.before in
     simp (
-      le-ltb _ _ no-decimal.before.if1.false,
-      lt-leb _ _ no-decimal.if2.false,
-      le-ltb _ _ c.before.if3.false,
-      le-leb _ _ c.if4.true,
+      le-ltb _ _ no-decimal.before.if-byte-lt48.false,
+      lt-leb _ _ no-decimal.if-byte-le57.false,
+      le-ltb _ _ c.before.if-byte-lt97.false,
+      lt-leb _ _ c.if-byte-le102.false,
     )
 
-returns-5 : tie.Need-returns-5
-returns-5 c =
-    let no-decimal = c.before.before in
-    simp (
-      le-ltb _ _ no-decimal.before.if1.false,
-      lt-leb _ _ no-decimal.if2.false,
-      le-ltb _ _ c.before.if3.false,
-      lt-leb _ _ c.if4.false,
-    )
-
-pub digit-of-spec : {M : Type 1} → statement M
-digit-of-spec =
-    tie.close (tie.spec returns cast-t4 returns-2 returns-3 sub-t5 cast-t6 returns-4 returns-5)
+pub digit_of_spec : {M : Type 1} → statement M
+digit_of_spec = tie.close (tie.spec returns-then-byte-lt48 overflow_cast-result returns-then-byte-le57 returns-then-byte-lt97 overflow_sub-result-then-byte-le102 overflow_cast-result-then-byte-le102 returns-then-byte-le102 returns)

@@ -11,68 +11,68 @@ use Rattle.text.specs.Numbers.{read_on, digit_step}
 use Rattle.text.specs.declared.number.ParsedU64.TheVariants.{Is}
 use Rattle.text.proofs.number.digits.Tie as tie
 
-abbrev invariant-loop : tie.invariant-loop
-invariant-loop base word n₀ i₀ n i =
+abbrev invariant-loop-i : tie.invariant-loop-i
+invariant-loop-i base word n₀ i₀ n i =
     (i ≤ length word) × (read_on (digit_step base) (Is n) (drop i word) ≡ read_on (digit_step base) (Is 0) word)
 
-abbrev decreases-loop : tie.decreases-loop
-decreases-loop base word n₀ i₀ n i = length word - i
+abbrev decreases-loop-i : tie.decreases-loop-i
+decreases-loop-i base word n₀ i₀ n i = length word - i
 
-loop-holds : tie.Need-loop-init invariant-loop decreases-loop
-loop-holds c = (zero-le, refl)
+loop-i-init : tie.Need-loop-i-init invariant-loop-i decreases-loop-i
+loop-i-init c = (zero-le, refl)
 
-shared-slice-read-with-digit : tie.Need-shared-slice-read-with-digit invariant-loop decreases-loop
-shared-slice-read-with-digit c = search rules
+bounds-word-i : tie.Need-bounds-word-i invariant-loop-i decreases-loop-i
+bounds-word-i c = search rules
 
-with-digit-requires : tie.Need-with-digit-requires invariant-loop decreases-loop
-with-digit-requires c κs = search rules
+with_digit-requires : tie.Need-with_digit-requires invariant-loop-i decreases-loop-i
+with_digit-requires c κs = search rules
 
-enum-known-m : tie.Need-enum-known-m invariant-loop decreases-loop
-enum-known-m c = search rules
+enum_known-m : tie.Need-enum_known-m invariant-loop-i decreases-loop-i
+enum_known-m c = search rules
 
-enum_told : tie.Need-enum-told invariant-loop decreases-loop
-enum_told c = search rules
+enum_told-1 : tie.Need-enum_told-1 invariant-loop-i decreases-loop-i
+enum_told-1 c = search rules
 
-returns : tie.Need-returns invariant-loop decreases-loop
-returns c =
+returns-in_default : tie.Need-returns-in_default invariant-loop-i decreases-loop-i
+returns-in_default c =
     let called = c.before.before in
     let tested = called.before.before in
     let at-loop = tested.before in
     let a = at-loop.before.before.args in
-    let call = called.with-digit in
+    let call = called.with_digit in
     read-refused
     (digit_step a.base)
     a.word.now
-    at-loop.loop.n
-    at-loop.loop.i
-    at-loop.loop.invariant.1
+    at-loop.loop-i.n
+    at-loop.loop-i.i
+    at-loop.loop-i.invariant.1
     call.result
-    tested.loop-test.true
+    tested.loop-i-test.true
     call.ensures
-    c.enum_told.given.1
+    c.enum_told-1.given.1
 
-add-i : tie.Need-overflow-add-i invariant-loop decreases-loop
-add-i c = search rules
+overflow_add-i : tie.Need-overflow_add-i invariant-loop-i decreases-loop-i
+overflow_add-i c = search rules
 
-loop-less : tie.Need-loop-smaller invariant-loop decreases-loop
-loop-less c = search rules
+loop-i-smaller : tie.Need-loop-i-smaller invariant-loop-i decreases-loop-i
+loop-i-smaller c = search rules
 
-loop-again : tie.Need-loop-preserved invariant-loop decreases-loop
-loop-again c =
-    let m = c.before.m.given in
+loop-i-preserved : tie.Need-loop-i-preserved invariant-loop-i decreases-loop-i
+loop-i-preserved c =
+    let m = c.before.m-1.given in
     let called = c.before.before.before in
     let tested = called.before.before in
     let at-loop = tested.before in
     let a = at-loop.before.before.args in
-    let more = tested.loop-test.true in
-    let call = called.with-digit in (
+    let more = tested.loop-i-test.true in
+    let call = called.with_digit in (
       omega (arith, more),
       read_again
           (digit_step a.base)
           a.word.now
-          at-loop.loop.n
-          at-loop.loop.i
-          at-loop.loop.invariant.1
+          at-loop.loop-i.n
+          at-loop.loop-i.i
+          at-loop.loop-i.invariant.1
           call.result
           m.0.0
           more
@@ -80,25 +80,11 @@ loop-again c =
           m.1,
     )
 
-returns-2 : tie.Need-returns-2 invariant-loop decreases-loop
-returns-2 c =
+returns : tie.Need-returns invariant-loop-i decreases-loop-i
+returns c =
     let at-loop = c.before in
     let a = at-loop.before.before.args in
-    read-end (digit_step a.base) a.word.now at-loop.loop.n at-loop.loop.i at-loop.loop.invariant.1 c.loop-test.false
+    read-end (digit_step a.base) a.word.now at-loop.loop-i.n at-loop.loop-i.i at-loop.loop-i.invariant.1 c.loop-i-test.false
 
-pub digits-spec : {M : Type 1} → statement M
-digits-spec =
-    tie.close
-    (tie.spec
-    invariant-loop
-    decreases-loop
-    loop-holds
-    shared-slice-read-with-digit
-    with-digit-requires
-    enum-known-m
-    enum_told
-    returns
-    add-i
-    loop-less
-    loop-again
-    returns-2)
+pub digits_spec : {M : Type 1} → statement M
+digits_spec = tie.close (tie.spec invariant-loop-i decreases-loop-i loop-i-init bounds-word-i with_digit-requires enum_known-m enum_told-1 returns-in_default overflow_add-i loop-i-smaller loop-i-preserved returns)

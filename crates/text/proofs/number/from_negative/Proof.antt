@@ -8,33 +8,32 @@ use Rattle.text.proofs.Signs.{minus-fits, minus-back}
 use Rattle.text.proofs.number.from_negative.Statement.{statement}
 use Rattle.text.proofs.number.from_negative.Tie as tie
 
-returns : tie.Need-returns
-returns c = simp (eq-eqb _ _ c.if1.true)
+returns-then-n-eq0 : tie.Need-returns-then-n-eq0
+returns-then-n-eq0 c = simp (eq-eqb _ _ c.if-n-eq0.true)
 
-cast-t3 : tie.Need-overflow-cast-t3
-cast-t3 c = search rules
+overflow_cast-result : tie.Need-overflow_cast-result
+overflow_cast-result c = search rules
 
-sub-t4 : tie.Need-overflow-sub-t4
-sub-t4 c = minus-fits c.before.before.args.n (omega arith)
+overflow_sub-result : tie.Need-overflow_sub-result
+overflow_sub-result c = minus-fits c.before.before.args.n (omega arith)
 
-returns-2 : tie.Need-returns-2
-returns-2 c =
+returns-then-n-le-I64_MAX : tie.Need-returns-then-n-le-I64_MAX
+returns-then-n-le-I64_MAX c =
     let n = c.before.before.args.n in
-    simp (ne_eqb _ _ c.before.if1.false, le-leb n (2 ^ 63) (omega arith), minus-back n (omega arith))
+    simp (ne_eqb _ _ c.before.if-n-eq0.false, le-leb n (2 ^ 63) (omega arith), minus-back n (omega arith))
 
-add-if3 : tie.Need-overflow-add-if3
-add-if3 c = search rules
+overflow_add-t-5 : tie.Need-overflow_add-t-5
+overflow_add-t-5 c = search rules
 
-returns-3 : tie.Need-returns-3
-returns-3 c =
+returns-then-n : tie.Need-returns-then-n
+returns-then-n c =
     let n = c.before.before.before.args.n in
-    simp c.if3.true
+    simp c.if-n.true
 
-returns-4 : tie.Need-returns-4
-returns-4 c =
+returns : tie.Need-returns
+returns c =
     let n = c.before.before.before.args.n in
-    simp (ne_eqb _ _ c.before.before.if1.false, lt-leb n (2 ^ 63) (omega arith))
+    simp (ne_eqb _ _ c.before.before.if-n-eq0.false, lt-leb n (2 ^ 63) (omega arith))
 
-pub from-negative-spec : {M : Type 1} → statement M
-from-negative-spec =
-    tie.close (tie.spec returns cast-t3 sub-t4 returns-2 add-if3 returns-3 returns-4)
+pub from_negative_spec : {M : Type 1} → statement M
+from_negative_spec = tie.close (tie.spec returns-then-n-eq0 overflow_cast-result overflow_sub-result returns-then-n-le-I64_MAX overflow_add-t-5 returns-then-n returns)

@@ -7,14 +7,14 @@ use borrow.Author.Tests.{lt-ltb, le-ltb}
 use Rattle.text.proofs.number.from_positive.Statement.{statement}
 use Rattle.text.proofs.number.from_positive.Tie as tie
 
+returns-then-n-gt-I64_MAX : tie.Need-returns-then-n-gt-I64_MAX
+returns-then-n-gt-I64_MAX c = simp (le-ltb c.before.args.n (2 ^ 63) (omega arith))
+
+overflow_cast-result : tie.Need-overflow_cast-result
+overflow_cast-result c = search rules
+
 returns : tie.Need-returns
-returns c = simp (le-ltb c.before.args.n (2 ^ 63) (omega arith))
+returns c = simp (lt-ltb c.before.args.n (2 ^ 63) (omega arith))
 
-cast-t3 : tie.Need-overflow-cast-t3
-cast-t3 c = search rules
-
-returns-2 : tie.Need-returns-2
-returns-2 c = simp (lt-ltb c.before.args.n (2 ^ 63) (omega arith))
-
-pub from-positive-spec : {M : Type 1} → statement M
-from-positive-spec = tie.close (tie.spec returns cast-t3 returns-2)
+pub from_positive_spec : {M : Type 1} → statement M
+from_positive_spec = tie.close (tie.spec returns-then-n-gt-I64_MAX overflow_cast-result returns)

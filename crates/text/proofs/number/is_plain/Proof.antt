@@ -5,19 +5,19 @@ use Rattle.text.proofs.Reading.{plain-none, plain-one, plain_more}
 use Rattle.text.proofs.number.is_plain.Statement.{statement}
 use Rattle.text.proofs.number.is_plain.Tie as tie
 
+returns-then-word-eq0 : tie.Need-returns-then-word-eq0
+returns-then-word-eq0 c = plain-none c.before.args.word.now c.if-word-eq0.true
+
+returns-then-word-eq1 : tie.Need-returns-then-word-eq1
+returns-then-word-eq1 c = plain-one c.before.before.args.word.now c.if-word-eq1.true
+
+bounds-word-0 : tie.Need-bounds-word-0
+bounds-word-0 c = search rules
+
 returns : tie.Need-returns
-returns c = plain-none c.before.args.word.now c.if1.true
-
-returns-2 : tie.Need-returns-2
-returns-2 c = plain-one c.before.before.args.word.now c.if2.true
-
-shared-slice-read-result : tie.Need-shared-slice-read-result
-shared-slice-read-result c = search rules
-
-returns-3 : tie.Need-returns-3
-returns-3 c =
+returns c =
     let w = c.before.before.before.args.word.now in
-    plain_more w c.before.before.if1.false c.before.if2.false
+    plain_more w c.before.before.if-word-eq0.false c.before.if-word-eq1.false
 
-pub is-plain-spec : {M : Type 1} → statement M
-is-plain-spec = tie.close (tie.spec returns returns-2 shared-slice-read-result returns-3)
+pub is_plain_spec : {M : Type 1} → statement M
+is_plain_spec = tie.close (tie.spec returns-then-word-eq0 returns-then-word-eq1 bounds-word-0 returns)

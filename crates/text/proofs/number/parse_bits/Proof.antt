@@ -5,14 +5,14 @@ use borrow.Author.Tests.{eq-eqb, ne_eqb}
 use Rattle.text.proofs.number.parse_bits.Statement.{statement}
 use Rattle.text.proofs.number.parse_bits.Tie as tie
 
-returns : tie.Need-returns
-returns c = simp (ne_eqb _ 16 c.if1.true)
+returns-then-word-ne16 : tie.Need-returns-then-word-ne16
+returns-then-word-ne16 c = simp (ne_eqb _ 16 c.if-word-ne16.true)
 
 digits-requires : tie.Need-digits-requires
 digits-requires c κs = search rules
 
-returns-2 : tie.Need-returns-2
-returns-2 c = simp (eq-eqb _ 16 c.before.if1.false) c.digits.ensures
+returns : tie.Need-returns
+returns c = simp (eq-eqb _ 16 c.before.if-word-ne16.false) c.digits.ensures
 
-pub parse-bits-spec : {M : Type 1} → statement M
-parse-bits-spec = tie.close (tie.spec returns digits-requires returns-2)
+pub parse_bits_spec : {M : Type 1} → statement M
+parse_bits_spec = tie.close (tie.spec returns-then-word-ne16 digits-requires returns)

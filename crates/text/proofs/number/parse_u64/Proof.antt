@@ -7,21 +7,21 @@ use Rattle.text.proofs.number.parse_u64.Statement.{statement}
 use Rattle.text.specs.Numbers.{plain}
 use Rattle.text.proofs.number.parse_u64.Tie as tie
 
-is-plain-requires : tie.Need-is-plain-requires
-is-plain-requires c κs = search rules
+is_plain-requires : tie.Need-is_plain-requires
+is_plain-requires c κs = search rules
 
 digits-requires : tie.Need-digits-requires
 digits-requires c κs = search rules
 
-returns : tie.Need-returns
-returns c =
+returns-then-is_plain : tie.Need-returns-then-is_plain
+returns-then-is_plain c =
     let called = c.before.before in
     let w = called.before.before.args.word.now in
-    let found : plain w ≡ true = sym called.is_plain.ensures ∙ c.before.if1.true in
+    let found : plain w ≡ true = sym called.is_plain.ensures ∙ c.before.if-is_plain.true in
     simp found c.digits.ensures
 
-returns-2 : tie.Need-returns-2
-returns-2 c = search rules
+returns : tie.Need-returns
+returns c = search rules
 
-pub parse-u64-spec : {M : Type 1} → statement M
-parse-u64-spec = tie.close (tie.spec is-plain-requires digits-requires returns returns-2)
+pub parse_u64_spec : {M : Type 1} → statement M
+parse_u64_spec = tie.close (tie.spec is_plain-requires digits-requires returns-then-is_plain returns)

@@ -11,79 +11,66 @@ use Rattle.text.specs.declared.number.ParsedU64.TheVariants.{Is}
 use Rattle.text.proofs.number.with_digit.Tie as tie
 
 -- the byte's value, where it is in hand
-value-is : (c : tie.After-digit) → digit_of c.before.before.before.args.byte ≡ Is c.digit.given.0.0
-value-is c = sym c.before.before.digit-of.ensures ∙ c.digit.given.1
+value-is : (c : tie.In-Is-2) → digit_of c.before.before.before.args.byte ≡ Is c.digit-1.given.0.0
+value-is c = sym c.before.before.digit_of.ensures ∙ c.digit-1.given.1
 
-digit-of-requires : tie.Need-digit-of-requires
-digit-of-requires c κs = search rules
+digit_of-requires : tie.Need-digit_of-requires
+digit_of-requires c κs = search rules
 
-enum-known-digit : tie.Need-enum-known-digit
-enum-known-digit c = search rules
+enum_known-digit : tie.Need-enum_known-digit
+enum_known-digit c = search rules
 
-enum_told : tie.Need-enum-told
-enum_told c = search rules
+enum_told-1 : tie.Need-enum_told-1
+enum_told-1 c = search rules
 
-returns : tie.Need-returns
-returns c =
+returns-in_default : tie.Need-returns-in_default
+returns-in_default c =
     let a = c.before.before.before.args in
-    sym (ap (digit_behind a.base a.n) (sym c.before.before.digit-of.ensures ∙ c.enum_told.given.1))
+    sym (ap (digit_behind a.base a.n) (sym c.before.before.digit_of.ensures ∙ c.enum_told-1.given.1))
 
-returns-2 : tie.Need-returns-2
-returns-2 c =
+returns-then-base-digit : tie.Need-returns-then-base-digit
+returns-then-base-digit c =
     let known = c.before.before in
     let a = known.before.before.before.args in
-    digit-refused a.base a.n a.byte known.digit.given.0.0 (value-is known) c.if1.true
+    digit-refused a.base a.n a.byte known.digit-1.given.0.0 (value-is known) c.if-base-digit.true
 
-sub-if2 : tie.Need-overflow-sub-if2
-sub-if2 c = search rules
+overflow_sub-digit : tie.Need-overflow_sub-digit
+overflow_sub-digit c = search rules
 
-div-if2 : tie.Need-nonzero-div-if2
-div-if2 c = search rules
+nonzero_div-digit : tie.Need-nonzero_div-digit
+nonzero_div-digit c = search rules
 
-returns-3 : tie.Need-returns-3
-returns-3 c =
+returns-then-digit-base : tie.Need-returns-then-digit-base
+returns-then-digit-base c =
     let known = c.before.before.before in
     let start = known.before.before.before in
     let a = start.args in
-    let d = known.digit.given.0.0 in
-    digit-over a.base a.n a.byte d (value-is known) c.before.if1.false
-    (sum_over a.base a.n d start.requires (omega arith) c.if2.true)
+    let d = known.digit-1.given.0.0 in
+    digit-over a.base a.n a.byte d (value-is known) c.before.if-base-digit.false
+    (sum_over a.base a.n d start.requires (omega arith) c.if-digit-base.true)
 
 -- the sum fits, where the last test is passed
-sum-in : (c : tie.Else2)
+sum-in : (c : tie.Else-digit-base)
     → let known = c.before.before.before in
     let a = known.before.before.before.args in
-    a.n * a.base + known.digit.given.0.0 < 2 ^ 64
+    a.n * a.base + known.digit-1.given.0.0 < 2 ^ 64
 sum-in c =
     let known = c.before.before.before in
     let start = known.before.before.before in
     let a = start.args in
-    digit-sum-fits a.base a.n known.digit.given.0.0 start.requires (omega arith) c.if2.false
+    digit-sum-fits a.base a.n known.digit-1.given.0.0 start.requires (omega arith) c.if-digit-base.false
 
-mul-t7 : tie.Need-overflow-mul-t7
-mul-t7 c = record { fits = let h = sum-in c in omega arith }
+overflow_mul-result : tie.Need-overflow_mul-result
+overflow_mul-result c = record { fits = let h = sum-in c in omega arith }
 
-add-t8 : tie.Need-overflow-add-t8
-add-t8 c = record { fits = sum-in c }
+overflow_add-result : tie.Need-overflow_add-result
+overflow_add-result c = record { fits = sum-in c }
 
-returns-4 : tie.Need-returns-4
-returns-4 c =
+returns : tie.Need-returns
+returns c =
     let known = c.before.before.before in
     let a = known.before.before.before.args in
-    digit-fits a.base a.n a.byte known.digit.given.0.0 (value-is known) c.before.if1.false (sum-in c)
+    digit-fits a.base a.n a.byte known.digit-1.given.0.0 (value-is known) c.before.if-base-digit.false (sum-in c)
 
-pub with-digit-spec : {M : Type 1} → statement M
-with-digit-spec =
-    tie.close
-    (tie.spec
-    digit-of-requires
-    enum-known-digit
-    enum_told
-    returns
-    returns-2
-    sub-if2
-    div-if2
-    returns-3
-    mul-t7
-    add-t8
-    returns-4)
+pub with_digit_spec : {M : Type 1} → statement M
+with_digit_spec = tie.close (tie.spec digit_of-requires enum_known-digit enum_told-1 returns-in_default returns-then-base-digit overflow_sub-digit nonzero_div-digit returns-then-digit-base overflow_mul-result overflow_add-result returns)

@@ -7,55 +7,41 @@ use borrow.Author.Rules.{rules}
 use Rattle.text.proofs.print.put_hex.Statement.{statement}
 use Rattle.text.proofs.print.put_hex.Tie as tie
 
-abbrev invariant-loop : tie.invariant-loop
-invariant-loop out₀ at bits rest₀ i₀ out rest i = (i ≤ 16) × (length out ≡ length out₀)
+abbrev invariant-loop-i : tie.invariant-loop-i
+invariant-loop-i out₀ at bits rest₀ i₀ out rest i = (i ≤ 16) × (length out ≡ length out₀)
 
-abbrev decreases-loop : tie.decreases-loop
-decreases-loop out₀ at bits rest₀ i₀ out rest i = i
+abbrev decreases-loop-i : tie.decreases-loop-i
+decreases-loop-i out₀ at bits rest₀ i₀ out rest i = i
 
-loop-holds : tie.Need-loop-init invariant-loop decreases-loop
-loop-holds c = search rules
+loop-i-init : tie.Need-loop-i-init invariant-loop-i decreases-loop-i
+loop-i-init c = search rules
 
-sub-i : tie.Need-overflow-sub-i invariant-loop decreases-loop
-sub-i c = search rules
+overflow_sub-i : tie.Need-overflow_sub-i invariant-loop-i decreases-loop-i
+overflow_sub-i c = search rules
 
-hex-byte-requires : tie.Need-hex-byte-requires invariant-loop decreases-loop
-hex-byte-requires c κs = search rules
+hex_byte-digit-requires : tie.Need-hex_byte-digit-requires invariant-loop-i decreases-loop-i
+hex_byte-digit-requires c κs = search rules
 
-add-out : tie.Need-overflow-add-out invariant-loop decreases-loop
-add-out c = search rules
+overflow_add-out : tie.Need-overflow_add-out invariant-loop-i decreases-loop-i
+overflow_add-out c = search rules
 
-slice-write-out : tie.Need-slice-write-out invariant-loop decreases-loop
-slice-write-out c = search rules
+bounds-out-at : tie.Need-bounds-out-at invariant-loop-i decreases-loop-i
+bounds-out-at c = search rules
 
-loop-less : tie.Need-loop-smaller invariant-loop decreases-loop
-loop-less c = search rules
+loop-i-smaller : tie.Need-loop-i-smaller invariant-loop-i decreases-loop-i
+loop-i-smaller c = search rules
 
-loop-again : tie.Need-loop-preserved invariant-loop decreases-loop
-loop-again c = search rules
+loop-i-preserved : tie.Need-loop-i-preserved invariant-loop-i decreases-loop-i
+loop-i-preserved c = search rules
 
-add-result : tie.Need-overflow-add-result invariant-loop decreases-loop
-add-result c = search rules
+overflow_add-result : tie.Need-overflow_add-result invariant-loop-i decreases-loop-i
+overflow_add-result c = search rules
 
-same_length : tie.Need-same-length invariant-loop decreases-loop
-same_length c = search rules
+shape_of-out : tie.Need-shape_of-out invariant-loop-i decreases-loop-i
+shape_of-out c = search rules
 
-returns : tie.Need-returns invariant-loop decreases-loop
+returns : tie.Need-returns invariant-loop-i decreases-loop-i
 returns c = search rules
 
-pub put-hex-spec : {M : Type 1} → statement M
-put-hex-spec =
-    tie.close
-    (tie.spec
-    invariant-loop
-    decreases-loop
-    loop-holds
-    sub-i
-    hex-byte-requires
-    add-out
-    slice-write-out
-    loop-less
-    loop-again
-    add-result
-    same_length
-    returns)
+pub put_hex_spec : {M : Type 1} → statement M
+put_hex_spec = tie.close (tie.spec invariant-loop-i decreases-loop-i loop-i-init overflow_sub-i hex_byte-digit-requires overflow_add-out bounds-out-at loop-i-smaller loop-i-preserved overflow_add-result shape_of-out returns)

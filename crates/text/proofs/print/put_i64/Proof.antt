@@ -6,51 +6,38 @@ use borrow.Author.Rules.{rules}
 use Rattle.text.proofs.print.put_i64.Statement.{statement}
 use Rattle.text.proofs.print.put_i64.Tie as tie
 
-magnitude-requires : tie.Need-magnitude-requires
-magnitude-requires c κs = search rules
+magnitude-size-requires : tie.Need-magnitude-size-requires
+magnitude-size-requires c κs = search rules
 
-slice-write-out : tie.Need-slice-write-out
-slice-write-out c = search rules
+bounds-out-at : tie.Need-bounds-out-at
+bounds-out-at c = search rules
 
-add-out : tie.Need-overflow-add-out
-add-out c = search rules
+overflow_add-out : tie.Need-overflow_add-out
+overflow_add-out c = search rules
 
-slice-write-out-2 : tie.Need-slice-write-out-2
-slice-write-out-2 c = simp length-set (omega arith)
+bounds-out-at-then-n-lt0 : tie.Need-bounds-out-at-then-n-lt0
+bounds-out-at-then-n-lt0 c = simp length-set (omega arith)
 
-add-put-digits : tie.Need-overflow-add-put-digits
-add-put-digits c = search rules
+overflow_add-at : tie.Need-overflow_add-at
+overflow_add-at c = search rules
 
-put-digits-requires : tie.Need-put-digits-requires
-put-digits-requires c κs = simp length-set (omega arith)
+put_digits-requires : tie.Need-put_digits-requires
+put_digits-requires c κs = simp length-set (omega arith)
 
-same_length : tie.Need-same-length
-same_length c = simp length-set at c.before.before.put-digits.auto.0
+shape_of-out-then-n-lt0 : tie.Need-shape_of-out-then-n-lt0
+shape_of-out-then-n-lt0 c = simp length-set at c.before.before.put_digits.auto.0
+
+returns-then-n-lt0 : tie.Need-returns-then-n-lt0
+returns-then-n-lt0 c = search rules
+
+put_u64-requires : tie.Need-put_u64-requires
+put_u64-requires c κs = search rules
+
+shape_of-out : tie.Need-shape_of-out
+shape_of-out c = search rules
 
 returns : tie.Need-returns
 returns c = search rules
 
-put-u64-requires : tie.Need-put-u64-requires
-put-u64-requires c κs = search rules
-
-same-length-2 : tie.Need-same-length-2
-same-length-2 c = search rules
-
-returns-2 : tie.Need-returns-2
-returns-2 c = search rules
-
-pub put-i64-spec : {M : Type 1} → statement M
-put-i64-spec =
-    tie.close
-    (tie.spec
-    magnitude-requires
-    slice-write-out
-    add-out
-    slice-write-out-2
-    add-put-digits
-    put-digits-requires
-    same_length
-    returns
-    put-u64-requires
-    same-length-2
-    returns-2)
+pub put_i64_spec : {M : Type 1} → statement M
+put_i64_spec = tie.close (tie.spec magnitude-size-requires bounds-out-at overflow_add-out bounds-out-at-then-n-lt0 overflow_add-at put_digits-requires shape_of-out-then-n-lt0 returns-then-n-lt0 put_u64-requires shape_of-out returns)

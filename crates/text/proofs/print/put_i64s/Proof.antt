@@ -7,51 +7,38 @@ use Rattle.text.proofs.Lists.{Putting}
 use Rattle.text.proofs.print.put_i64s.Statement.{statement}
 use Rattle.text.proofs.print.put_i64s.Tie as tie
 
-abbrev invariant-loop : tie.invariant-loop
-invariant-loop out₀ from items at₀ i₀ out at i = Putting 22 items from out₀ out at i
+abbrev invariant-loop-i : tie.invariant-loop-i
+invariant-loop-i out₀ from items at₀ i₀ out at i = Putting 22 items from out₀ out at i
 
-abbrev decreases-loop : tie.decreases-loop
-decreases-loop out₀ from items at₀ i₀ out at i = length items - i
+abbrev decreases-loop-i : tie.decreases-loop-i
+decreases-loop-i out₀ from items at₀ i₀ out at i = length items - i
 
-loop-holds : tie.Need-loop-init invariant-loop decreases-loop
-loop-holds c = search rules
+loop-i-init : tie.Need-loop-i-init invariant-loop-i decreases-loop-i
+loop-i-init c = search rules
 
-mul-put-i64 : tie.Need-overflow-mul-put-i64 invariant-loop decreases-loop
-mul-put-i64 c = search rules
+offset_bounds-items-i : tie.Need-offset_bounds-items-i invariant-loop-i decreases-loop-i
+offset_bounds-items-i c = search rules
 
-shared-slice-copy-out-put-i64 : tie.Need-shared-slice-copy-out-put-i64 invariant-loop decreases-loop
-shared-slice-copy-out-put-i64 c = search rules
+bounds-items-i : tie.Need-bounds-items-i invariant-loop-i decreases-loop-i
+bounds-items-i c = search rules
 
-put-i64-requires : tie.Need-put-i64-requires invariant-loop decreases-loop
-put-i64-requires c κs = search rules
+put_i64-at-requires : tie.Need-put_i64-at-requires invariant-loop-i decreases-loop-i
+put_i64-at-requires c κs = search rules
 
-add-i : tie.Need-overflow-add-i invariant-loop decreases-loop
-add-i c = search rules
+overflow_add-i : tie.Need-overflow_add-i invariant-loop-i decreases-loop-i
+overflow_add-i c = search rules
 
-loop-less : tie.Need-loop-smaller invariant-loop decreases-loop
-loop-less c = search rules
+loop-i-smaller : tie.Need-loop-i-smaller invariant-loop-i decreases-loop-i
+loop-i-smaller c = search rules
 
-loop-again : tie.Need-loop-preserved invariant-loop decreases-loop
-loop-again c = search rules
+loop-i-preserved : tie.Need-loop-i-preserved invariant-loop-i decreases-loop-i
+loop-i-preserved c = search rules
 
-same_length : tie.Need-same-length invariant-loop decreases-loop
-same_length c = search rules
+shape_of-out : tie.Need-shape_of-out invariant-loop-i decreases-loop-i
+shape_of-out c = search rules
 
-returns : tie.Need-returns invariant-loop decreases-loop
+returns : tie.Need-returns invariant-loop-i decreases-loop-i
 returns c = search rules
 
-pub put-i64s-spec : {M : Type 1} → statement M
-put-i64s-spec =
-    tie.close
-    (tie.spec
-    invariant-loop
-    decreases-loop
-    loop-holds
-    mul-put-i64
-    shared-slice-copy-out-put-i64
-    put-i64-requires
-    add-i
-    loop-less
-    loop-again
-    same_length
-    returns)
+pub put_i64s_spec : {M : Type 1} → statement M
+put_i64s_spec = tie.close (tie.spec invariant-loop-i decreases-loop-i loop-i-init offset_bounds-items-i bounds-items-i put_i64-at-requires overflow_add-i loop-i-smaller loop-i-preserved shape_of-out returns)

@@ -6,21 +6,20 @@ use borrow.Author.Rules.{rules}
 use Rattle.text.proofs.print.put_u64.Statement.{statement}
 use Rattle.text.proofs.print.put_u64.Tie as tie
 
-slice-write-out : tie.Need-slice-write-out
-slice-write-out c = search rules
+bounds-out-at : tie.Need-bounds-out-at
+bounds-out-at c = search rules
 
-add-put-digits : tie.Need-overflow-add-put-digits
-add-put-digits c = search rules
+overflow_add-at : tie.Need-overflow_add-at
+overflow_add-at c = search rules
 
-put-digits-requires : tie.Need-put-digits-requires
-put-digits-requires c κs = simp length-set (omega arith)
+put_digits-requires : tie.Need-put_digits-requires
+put_digits-requires c κs = simp length-set (omega arith)
 
-same_length : tie.Need-same-length
-same_length c = simp length-set at c.before.before.put-digits.auto.0
+shape_of-out : tie.Need-shape_of-out
+shape_of-out c = simp length-set at c.before.before.put_digits.auto.0
 
 returns : tie.Need-returns
 returns c = search rules
 
-pub put-u64-spec : {M : Type 1} → statement M
-put-u64-spec =
-    tie.close (tie.spec slice-write-out add-put-digits put-digits-requires same_length returns)
+pub put_u64_spec : {M : Type 1} → statement M
+put_u64_spec = tie.close (tie.spec bounds-out-at overflow_add-at put_digits-requires shape_of-out returns)

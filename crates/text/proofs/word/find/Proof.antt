@@ -9,47 +9,47 @@ use borrow.Author.Rules.{rules}
 use Rattle.text.proofs.word.find.Statement.{statement}
 use Rattle.text.proofs.word.find.Tie as tie
 
-abbrev invariant-loop : tie.invariant-loop
-invariant-loop s at byte i₀ i = (at ≤ i) × (i ≤ length s) × ((k : ℕ) → k < i → at ≤ k → get_or s k 0 ≡ byte → ⊥)
+abbrev invariant-loop-i : tie.invariant-loop-i
+invariant-loop-i s at byte i₀ i = (at ≤ i) × (i ≤ length s) × ((k : ℕ) → k < i → at ≤ k → get_or s k 0 ≡ byte → ⊥)
 
-abbrev decreases-loop : tie.decreases-loop
-decreases-loop s at byte i₀ i = length s - i
+abbrev decreases-loop-i : tie.decreases-loop-i
+decreases-loop-i s at byte i₀ i = length s - i
 
-loop-holds : tie.Need-loop-init invariant-loop decreases-loop
-loop-holds c = (search rules, search rules, λ k h l e. omega arith)
+loop-i-init : tie.Need-loop-i-init invariant-loop-i decreases-loop-i
+loop-i-init c = (search rules, search rules, λ k h l e. omega arith)
 
-shared-slice-read-if1 : tie.Need-shared-slice-read-if1 invariant-loop decreases-loop
-shared-slice-read-if1 c = search rules
+bounds-s-i : tie.Need-bounds-s-i invariant-loop-i decreases-loop-i
+bounds-s-i c = search rules
 
-returns : tie.Need-returns invariant-loop decreases-loop
+returns-then-s-i : tie.Need-returns-then-s-i invariant-loop-i decreases-loop-i
+returns-then-s-i c =
+    let inv = c.before.before.before.loop-i.invariant in
+    ((search rules, search rules), (inv.2, λ h. c.if-s-i.true))
+
+overflow_add-i : tie.Need-overflow_add-i invariant-loop-i decreases-loop-i
+overflow_add-i c = search rules
+
+loop-i-smaller : tie.Need-loop-i-smaller invariant-loop-i decreases-loop-i
+loop-i-smaller c = search rules
+
+loop-i-preserved : tie.Need-loop-i-preserved invariant-loop-i decreases-loop-i
+loop-i-preserved c = (search rules, search rules, below_more _ _ c.before.before.before.loop-i.invariant.2 (λ l. c.if-s-i.false))
+
+returns : tie.Need-returns invariant-loop-i decreases-loop-i
 returns c =
-    let inv = c.before.before.before.loop.invariant in
-    ((search rules, search rules), (inv.2, λ h. c.if1.true))
-
-add-i : tie.Need-overflow-add-i invariant-loop decreases-loop
-add-i c = search rules
-
-loop-less : tie.Need-loop-smaller invariant-loop decreases-loop
-loop-less c = search rules
-
-loop-again : tie.Need-loop-preserved invariant-loop decreases-loop
-loop-again c = (search rules, search rules, below_more _ _ c.before.before.before.loop.invariant.2 (λ l. c.if1.false))
-
-returns-2 : tie.Need-returns-2 invariant-loop decreases-loop
-returns-2 c =
-    let inv = c.before.loop.invariant in
-    ((search rules, search rules), (inv.2, λ h. absurd (omega (arith, h, c.loop-test.false))))
+    let inv = c.before.loop-i.invariant in
+    ((search rules, search rules), (inv.2, λ h. absurd (omega (arith, h, c.loop-i-test.false))))
 
 pub find_spec : {M : Type 1} → statement M
 find_spec =
     tie.close
     (tie.spec
-    invariant-loop
-    decreases-loop
-    loop-holds
-    shared-slice-read-if1
-    returns
-    add-i
-    loop-less
-    loop-again
-    returns-2)
+    invariant-loop-i
+    decreases-loop-i
+    loop-i-init
+    bounds-s-i
+    returns-then-s-i
+    overflow_add-i
+    loop-i-smaller
+    loop-i-preserved
+    returns)

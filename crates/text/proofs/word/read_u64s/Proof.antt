@@ -6,83 +6,62 @@ use Rattle.text.proofs.Lists.{Filling}
 use Rattle.text.proofs.word.read_u64s.Statement.{statement}
 use Rattle.text.proofs.word.read_u64s.Tie as tie
 
-abbrev invariant-loop : tie.invariant-loop
-invariant-loop line at out₀ count next₀ i₀ out next i = Filling count out₀ out i
+abbrev invariant-loop-i : tie.invariant-loop-i
+invariant-loop-i line at out₀ count next₀ i₀ out next i = Filling count out₀ out i
 
-abbrev decreases-loop : tie.decreases-loop
-decreases-loop line at out₀ count next₀ i₀ out next i = count - i
+abbrev decreases-loop-i : tie.decreases-loop-i
+decreases-loop-i line at out₀ count next₀ i₀ out next i = count - i
 
-read-count-requires : tie.Need-read-count-requires invariant-loop decreases-loop
-read-count-requires c κs = search rules
+read_count-head-requires : tie.Need-read_count-head-requires invariant-loop-i decreases-loop-i
+read_count-head-requires c κs = search rules
 
-no-items-requires : tie.Need-no-items-requires invariant-loop decreases-loop
-no-items-requires c κs = search rules
+no_items-requires : tie.Need-no_items-requires invariant-loop-i decreases-loop-i
+no_items-requires c κs = search rules
 
-returns : tie.Need-returns invariant-loop decreases-loop
+returns-then-not-head : tie.Need-returns-then-not-head invariant-loop-i decreases-loop-i
+returns-then-not-head c = search rules
+
+loop-i-init : tie.Need-loop-i-init invariant-loop-i decreases-loop-i
+loop-i-init c = search rules
+
+read_u64-requires : tie.Need-read_u64-requires invariant-loop-i decreases-loop-i
+read_u64-requires c κs = search rules
+
+enum_known-n : tie.Need-enum_known-n invariant-loop-i decreases-loop-i
+enum_known-n c = search rules
+
+enum_told-1 : tie.Need-enum_told-1 invariant-loop-i decreases-loop-i
+enum_told-1 c = search rules
+
+no_items-requires-in_default : tie.Need-no_items-requires-in_default invariant-loop-i decreases-loop-i
+no_items-requires-in_default c κs = search rules
+
+shape_of-out-in_default : tie.Need-shape_of-out-in_default invariant-loop-i decreases-loop-i
+shape_of-out-in_default c = search rules
+
+returns-in_default : tie.Need-returns-in_default invariant-loop-i decreases-loop-i
+returns-in_default c = search rules
+
+offset_bounds-out-i : tie.Need-offset_bounds-out-i invariant-loop-i decreases-loop-i
+offset_bounds-out-i c = search rules
+
+bounds-out-i : tie.Need-bounds-out-i invariant-loop-i decreases-loop-i
+bounds-out-i c = search rules
+
+overflow_add-i : tie.Need-overflow_add-i invariant-loop-i decreases-loop-i
+overflow_add-i c = search rules
+
+loop-i-smaller : tie.Need-loop-i-smaller invariant-loop-i decreases-loop-i
+loop-i-smaller c = search rules
+
+loop-i-preserved : tie.Need-loop-i-preserved invariant-loop-i decreases-loop-i
+loop-i-preserved c = search rules
+
+shape_of-out : tie.Need-shape_of-out invariant-loop-i decreases-loop-i
+shape_of-out c = search rules
+
+returns : tie.Need-returns invariant-loop-i decreases-loop-i
 returns c = search rules
 
-loop-holds : tie.Need-loop-init invariant-loop decreases-loop
-loop-holds c = search rules
-
-read-u64-requires : tie.Need-read-u64-requires invariant-loop decreases-loop
-read-u64-requires c κs = search rules
-
-enum-known-n : tie.Need-enum-known-n invariant-loop decreases-loop
-enum-known-n c = search rules
-
-enum_told : tie.Need-enum-told invariant-loop decreases-loop
-enum_told c = search rules
-
-no-items-requires-2 : tie.Need-no-items-requires-2 invariant-loop decreases-loop
-no-items-requires-2 c κs = search rules
-
-same_length : tie.Need-same-length invariant-loop decreases-loop
-same_length c = search rules
-
-returns-2 : tie.Need-returns-2 invariant-loop decreases-loop
-returns-2 c = search rules
-
-mul-out : tie.Need-overflow-mul-out invariant-loop decreases-loop
-mul-out c = search rules
-
-slice-write-out : tie.Need-slice-write-out invariant-loop decreases-loop
-slice-write-out c = search rules
-
-add-i : tie.Need-overflow-add-i invariant-loop decreases-loop
-add-i c = search rules
-
-loop-less : tie.Need-loop-smaller invariant-loop decreases-loop
-loop-less c = search rules
-
-loop-again : tie.Need-loop-preserved invariant-loop decreases-loop
-loop-again c = search rules
-
-same-length-2 : tie.Need-same-length-2 invariant-loop decreases-loop
-same-length-2 c = search rules
-
-returns-3 : tie.Need-returns-3 invariant-loop decreases-loop
-returns-3 c = search rules
-
-pub read-u64s-spec : {M : Type 1} → statement M
-read-u64s-spec =
-    tie.close
-    (tie.spec
-    invariant-loop
-    decreases-loop
-    read-count-requires
-    no-items-requires
-    returns
-    loop-holds
-    read-u64-requires
-    enum-known-n
-    enum_told
-    no-items-requires-2
-    same_length
-    returns-2
-    mul-out
-    slice-write-out
-    add-i
-    loop-less
-    loop-again
-    same-length-2
-    returns-3)
+pub read_u64s_spec : {M : Type 1} → statement M
+read_u64s_spec = tie.close (tie.spec invariant-loop-i decreases-loop-i read_count-head-requires no_items-requires returns-then-not-head loop-i-init read_u64-requires enum_known-n enum_told-1 no_items-requires-in_default shape_of-out-in_default returns-in_default offset_bounds-out-i bounds-out-i overflow_add-i loop-i-smaller loop-i-preserved shape_of-out returns)

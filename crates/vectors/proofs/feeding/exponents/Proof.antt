@@ -14,63 +14,51 @@ use Rattle.vectors.proofs.Vectors.{plus, some-exponents-size, next-sum-fits, nex
 use Rattle.vectors.proofs.feeding.exponents.Statement.{statement}
 use Rattle.vectors.proofs.feeding.exponents.Tie as tie
 
-abbrev invariant-loop : tie.invariant-loop
-invariant-loop s e₀ k₀ e k = Worked (plus s) 8 (pos 0) (to_z w64 e) k
+abbrev invariant-loop-k : tie.invariant-loop-k
+invariant-loop-k s e₀ k₀ e k = Worked (plus s) 8 (pos 0) (to_z w64 e) k
 
-abbrev decreases-loop : tie.decreases-loop
-decreases-loop s e₀ k₀ e k = 8 - k
+abbrev decreases-loop-k : tie.decreases-loop-k
+decreases-loop-k s e₀ k₀ e k = 8 - k
 
-loop-holds : tie.Need-loop-init invariant-loop decreases-loop
-loop-holds c = worked-none refl
+loop-k-init : tie.Need-loop-k-init invariant-loop-k decreases-loop-k
+loop-k-init c = worked-none refl
 
-mul-e : tie.Need-overflow-mul-e invariant-loop decreases-loop
-mul-e c = omega arith
+offset_bounds-s-k : tie.Need-offset_bounds-s-k invariant-loop-k decreases-loop-k
+offset_bounds-s-k c = omega arith
 
-element-copy-out-e : tie.Need-element-copy-out-e invariant-loop decreases-loop
-element-copy-out-e c = omega arith
+bounds-s-k : tie.Need-bounds-s-k invariant-loop-k decreases-loop-k
+bounds-s-k c = omega arith
 
 -- the exponents so far, and the next, are far from the ends of i64
-so_far : (c : tie.After-e invariant-loop decreases-loop) → let t = c.before.before in nat_abs (to_z w64 t.loop.e) ≤ 2 ^ 61
+so_far : (c : tie.After-e-1 invariant-loop-k decreases-loop-k) → let t = c.before.before in nat_abs (to_z w64 t.loop-k.e-bits) ≤ 2 ^ 61
 so_far c =
     let t = c.before.before in
-    subst (λ (z : ℤ). nat_abs z ≤ 2 ^ 61) (sym t.loop.invariant.is)
-    (le_trans (some-exponents-size (2 ^ 56) t.before.args.t1 t.before.requires t.loop.k) (omega arith))
+    subst (λ (z : ℤ). nat_abs z ≤ 2 ^ 61) (sym t.loop-k.invariant.is)
+    (le_trans (some-exponents-size (2 ^ 56) t.before.args.t1 t.before.requires t.loop-k.k) (omega arith))
 
-next : (c : tie.After-e invariant-loop decreases-loop) → let t = c.before.before in nat_abs (e_of t.before.args.t1 t.loop.k) ≤ 2 ^ 61
-next c = let t = c.before.before in le_trans (t.before.requires.at t.loop.k) (lit≤ tt)
+next : (c : tie.After-e-1 invariant-loop-k decreases-loop-k) → let t = c.before.before in nat_abs (e_of t.before.args.t1 t.loop-k.k) ≤ 2 ^ 61
+next c = let t = c.before.before in le_trans (t.before.requires.at t.loop-k.k) (lit≤ tt)
 
-add-e : tie.Need-overflow-add-e invariant-loop decreases-loop
-add-e c =
+overflow_add-e : tie.Need-overflow_add-e invariant-loop-k decreases-loop-k
+overflow_add-e c =
     let t = c.before.before in
-    next-sum-fits (to_z w64 t.loop.e) (e_of t.before.args.t1 t.loop.k) (so_far c) (next c)
+    next-sum-fits (to_z w64 t.loop-k.e-bits) (e_of t.before.args.t1 t.loop-k.k) (so_far c) (next c)
 
-add-k : tie.Need-overflow-add-k invariant-loop decreases-loop
-add-k c = omega arith
+overflow_add-k : tie.Need-overflow_add-k invariant-loop-k decreases-loop-k
+overflow_add-k c = omega arith
 
-loop-less : tie.Need-loop-smaller invariant-loop decreases-loop
-loop-less c = omega arith
+loop-k-smaller : tie.Need-loop-k-smaller invariant-loop-k decreases-loop-k
+loop-k-smaller c = omega arith
 
-loop-again : tie.Need-loop-preserved invariant-loop decreases-loop
-loop-again c =
+loop-k-preserved : tie.Need-loop-k-preserved invariant-loop-k decreases-loop-k
+loop-k-preserved c =
     let t = c.before.before in
-    worked-more t.loop.invariant c.before.loop-test.true
-    (next-sum-exact (to_z w64 t.loop.e) (e_of t.before.args.t1 t.loop.k) (so_far c) (next c))
+    worked-more t.loop-k.invariant c.before.loop-k-test.true
+    (next-sum-exact (to_z w64 t.loop-k.e-bits) (e_of t.before.args.t1 t.loop-k.k) (so_far c) (next c))
 
-returns : tie.Need-returns invariant-loop decreases-loop
+returns : tie.Need-returns invariant-loop-k decreases-loop-k
 unfolding exponents_of
-returns c = worked-all c.before.loop.invariant c.loop-test.false
+returns c = worked-all c.before.loop-k.invariant c.loop-k-test.false
 
-pub exponents-spec : {M : Type 1} → statement M
-exponents-spec =
-    tie.close
-    (tie.spec
-    invariant-loop
-    decreases-loop
-    loop-holds
-    mul-e
-    element-copy-out-e
-    add-e
-    add-k
-    loop-less
-    loop-again
-    returns)
+pub exponents_spec : {M : Type 1} → statement M
+exponents_spec = tie.close (tie.spec invariant-loop-k decreases-loop-k loop-k-init offset_bounds-s-k bounds-s-k overflow_add-e overflow_add-k loop-k-smaller loop-k-preserved returns)

@@ -15,17 +15,17 @@ none-less : (hold before way : ℕ) → patience (suc hold) before < patience 0 
 unfolding patience
 none-less hold before way = omega arith
 
+returns-then-pace : tie.Need-returns-then-pace
+returns-then-pace c = none-less 1 _ _
+
+overflow_add-next : tie.Need-overflow_add-next
+overflow_add-next c = let l = c.before.if-pace-lt-LAST_WAY.true in omega arith
+
+returns-then-pace-lt-LAST_WAY : tie.Need-returns-then-pace-lt-LAST_WAY
+returns-then-pace-lt-LAST_WAY c = next-less _ c.before.if-pace-lt-LAST_WAY.true
+
 returns : tie.Need-returns
-returns c = none-less 1 _ _
+returns c = none-less 15 _ _
 
-add-next : tie.Need-overflow-add-next
-add-next c = let l = c.before.if2.true in omega arith
-
-returns-2 : tie.Need-returns-2
-returns-2 c = next-less _ c.before.if2.true
-
-returns-3 : tie.Need-returns-3
-returns-3 c = none-less 15 _ _
-
-pub failed-pace-spec : {M : Type 1} → statement M
-failed-pace-spec = tie.close (tie.spec returns add-next returns-2 returns-3)
+pub failed_pace_spec : {M : Type 1} → statement M
+failed_pace_spec = tie.close (tie.spec returns-then-pace overflow_add-next returns-then-pace-lt-LAST_WAY returns)

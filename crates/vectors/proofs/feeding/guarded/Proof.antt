@@ -15,14 +15,14 @@ use Rattle.vectors.specs.InnerVectors.{last_vector}
 use Rattle.vectors.proofs.feeding.guarded.Statement.{statement}
 use Rattle.vectors.proofs.feeding.guarded.Tie as tie
 
-abbrev invariant-loop : tie.invariant-loop
-invariant-loop s values start stride eight len t₀ turn₀ t turn =
+abbrev invariant-loop-turn : tie.invariant-loop-turn
+invariant-loop-turn s values start stride eight len t₀ turn₀ t turn =
     (turn ≤ 2)
-    × (turn ≡ 2 → NotYetNormalised s (strided values (to_z w64 start) (to_z w64 stride) len) t.lanes)
+    × (turn ≡ 2 → NotYetNormalised s (strided values (to_z w64 start) (to_z w64 stride) len) t.lanes-1)
     × (0 < turn → (t.done ≡ len) × (t.at ≡ last_vector (to_z w64 start) (to_z w64 stride) len))
 
-abbrev decreases-loop : tie.decreases-loop
-decreases-loop s values start stride eight len t₀ turn₀ t turn = 2 - turn
+abbrev decreases-loop-turn : tie.decreases-loop-turn
+decreases-loop-turn s values start stride eight len t₀ turn₀ t turn = 2 - turn
 
 -- no lane is past, or all vectors were split
 either : (a b : Bool) → b ≡ true → (a || b) ≡ true
@@ -32,69 +32,56 @@ either false b e = e
 all_split : (n : ℕ) (b : Bool) → n ≡ 1 → (eqb n 1 || b) ≡ true
 all_split n b e = ap (λ (k : ℕ). eqb k 1 || b) e
 
-loop-holds : tie.Need-loop-init invariant-loop decreases-loop
-loop-holds c = (omega arith, λ e. absurd (omega (arith, e)), λ h. absurd (omega (arith, h)))
+loop-turn-init : tie.Need-loop-turn-init invariant-loop-turn decreases-loop-turn
+loop-turn-init c = (omega arith, λ e. absurd (omega (arith, e)), λ h. absurd (omega (arith, h)))
 
-vectors-in-requires : tie.Need-vectors-in-requires invariant-loop decreases-loop
-vectors-in-requires c κs =
+vectors_in-t-requires : tie.Need-vectors_in-t-requires invariant-loop-turn decreases-loop-turn
+vectors_in-t-requires c κs =
     let s = c.before.before.before in
     simp (to_z-of_z w64 s.args.start s.ranges.start, to_z-of_z w64 s.args.stride s.ranges.stride, to_z-of_z w64 s.args.eight s.ranges.eight) s.requires
 
-add_turn : tie.Need-overflow-add-turn invariant-loop decreases-loop
-add_turn c = omega arith
+overflow_add-turn : tie.Need-overflow_add-turn invariant-loop-turn decreases-loop-turn
+overflow_add-turn c = omega arith
 
-none-past-requires : tie.Need-none-past-requires invariant-loop decreases-loop
-none-past-requires c κs = c.before.before.vectors-in.ensures.1.0
+none_past-requires : tie.Need-none_past-requires invariant-loop-turn decreases-loop-turn
+none_past-requires c κs = c.before.before.vectors_in-t.ensures.1.0
 
-loop-less : tie.Need-loop-smaller invariant-loop decreases-loop
-loop-less c = omega arith
+loop-turn-smaller-then-none_past : tie.Need-loop-turn-smaller-then-none_past invariant-loop-turn decreases-loop-turn
+loop-turn-smaller-then-none_past c = omega arith
 
-loop-again : tie.Need-loop-preserved invariant-loop decreases-loop
-loop-again c =
+loop-turn-preserved-then-none_past : tie.Need-loop-turn-preserved-then-none_past invariant-loop-turn decreases-loop-turn
+loop-turn-preserved-then-none_past c =
     let p = c.before in
     let r = p.before.before.before in (
       omega arith,
-      λ e. r.vectors-in.ensures.0
-          (either (eqb r.before.before.loop.turn 1) (every not_past r.vectors-in.result.lanes.m) (sym p.none-past.ensures ∙ c.if1.true)),
-      λ h. r.vectors-in.ensures.1.1,
+      λ e. r.vectors_in-t.ensures.0
+          (either (eqb r.before.before.loop-turn.turn 1) (every not_past r.vectors_in-t.result.lanes.m) (sym p.none_past.ensures ∙ c.if-none_past.true)),
+      λ h. r.vectors_in-t.ensures.1.1,
     )
 
-loop-less-2 : tie.Need-loop-smaller-2 invariant-loop decreases-loop
-loop-less-2 c = omega arith
+loop-turn-smaller : tie.Need-loop-turn-smaller invariant-loop-turn decreases-loop-turn
+loop-turn-smaller c = omega arith
 
-loop-again-2 : tie.Need-loop-preserved-2 invariant-loop decreases-loop
-loop-again-2 c =
+loop-turn-preserved : tie.Need-loop-turn-preserved invariant-loop-turn decreases-loop-turn
+loop-turn-preserved c =
     let r = c.before.before.before.before in
-    let n = r.before.before.loop.turn in (
+    let n = r.before.before.loop-turn.turn in (
       omega arith,
-      λ e. r.vectors-in.ensures.0 (all_split n (every not_past r.vectors-in.result.lanes.m) (let z : n ≡ 1 = omega (arith, e) in z)),
-      λ h. r.vectors-in.ensures.1.1,
+      λ e. r.vectors_in-t.ensures.0 (all_split n (every not_past r.vectors_in-t.result.lanes.m) (let z : n ≡ 1 = omega (arith, e) in z)),
+      λ h. r.vectors_in-t.ensures.1.1,
     )
 
-returns : tie.Need-returns invariant-loop decreases-loop
+returns : tie.Need-returns invariant-loop-turn decreases-loop-turn
 returns c =
     let t = c.before in
     let s = t.before.before in
-    let a = t.loop.invariant.0 in
-    let l = c.loop-test.false in
-    let e = t.loop.invariant.1 (omega arith) in
-    let p = t.loop.invariant.2 (omega arith) in (
+    let a = t.loop-turn.invariant.0 in
+    let l = c.loop-turn-test.false in
+    let e = t.loop-turn.invariant.1 (omega arith) in
+    let p = t.loop-turn.invariant.2 (omega arith) in (
       simp (to_z-of_z w64 s.args.start s.ranges.start, to_z-of_z w64 s.args.stride s.ranges.stride) at e,
       simp (to_z-of_z w64 s.args.start s.ranges.start, to_z-of_z w64 s.args.stride s.ranges.stride) at p,
     )
 
-pub guarded-spec : {M : Type 1} → statement M
-guarded-spec =
-    tie.close
-    (tie.spec
-    invariant-loop
-    decreases-loop
-    loop-holds
-    vectors-in-requires
-    add_turn
-    none-past-requires
-    loop-less
-    loop-again
-    loop-less-2
-    loop-again-2
-    returns)
+pub guarded_spec : {M : Type 1} → statement M
+guarded_spec = tie.close (tie.spec invariant-loop-turn decreases-loop-turn loop-turn-init vectors_in-t-requires overflow_add-turn none_past-requires loop-turn-smaller-then-none_past loop-turn-preserved-then-none_past loop-turn-smaller loop-turn-preserved returns)

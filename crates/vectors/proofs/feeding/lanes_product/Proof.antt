@@ -7,28 +7,27 @@ use Rattle.vectors.proofs.feeding.lanes_product.Tie as tie
 chain-requires : tie.Need-chain-requires
 chain-requires c κs = c.before.requires.1
 
-split-f64-requires : tie.Need-split-f64-requires
-split-f64-requires c κs = search rules
+split_f64-p-requires : tie.Need-split_f64-p-requires
+split_f64-p-requires c κs = search rules
 
-exponents-requires : tie.Need-exponents-requires
-exponents-requires c κs = c.before.before.before.requires.0
+exponents-e-requires : tie.Need-exponents-e-requires
+exponents-e-requires c κs = c.before.before.before.requires.0
 
-add-t7 : tie.Need-overflow-add-t7
-add-t7 c =
+overflow_add-result : tie.Need-overflow_add-result
+overflow_add-result c =
     let x = c.before.before in
     let p = x.before in
     let s = p.before.before.before in
-    product-fits s.args.s s.requires.0 x.exponents.result p.split-f64.result p.before.chain.result x.exponents.ensures
-    p.before.chain.ensures p.split-f64.ensures
+    product-fits s.args.s s.requires.0 x.exponents-e.result p.split_f64-p.result p.before.chain.result x.exponents-e.ensures
+    p.before.chain.ensures p.split_f64-p.ensures
 
 returns : tie.Need-returns
 returns c =
     let x = c.before.before in
     let p = x.before in
     let s = p.before.before.before in
-    lanes-product-is s.args.s s.requires.0 x.exponents.result p.split-f64.result p.before.chain.result x.exponents.ensures
-    p.before.chain.ensures p.split-f64.ensures
+    lanes-product-is s.args.s s.requires.0 x.exponents-e.result p.split_f64-p.result p.before.chain.result x.exponents-e.ensures
+    p.before.chain.ensures p.split_f64-p.ensures
 
-pub lanes-product-spec : {M : Type 1} → statement M
-lanes-product-spec =
-    tie.close (tie.spec chain-requires split-f64-requires exponents-requires add-t7 returns)
+pub lanes_product_spec : {M : Type 1} → statement M
+lanes_product_spec = tie.close (tie.spec chain-requires split_f64-p-requires exponents-e-requires overflow_add-result returns)

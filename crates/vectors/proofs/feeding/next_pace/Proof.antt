@@ -15,37 +15,37 @@ unfolding patience
 at_most zero way = omega arith
 at_most (suc hold) way = zero-le
 
-sub-next : tie.Need-overflow-sub-next
-sub-next c = positive _ c.before.if1.true
+overflow_sub-next : tie.Need-overflow_sub-next
+overflow_sub-next c = positive _ c.before.if-pace-ne0.true
   where
     positive : (n : ℕ) → (n ≡ 0 → ⊥) → 1 ≤ n
     positive n h = omega arith
 
-returns : tie.Need-returns
-returns c = (λ d h. absurd (c.before.if1.true h), at_most _ _)
+returns-then-pace-ne0 : tie.Need-returns-then-pace-ne0
+returns-then-pace-ne0 c = (λ d h. absurd (c.before.if-pace-ne0.true h), at_most _ _)
 
-failed-pace-requires : tie.Need-failed-pace-requires
-failed-pace-requires c κs = search rules
+failed_pace-requires : tie.Need-failed_pace-requires
+failed_pace-requires c κs = search rules
 
-returns-2 : tie.Need-returns-2
-returns-2 c =
+returns-then-done-eq0 : tie.Need-returns-then-done-eq0
+returns-then-done-eq0 c =
     let p = c.before.before.before.before.args.pace in (
-      λ d h. subst (λ (n : ℕ). patience c.failed-pace.result.hold c.failed-pace.result.way < patience n p.way) (sym h) c.failed-pace.ensures,
+      λ d h. subst (λ (n : ℕ). patience c.failed_pace.result.hold c.failed_pace.result.way < patience n p.way) (sym h) c.failed_pace.ensures,
       at_most _ _,
     )
 
-sub-next-2 : tie.Need-overflow-sub-next-2
-sub-next-2 c = some _ (and_both c.before.before.before.before.before.before.before.args.pace.rising _ c.before.if3.true).1
+overflow_sub-next-then-pace : tie.Need-overflow_sub-next-then-pace
+overflow_sub-next-then-pace c = some _ (and_both c.before.before.before.before.before.before.before.args.pace.rising _ c.before.if-pace.true).1
   where
     some : (n : ℕ) → not (eqb n 0) ≡ true → 1 ≤ n
     some zero h = absurd (true≢false (sym h))
     some (suc n) h = omega arith
 
-returns-3 : tie.Need-returns-3
-returns-3 c = (λ d h. absurd (c.before.before.before.before.if2.false d), at_most _ _)
+returns-then-pace : tie.Need-returns-then-pace
+returns-then-pace c = (λ d h. absurd (c.before.before.before.before.if-done-eq0.false d), at_most _ _)
 
-returns-4 : tie.Need-returns-4
-returns-4 c = (λ d h. absurd (c.before.before.before.if2.false d), at_most _ _)
+returns-else-pace : tie.Need-returns-else-pace
+returns-else-pace c = (λ d h. absurd (c.before.before.before.if-done-eq0.false d), at_most _ _)
 
-pub next-pace-spec : {M : Type 1} → statement M
-next-pace-spec = tie.close (tie.spec sub-next returns failed-pace-requires returns-2 sub-next-2 returns-3 returns-4)
+pub next_pace_spec : {M : Type 1} → statement M
+next_pace_spec = tie.close (tie.spec overflow_sub-next returns-then-pace-ne0 failed_pace-requires returns-then-done-eq0 overflow_sub-next-then-pace returns-then-pace returns-else-pace)

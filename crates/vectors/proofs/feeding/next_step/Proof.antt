@@ -46,27 +46,27 @@ guarded-progress left hold done e = record { upto = omega arith; vectors = go (l
     go true q = inr (all (ltb-true left 256 q))
     go false q = inl (block (ltb-false left 256 q))
 
-try-at-requires : tie.Need-try-at-requires
-try-at-requires c κs = search rules
+try_at-y-requires : tie.Need-try_at-y-requires
+try_at-y-requires c κs = search rules
 
-mul-min-usize : tie.Need-overflow-mul-min-usize
-mul-min-usize c = omega (arith, c.before.try-at.ensures.few)
+overflow_mul-y : tie.Need-overflow_mul-y
+overflow_mul-y c = omega (arith, c.before.try_at-y.ensures.few)
 
-min-usize-requires : tie.Need-min-usize-requires
-min-usize-requires c κs = search rules
+min_usize-n-requires : tie.Need-min_usize-n-requires
+min_usize-n-requires c κs = search rules
 
 tried-requires : tie.Need-tried-requires
 tried-requires c κs =
     let y = c.before.before in
     let s = y.before.before.before.before in
-    let e = c.min-usize.ensures in
+    let e = c.min_usize-n.ensures in
     simp (to_z-of_z w64 s.args.at s.ranges.at, to_z-of_z w64 s.args.stride s.ranges.stride, to_z-of_z w64 s.args.eight s.ranges.eight) (
       s.requires.0,
       s.requires.1,
-      y.try-at.ensures,
+      y.try_at-y.ensures,
       few _ _ _ e,
       λ l. s.requires.2 (omega (arith, l, within _ _ _ e)),
-      inside-less (length s.args.values.now) s.args.at s.args.stride s.args.left c.min-usize.result s.requires.3 (within _ _ _ e),
+      inside-less (length s.args.values.now) s.args.at s.args.stride s.args.left c.min_usize-n.result s.requires.3 (within _ _ _ e),
     )
   where
     few : (n m l : ℕ) → n ≡ min (8 * m) l → n ≤ 8 * m
@@ -75,33 +75,33 @@ tried-requires c κs =
     within : (n m l : ℕ) → n ≡ min (8 * m) l → n ≤ l
     within n m l e = omega arith
 
-returns : tie.Need-returns
-returns c =
+returns-then-pace-eq0 : tie.Need-returns-then-pace-eq0
+returns-then-pace-eq0 c =
     let q = c.before in
     let y = q.before.before in
     let t = y.before in
     let s = t.before.before.before in (
       simp (to_z-of_z w64 s.args.at s.ranges.at, to_z-of_z w64 s.args.stride s.ranges.stride) at c.tried.ensures.0,
       (
-        tried-progress s.args.left s.args.pace.hold y.try-at.result.most q.min-usize.result c.tried.result.done q.min-usize.ensures
-            t.if1.true c.tried.ensures.1.0,
+        tried-progress s.args.left s.args.pace.hold y.try_at-y.result.most q.min_usize-n.result c.tried.result.done q.min_usize-n.ensures
+            t.if-pace-eq0.true c.tried.ensures.1.0,
         simp (to_z-of_z w64 s.args.at s.ranges.at, to_z-of_z w64 s.args.stride s.ranges.stride) at c.tried.ensures.1.1,
       ),
     )
 
-min-usize-requires-2 : tie.Need-min-usize-requires-2
-min-usize-requires-2 c κs = search rules
+min_usize-n-requires-2 : tie.Need-min_usize-n-requires-2
+min_usize-n-requires-2 c κs = search rules
 
 guarded-requires : tie.Need-guarded-requires
 guarded-requires c κs =
     let s = c.before.before.before.before in
-    let e = c.min-usize2.ensures in
+    let e = c.min_usize-n-2.ensures in
     simp (to_z-of_z w64 s.args.at s.ranges.at, to_z-of_z w64 s.args.stride s.ranges.stride, to_z-of_z w64 s.args.eight s.ranges.eight) (
       s.requires.0,
       s.requires.1,
       few _ _ e,
       λ l. s.requires.2 (omega (arith, l, within _ _ e)),
-      inside-less (length s.args.values.now) s.args.at s.args.stride s.args.left c.min-usize2.result s.requires.3 (within _ _ e),
+      inside-less (length s.args.values.now) s.args.at s.args.stride s.args.left c.min_usize-n-2.result s.requires.3 (within _ _ e),
     )
   where
     few : (n l : ℕ) → n ≡ min 256 l → n ≤ 256
@@ -110,8 +110,8 @@ guarded-requires c κs =
     within : (n l : ℕ) → n ≡ min 256 l → n ≤ l
     within n l e = omega arith
 
-returns-2 : tie.Need-returns-2
-returns-2 c =
+returns : tie.Need-returns
+returns c =
     let q = c.before in
     let s = q.before.before.before.before in
     let n = c.guarded.ensures.1.0 in
@@ -119,20 +119,10 @@ returns-2 c =
     let p = simp (to_z-of_z w64 s.args.at s.ranges.at, to_z-of_z w64 s.args.stride s.ranges.stride) at c.guarded.ensures.1.1 in (
       subst (λ (k : ℕ). NotYetNormalised s.args.s (strided s.args.values.now s.args.at s.args.stride k) c.guarded.result.lanes) (sym n) e,
       (
-        guarded-progress s.args.left s.args.pace.hold c.guarded.result.done (n ∙ q.min-usize2.ensures),
+        guarded-progress s.args.left s.args.pace.hold c.guarded.result.done (n ∙ q.min_usize-n-2.ensures),
         p ∙ ap (last_vector s.args.at s.args.stride) (sym n),
       ),
     )
 
-pub next-step-spec : {M : Type 1} → statement M
-next-step-spec =
-    tie.close
-    (tie.spec
-    try-at-requires
-    mul-min-usize
-    min-usize-requires
-    tried-requires
-    returns
-    min-usize-requires-2
-    guarded-requires
-    returns-2)
+pub next_step_spec : {M : Type 1} → statement M
+next_step_spec = tie.close (tie.spec try_at-y-requires overflow_mul-y min_usize-n-requires tried-requires returns-then-pace-eq0 min_usize-n-requires-2 guarded-requires returns)

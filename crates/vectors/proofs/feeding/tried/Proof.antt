@@ -32,88 +32,79 @@ abbrev piece : tie.Start → List Float
 piece s = strided s.args.values.now s.args.start s.args.stride s.args.len
 
 -- the lanes after them, which began as those of the entry
-abbrev entry : tie.After-wait-values → tie.Start
+abbrev entry : tie.After-wait_values-r → tie.Start
 entry c = c.before.before.before
 
-waited : (c : tie.After-wait-values)
-    → let s = entry c in c.wait-values.result.lanes ≡ feed (wait_step s.args.y.signs) 0 (start_waiting s.args.s.m) (padded (piece s))
+waited : (c : tie.After-wait_values-r)
+    → let s = entry c in c.wait_values-r.result.lanes ≡ feed (wait_step s.args.y.signs) 0 (start_waiting s.args.s.m) (padded (piece s))
 waited c =
     let s = entry c in
-    simp (to_z-of_z w64 s.args.start s.fits.start, to_z-of_z w64 s.args.stride s.fits.stride) at c.wait-values.ensures.0
-    ∙ ap (λ (w : Waiting). feed (wait_step s.args.y.signs) 0 w (padded (piece s))) c.before.start-waiting.ensures
+    simp (to_z-of_z w64 s.args.start s.fits.start, to_z-of_z w64 s.args.stride s.fits.stride) at c.wait_values-r.ensures.0
+    ∙ ap (λ (w : Waiting). feed (wait_step s.args.y.signs) 0 w (padded (piece s))) c.before.start_waiting.ensures
 
-start-waiting-requires : tie.Need-start-waiting-requires
-start-waiting-requires c κs = search rules
+start_waiting-requires : tie.Need-start_waiting-requires
+start_waiting-requires c κs = search rules
 
-wait-values-requires : tie.Need-wait-values-requires
-wait-values-requires c κs =
+wait_values-r-requires : tie.Need-wait_values-r-requires
+wait_values-r-requires c κs =
     let s = c.before.before in
-    let e = c.start-waiting.ensures in
+    let e = c.start_waiting.ensures in
     simp (to_z-of_z w64 s.args.start s.ranges.start, to_z-of_z w64 s.args.stride s.ranges.stride, to_z-of_z w64 s.args.eight s.ranges.eight) (
-      ap (λ (w : Waiting). length w.m) e ∙ s.requires.1,
+      ap (λ (w : Waiting). length w.m-1) e ∙ s.requires.1,
       ap (λ (w : Waiting). length w.least) e ∙ length-replicate 8 one,
       s.requires.4,
       s.requires.5,
     )
 
-least-of-requires : tie.Need-least-of-requires
-least-of-requires c κs = let y = (entry c.before.before).requires.2 in (y.some, shallow _ _ y.room y.vectors)
+least_of-least-requires : tie.Need-least_of-least-requires
+least_of-least-requires c κs = let y = (entry c.before.before).requires.2 in (y.some, shallow _ _ y.room y.vectors)
 
-none-below-requires : tie.Need-none-below-requires
-none-below-requires c κs =
+none_below-requires : tie.Need-none_below-requires
+none_below-requires c κs =
     ap (λ (w : Waiting). length w.least) (waited c.before.before.before) ∙ wait-least-long _ 0 _ _ ∙ length-replicate 8 one
 
-none-past-requires : tie.Need-none-past-requires
-none-past-requires c κs =
-    let w = c.before.before.before.before in ap (λ (w : Waiting). length w.m) (waited w) ∙ wait-m-long _ 0 _ _ ∙ (entry w).requires.1
+none_past-requires : tie.Need-none_past-requires
+none_past-requires c κs =
+    let w = c.before.before.before.before in ap (λ (w : Waiting). length w.m-1) (waited w) ∙ wait-m-long _ 0 _ _ ∙ (entry w).requires.1
 
-returns : tie.Need-returns
-returns c =
+returns-then-none_below-none_past : tie.Need-returns-then-none_below-none_past
+returns-then-none_below-none_past c =
     let t = c.before.before.before in
     let p = t.before in
     let l = p.before.before in
     let w = l.before.before.before in
     let s = entry w in
     let y = s.args.y in
-    let Y = s.pre.2 in
-    let b = and_both _ _ t.if1.true in
+    let Y = s.requires.2 in
+    let b = and_both _ _ t.if-none_below-none_past.true in
     let r = subst (λ (u : Waiting).
-    let kept : Lanes = record { m = u.m; e = s.args.s.e; bad = s.args.s.bad } in
+    let kept : Lanes = record { m = u.m-1; e = s.args.s.e; bad = s.args.s.bad } in
     LanesAfter s.args.s (piece s) (renorm kept) × ((fs : List Factor) → LanesRepresent zeros s.args.s fs → NoneSubnormal kept)) (sym (waited w))
     (tried-fed y.signs y.depth y.most Y.some (shallow _ _ Y.room Y.vectors) Y.room s.args.s (piece s)
-    (strided-values s.args.values.now w.before.before.shared-slice-known.given s.args.start s.args.stride s.args.len)
-    (subst (λ (n : ℕ). n ≤ 8 * y.most) (sym (length-strided s.args.values.now s.args.start s.args.stride s.args.len)) s.pre.3)
+    (strided-values s.args.values.now w.before.before.shared_slice_known-1.given s.args.start s.args.stride s.args.len)
+    (subst (λ (n : ℕ). n ≤ 8 * y.most) (sym (length-strided s.args.values.now s.args.start s.args.stride s.args.len)) s.requires.3)
     (ap (λ (u : Waiting). every (not_below (least_of y.signs y.depth)) u.least) (sym (waited w))
-    ∙ ap (λ (z : Float). every (not_below z) w.wait-values.result.lanes.least) (sym l.least-of.ensures)
+    ∙ ap (λ (z : Float). every (not_below z) w.wait_values-r.result.lanes.least) (sym l.least_of-least.ensures)
     ∙ sym p.before.none_below.ensures
     ∙ b.0)
-    (ap (λ (u : Waiting). every not_past u.m) (sym (waited w)) ∙ sym p.none-past.ensures ∙ b.1)) in (
+    (ap (λ (u : Waiting). every not_past u.m-1) (sym (waited w)) ∙ sym p.none_past.ensures ∙ b.1)) in (
       record {
         fed = r.0;
-        small = record { at = λ k. (lanes-le (2 ^ 56) (2 ^ 59) s.args.s (lit≤ tt) s.pre.0).at k };
+        small = record { at = λ k. (lanes-le (2 ^ 56) (2 ^ 59) s.args.s (lit≤ tt) s.requires.0).at k };
         whole = r.1;
       },
       (
         inl refl,
-        to_z-of_z w64 _ (record { sfits = c.struct_told.given.1.0.1 })
-            ∙ simp (to_z-of_z w64 s.args.start s.fits.start, to_z-of_z w64 s.args.stride s.fits.stride) at w.wait-values.ensures.1,
+        to_z-of_z w64 _ (record { sfits = c.struct_told-1.given.1.0.1 })
+            ∙ simp (to_z-of_z w64 s.args.start s.fits.start, to_z-of_z w64 s.args.stride s.fits.stride) at w.wait_values-r.ensures.1,
       ),
     )
 
-returns-2 : tie.Need-returns-2
+returns : tie.Need-returns
 unfolding strided
-returns-2 c =
+returns c =
     let s = entry c.before.before.before.before.before.before in
-    (unmoved s.args.s s.pre.0, (inr refl, to_z-of_z w64 s.args.start s.fits.start ∙ place-first s.args.start s.args.stride))
+    (unmoved s.args.s s.requires.0, (inr refl, to_z-of_z w64 s.args.start s.fits.start ∙ place-first s.args.start s.args.stride))
 
-pub tried-spec : {M : Type 1} → statement M
-tried-spec =
-    tie.close
-    (tie.spec
-    start-waiting-requires
-    wait-values-requires
-    least-of-requires
-    none-below-requires
-    none-past-requires
-    returns
-    returns-2)
+pub tried_spec : {M : Type 1} → statement M
+tried_spec = tie.close (tie.spec start_waiting-requires wait_values-r-requires least_of-least-requires none_below-requires none_past-requires returns-then-none_below-none_past returns)

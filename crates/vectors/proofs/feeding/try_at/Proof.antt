@@ -3,20 +3,20 @@ use lib.Dec.{lit≤}
 use Rattle.vectors.proofs.feeding.try_at.Statement.{statement}
 use Rattle.vectors.proofs.feeding.try_at.Tie as tie
 
+returns-then-way-eq0 : tie.Need-returns-then-way-eq0
+returns-then-way-eq0 c = record { some = lit≤ tt; room = lit≤ tt; vectors = lit≤ tt; few = lit≤ tt }
+
+returns-then-way-eq-LAST_WAY : tie.Need-returns-then-way-eq-LAST_WAY
+returns-then-way-eq-LAST_WAY c = record { some = lit≤ tt; room = lit≤ tt; vectors = lit≤ tt; few = lit≤ tt }
+
+returns-then-way-eq0-2 : tie.Need-returns-then-way-eq0-2
+returns-then-way-eq0-2 c = record { some = lit≤ tt; room = lit≤ tt; vectors = lit≤ tt; few = lit≤ tt }
+
+returns-then-way-eq3 : tie.Need-returns-then-way-eq3
+returns-then-way-eq3 c = record { some = lit≤ tt; room = lit≤ tt; vectors = lit≤ tt; few = lit≤ tt }
+
 returns : tie.Need-returns
 returns c = record { some = lit≤ tt; room = lit≤ tt; vectors = lit≤ tt; few = lit≤ tt }
 
-returns-2 : tie.Need-returns-2
-returns-2 c = record { some = lit≤ tt; room = lit≤ tt; vectors = lit≤ tt; few = lit≤ tt }
-
-returns-3 : tie.Need-returns-3
-returns-3 c = record { some = lit≤ tt; room = lit≤ tt; vectors = lit≤ tt; few = lit≤ tt }
-
-returns-4 : tie.Need-returns-4
-returns-4 c = record { some = lit≤ tt; room = lit≤ tt; vectors = lit≤ tt; few = lit≤ tt }
-
-returns-5 : tie.Need-returns-5
-returns-5 c = record { some = lit≤ tt; room = lit≤ tt; vectors = lit≤ tt; few = lit≤ tt }
-
-pub try-at-spec : {M : Type 1} → statement M
-try-at-spec = tie.close (tie.spec returns returns-2 returns-3 returns-4 returns-5)
+pub try_at_spec : {M : Type 1} → statement M
+try_at_spec = tie.close (tie.spec returns-then-way-eq0 returns-then-way-eq-LAST_WAY returns-then-way-eq0-2 returns-then-way-eq3 returns)

@@ -24,99 +24,83 @@ use Rattle.vectors.proofs.Vectors.{plus, some-exponents-size, next-sum-fits, nex
 use Rattle.vectors.proofs.marked.product_before.Statement.{statement}
 use Rattle.vectors.proofs.marked.product_before.Tie as tie
 
-abbrev invariant-loop : tie.invariant-loop
-invariant-loop n s p₀ e₀ k₀ p e k = Worked (product-in s.m) n one p k × Worked (plus s) n (pos 0) (to_z w64 e) k
+abbrev invariant-loop-k : tie.invariant-loop-k
+invariant-loop-k n s p₀ e₀ k₀ p e k = Worked (product-in s.m) n one p k × Worked (plus s) n (pos 0) (to_z w64 e) k
 
-abbrev decreases-loop : tie.decreases-loop
-decreases-loop n s p₀ e₀ k₀ p e k = n - k
+abbrev decreases-loop-k : tie.decreases-loop-k
+decreases-loop-k n s p₀ e₀ k₀ p e k = n - k
 
-loop-holds : tie.Need-loop-init invariant-loop decreases-loop
+loop-k-init : tie.Need-loop-k-init invariant-loop-k decreases-loop-k
 unfolding of_bits
-loop-holds c = (worked-none refl, worked-none refl)
+loop-k-init c = (worked-none refl, worked-none refl)
 
-mul-p : tie.Need-overflow-mul-p invariant-loop decreases-loop
-mul-p c = omega arith
+offset_bounds-s-k : tie.Need-offset_bounds-s-k invariant-loop-k decreases-loop-k
+offset_bounds-s-k c = omega arith
 
-element-copy-out-p : tie.Need-element-copy-out-p invariant-loop decreases-loop
-element-copy-out-p c = let l = c.loop-test.true in omega (arith, c.before.before.requires.2)
+bounds-s-k : tie.Need-bounds-s-k invariant-loop-k decreases-loop-k
+bounds-s-k c = let l = c.loop-k-test.true in omega (arith, c.before.before.requires.2)
 
-mul-e : tie.Need-overflow-mul-e invariant-loop decreases-loop
-mul-e c = omega arith
+offset_bounds-s-k-in-loop-k : tie.Need-offset_bounds-s-k-in-loop-k invariant-loop-k decreases-loop-k
+offset_bounds-s-k-in-loop-k c = omega arith
 
-element-copy-out-e : tie.Need-element-copy-out-e invariant-loop decreases-loop
-element-copy-out-e c = let l = c.before.loop-test.true in omega (arith, c.before.before.before.requires.2)
+bounds-s-k-in-loop-k : tie.Need-bounds-s-k-in-loop-k invariant-loop-k decreases-loop-k
+bounds-s-k-in-loop-k c = let l = c.before.loop-k-test.true in omega (arith, c.before.before.before.requires.2)
 
 -- the exponents of k lanes, and a lane's, are far from the ends of i64
-so_far : (t : tie.At-loop invariant-loop decreases-loop) → nat_abs (to_z w64 t.loop.e) ≤ 2 ^ 61
+so_far : (t : tie.At-loop-k invariant-loop-k decreases-loop-k) → nat_abs (to_z w64 t.loop-k.e-bits) ≤ 2 ^ 61
 so_far t =
     let s = t.before in
-    subst (λ (z : ℤ). nat_abs z ≤ 2 ^ 61) (sym t.loop.invariant.1.is)
-    (le_trans (some-exponents-size (2 ^ 56) s.args.t1 s.requires.0 t.loop.k) (omega (arith, t.loop.invariant.1.upto, s.requires.2)))
+    subst (λ (z : ℤ). nat_abs z ≤ 2 ^ 61) (sym t.loop-k.invariant.1.is)
+    (le_trans (some-exponents-size (2 ^ 56) s.args.t1 s.requires.0 t.loop-k.k) (omega (arith, t.loop-k.invariant.1.upto, s.requires.2)))
 
-next : (t : tie.At-loop invariant-loop decreases-loop) → nat_abs (e_of t.before.args.t1 t.loop.k) ≤ 2 ^ 61
-next t = le_trans (t.before.requires.0.at t.loop.k) (lit≤ tt)
+next : (t : tie.At-loop-k invariant-loop-k decreases-loop-k) → nat_abs (e_of t.before.args.t1 t.loop-k.k) ≤ 2 ^ 61
+next t = le_trans (t.before.requires.0.at t.loop-k.k) (lit≤ tt)
 
-add-e : tie.Need-overflow-add-e invariant-loop decreases-loop
-add-e c =
+overflow_add-e : tie.Need-overflow_add-e invariant-loop-k decreases-loop-k
+overflow_add-e c =
     let t = c.before.before.before in
-    next-sum-fits (to_z w64 t.loop.e) (e_of t.before.args.t1 t.loop.k) (so_far t) (next t)
+    next-sum-fits (to_z w64 t.loop-k.e-bits) (e_of t.before.args.t1 t.loop-k.k) (so_far t) (next t)
 
-add-k : tie.Need-overflow-add-k invariant-loop decreases-loop
-add-k c = let t = c.before.before.before in let l = c.before.before.loop-test.true in omega (arith, t.before.requires.2)
+overflow_add-k : tie.Need-overflow_add-k invariant-loop-k decreases-loop-k
+overflow_add-k c = let t = c.before.before.before in let l = c.before.before.loop-k-test.true in omega (arith, t.before.requires.2)
 
-loop-less : tie.Need-loop-smaller invariant-loop decreases-loop
-loop-less c = omega arith
+loop-k-smaller : tie.Need-loop-k-smaller invariant-loop-k decreases-loop-k
+loop-k-smaller c = omega arith
 
-loop-again : tie.Need-loop-preserved invariant-loop decreases-loop
-loop-again c =
+loop-k-preserved : tie.Need-loop-k-preserved invariant-loop-k decreases-loop-k
+loop-k-preserved c =
     let t = c.before.before.before in
-    let l = c.before.before.loop-test.true in (
-      worked-more t.loop.invariant.0 l (mul-binary64 t.loop.p (m_of t.before.args.t1 t.loop.k)),
-      worked-more t.loop.invariant.1 l (next-sum-exact (to_z w64 t.loop.e) (e_of t.before.args.t1 t.loop.k) (so_far t) (next t)),
+    let l = c.before.before.loop-k-test.true in (
+      worked-more t.loop-k.invariant.0 l (mul-binary64 t.loop-k.p (m_of t.before.args.t1 t.loop-k.k)),
+      worked-more t.loop-k.invariant.1 l (next-sum-exact (to_z w64 t.loop-k.e-bits) (e_of t.before.args.t1 t.loop-k.k) (so_far t) (next t)),
     )
 
-split-f64-requires : tie.Need-split-f64-requires invariant-loop decreases-loop
-split-f64-requires c κs = search rules
+split_f64-q-requires : tie.Need-split_f64-q-requires invariant-loop-k decreases-loop-k
+split_f64-q-requires c κs = search rules
 
-split-within : (c : tie.After-split-f64 invariant-loop decreases-loop) → nat_abs c.split-f64.result.e ≤ 2 ^ 61
+split-within : (c : tie.After-split_f64-q invariant-loop-k decreases-loop-k) → nat_abs c.split_f64-q.result.e ≤ 2 ^ 61
 split-within c =
-    subst (λ (q : Split). nat_abs q.e ≤ 2 ^ 61) (sym c.split-f64.ensures) (le_trans (split-size c.before.before.loop.p) (lit≤ tt))
+    subst (λ (q : Split). nat_abs q.e-1 ≤ 2 ^ 61) (sym c.split_f64-q.ensures) (le_trans (split-size c.before.before.loop-k.p) (lit≤ tt))
 
-add-t16 : tie.Need-overflow-add-t16 invariant-loop decreases-loop
-add-t16 c =
+overflow_add-result : tie.Need-overflow_add-result invariant-loop-k decreases-loop-k
+overflow_add-result c =
     let f = c.before.before in
     let t = f.before.before in
-    next-sum-fits (to_z w64 t.loop.e) f.split-f64.result.e (so_far t) (split-within f)
+    next-sum-fits (to_z w64 t.loop-k.e-bits) f.split_f64-q.result.e (so_far t) (split-within f)
 
-returns : tie.Need-returns invariant-loop decreases-loop
+returns : tie.Need-returns invariant-loop-k decreases-loop-k
 unfolding product_before
 returns c =
     let f = c.before.before in
-    let l = f.before.loop-test.false in
+    let l = f.before.loop-k-test.false in
     let t = f.before.before in
     let s = t.before.args.t1 in
     let n = t.before.args.n in
-    let q = f.split-f64.result in
-    ap (λ (z : ℤ). record { m = q.m; e = z; bad = true }) (next-sum-exact (to_z w64 t.loop.e) q.e (so_far t) (split-within f))
-    ∙ ap (λ (z : ℤ). record { m = q.m; e = z +ℤ q.e; bad = true }) (worked-all t.loop.invariant.1 l)
-    ∙ ap (λ (r : Split). record { m = r.m; e = in_order (plus s) n (pos 0) +ℤ r.e; bad = true })
-    (f.split-f64.ensures ∙ ap split (worked-all t.loop.invariant.0 l))
+    let q = f.split_f64-q.result in
+    ap (λ (z : ℤ). record { m = q.m; e = z; bad = true }) (next-sum-exact (to_z w64 t.loop-k.e-bits) q.e-1 (so_far t) (split-within f))
+    ∙ ap (λ (z : ℤ). record { m = q.m; e = z +ℤ q.e-1; bad = true }) (worked-all t.loop-k.invariant.1 l)
+    ∙ ap (λ (r : Split). record { m = r.m; e = in_order (plus s) n (pos 0) +ℤ r.e-1; bad = true })
+    (f.split_f64-q.ensures ∙ ap split (worked-all t.loop-k.invariant.0 l))
 
-pub product-before-spec : {M : Type 1} → statement M
-product-before-spec =
-    tie.close
-    (tie.spec
-    invariant-loop
-    decreases-loop
-    loop-holds
-    mul-p
-    element-copy-out-p
-    mul-e
-    element-copy-out-e
-    add-e
-    add-k
-    loop-less
-    loop-again
-    split-f64-requires
-    add-t16
-    returns)
+pub product_before_spec : {M : Type 1} → statement M
+product_before_spec = tie.close (tie.spec invariant-loop-k decreases-loop-k loop-k-init offset_bounds-s-k bounds-s-k offset_bounds-s-k-in-loop-k bounds-s-k-in-loop-k overflow_add-e overflow_add-k loop-k-smaller loop-k-preserved split_f64-q-requires overflow_add-result returns)

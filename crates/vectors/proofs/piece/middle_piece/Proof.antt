@@ -25,57 +25,57 @@ use Rattle.vectors.proofs.Shorts.{short-product}
 use Rattle.vectors.proofs.piece.middle_piece.Statement.{statement}
 use Rattle.vectors.proofs.piece.middle_piece.Tie as tie
 
-returns : tie.Need-returns
-returns c h = absurd (true≢false (sym h))
+returns-then-len-gt-MOST_SHORT : tie.Need-returns-then-len-gt-MOST_SHORT
+returns-then-len-gt-MOST_SHORT c h = absurd (true≢false (sym h))
 
-start-lanes-requires : tie.Need-start-lanes-requires
-start-lanes-requires c κs = search rules
+start_lanes-requires : tie.Need-start_lanes-requires
+start_lanes-requires c κs = search rules
 
-start-waiting-requires : tie.Need-start-waiting-requires
-start-waiting-requires c κs = search rules
+start_waiting-t-requires : tie.Need-start_waiting-t-requires
+start_waiting-t-requires c κs = search rules
 
 -- the lanes that begin to wait
-begun : (c : tie.After-start-waiting) → c.start-waiting.result ≡ start_waiting (replicate 8 one)
-begun c = c.start-waiting.ensures ∙ ap (λ (s : Lanes). start_waiting s.m) c.before.start-lanes.ensures
+begun : (c : tie.After-start_waiting-t) → c.start_waiting-t.result ≡ start_waiting (replicate 8 one)
+begun c = c.start_waiting-t.ensures ∙ ap (λ (s : Lanes). start_waiting s.m) c.before.start_lanes.ensures
 
-wait-values-requires : tie.Need-wait-values-requires
-wait-values-requires c κs =
+wait_values-r-requires : tie.Need-wait_values-r-requires
+wait_values-r-requires c κs =
     let s = c.before.before.before.before in
     simp (to_z-of_z w64 s.args.start s.ranges.start, to_z-of_z w64 s.args.stride s.ranges.stride, to_z-of_z w64 s.args.eight s.ranges.eight)
     (ap (λ (w : Waiting). length w.m) (begun c), ap (λ (w : Waiting). length w.least) (begun c), s.requires.0, s.requires.1)
 
 -- the entry, and the values of the piece
-abbrev entry : tie.After-wait-values → tie.Start
+abbrev entry : tie.After-wait_values-r → tie.Start
 entry c = c.before.before.before.before.before
 
 abbrev piece : tie.Start → List Float
 piece s = strided s.args.values.now s.args.start s.args.stride s.args.len
 
 -- the lanes of the piece
-waited : (c : tie.After-wait-values) → c.wait-values.result.lanes ≡ feed (wait_step true) 0 (start_waiting (replicate 8 one)) (padded (piece (entry c)))
+waited : (c : tie.After-wait_values-r) → c.wait_values-r.result.lanes ≡ feed (wait_step true) 0 (start_waiting (replicate 8 one)) (padded (piece (entry c)))
 waited c =
     let s = entry c in
-    simp (to_z-of_z w64 s.args.start s.fits.start, to_z-of_z w64 s.args.stride s.fits.stride) at c.wait-values.ensures.0
+    simp (to_z-of_z w64 s.args.start s.fits.start, to_z-of_z w64 s.args.stride s.fits.stride) at c.wait_values-r.ensures.0
     ∙ ap (λ (w : Waiting). feed (wait_step true) 0 w (padded (piece s))) (begun c.before)
 
-short-least-requires : tie.Need-short-least-requires
-short-least-requires c κs = search rules
+short_least-least-requires : tie.Need-short_least-least-requires
+short_least-least-requires c κs = search rules
 
-chain-requires : tie.Need-chain-requires
-chain-requires c κs = ap (λ (w : Waiting). length w.m) (waited c.before.before.before) ∙ wait-m-long _ 0 (start_waiting (replicate 8 one)) _
+chain-p-requires : tie.Need-chain-p-requires
+chain-p-requires c κs = ap (λ (w : Waiting). length w.m) (waited c.before.before.before) ∙ wait-m-long _ 0 (start_waiting (replicate 8 one)) _
 
-split-fields-requires : tie.Need-split-fields-requires
-split-fields-requires c κs = search rules
+split_fields-q-requires : tie.Need-split_fields-q-requires
+split_fields-q-requires c κs = search rules
 
-not-past-requires : tie.Need-not-past-requires
-not-past-requires c κs = search rules
+not_past-requires : tie.Need-not_past-requires
+not_past-requires c κs = search rules
 
-none-below-requires : tie.Need-none-below-requires
-none-below-requires c κs =
+none_below-requires : tie.Need-none_below-requires
+none_below-requires c κs =
     ap (λ (w : Waiting). length w.least) (waited c.before.before.before.before.before.before) ∙ wait-least-long _ 0 (start_waiting (replicate 8 one)) _
 
-returns-2 : tie.Need-returns-2
-returns-2 c ok =
+returns : tie.Need-returns
+returns c ok =
     let b = c.before in
     let p = b.before in
     let f = p.before in
@@ -84,28 +84,16 @@ returns-2 c ok =
     let w = l.before.before in
     let e = w.before.before.before in
     let s = entry w in
-    let t = and_both p.not-past.result b.none_below.result ok in
-    let fits : SFits w64 f.split-fields.result.e = record { sfits = c.struct_told.given.1.0.1 } in
-    ap (λ (z : ℤ). record { m = f.split-fields.result.m; e = z; bad = false }) (to_z-of_z w64 f.split-fields.result.e fits)
+    let t = and_both p.not_past.result b.none_below.result ok in
+    let fits : SFits w64 f.split_fields-q.result.e = record { sfits = c.struct_told-1.given.1.0.1 } in
+    ap (λ (z : ℤ). record { m = f.split_fields-q.result.m; e = z; bad = false }) (to_z-of_z w64 f.split_fields-q.result.e fits)
     ∙ short-product true (piece s)
-    (strided-values s.args.values.now e.before.shared-slice-known.given s.args.start s.args.stride s.args.len) l.short-least.result
-    (subst (λ (n : ℕ). ShortLeast true n l.short-least.result)
-    (sym (length-strided s.args.values.now s.args.start s.args.stride s.args.len)) (l.short-least.ensures e.if1.false))
-    w.wait-values.result.lanes (waited w) f.split-fields.result
-    (subst (λ (y : Float). is_subnormal y ≡ false → f.split-fields.result ≡ split y) h.chain.ensures f.split-fields.ensures)
-    (sym b.none_below.ensures ∙ t.1) (ap not_past (sym h.chain.ensures) ∙ sym p.not-past.ensures ∙ t.0)
+    (strided-values s.args.values.now e.before.shared_slice_known-1.given s.args.start s.args.stride s.args.len) l.short_least-least.result
+    (subst (λ (n : ℕ). ShortLeast true n l.short_least-least.result)
+    (sym (length-strided s.args.values.now s.args.start s.args.stride s.args.len)) (l.short_least-least.ensures e.if-len-gt-MOST_SHORT.false))
+    w.wait_values-r.result.lanes (waited w) f.split_fields-q.result
+    (subst (λ (y : Float). is_subnormal y ≡ false → f.split_fields-q.result ≡ split y) h.chain-p.ensures f.split_fields-q.ensures)
+    (sym b.none_below.ensures ∙ t.1) (ap not_past (sym h.chain-p.ensures) ∙ sym p.not_past.ensures ∙ t.0)
 
-pub middle-piece-spec : {M : Type 1} → statement M
-middle-piece-spec =
-    tie.close
-    (tie.spec
-    returns
-    start-lanes-requires
-    start-waiting-requires
-    wait-values-requires
-    short-least-requires
-    chain-requires
-    split-fields-requires
-    not-past-requires
-    none-below-requires
-    returns-2)
+pub middle_piece_spec : {M : Type 1} → statement M
+middle_piece_spec = tie.close (tie.spec returns-then-len-gt-MOST_SHORT start_lanes-requires start_waiting-t-requires wait_values-r-requires short_least-least-requires chain-p-requires split_fields-q-requires not_past-requires none_below-requires returns)

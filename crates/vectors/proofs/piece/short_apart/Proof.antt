@@ -25,112 +25,98 @@ use Rattle.vectors.proofs.piece.short_apart.Tie as tie
 abbrev begun : Waiting
 begun = start_waiting (replicate 8 one)
 
-abbrev invariant-loop : tie.invariant-loop
-invariant-loop values start stride eight vectors lanes₀ at₀ next₀ left₀ lanes at next left = Walk false begun values (to_z w64 start) (to_z w64 stride) vectors lanes (to_z w64 at) (to_z w64 next) left
+abbrev invariant-loop-left : tie.invariant-loop-left
+invariant-loop-left values start stride eight vectors lanes₀ at₀ next₀ left₀ lanes at next left = Walk false begun values (to_z w64 start) (to_z w64 stride) vectors lanes (to_z w64 at) (to_z w64 next) left
 
-abbrev decreases-loop : tie.decreases-loop
-decreases-loop values start stride eight vectors lanes₀ at₀ next₀ left₀ lanes at next left = left
+abbrev decreases-loop-left : tie.decreases-loop-left
+decreases-loop-left values start stride eight vectors lanes₀ at₀ next₀ left₀ lanes at next left = left
 
-start-lanes-requires : tie.Need-start-lanes-requires invariant-loop decreases-loop
-start-lanes-requires c κs = search rules
+start_lanes-requires : tie.Need-start_lanes-requires invariant-loop-left decreases-loop-left
+start_lanes-requires c κs = search rules
 
-start-waiting-requires : tie.Need-start-waiting-requires invariant-loop decreases-loop
-start-waiting-requires c κs = search rules
+start_waiting-lanes-requires : tie.Need-start_waiting-lanes-requires invariant-loop-left decreases-loop-left
+start_waiting-lanes-requires c κs = search rules
 
 -- the entry: its values, and its numbers as the code holds them
-abbrev values : tie.Start invariant-loop decreases-loop → List Float
+abbrev values : tie.Start invariant-loop-left decreases-loop-left → List Float
 values s = s.args.values.now
 
-abbrev first : tie.Start invariant-loop decreases-loop → ℤ
+abbrev first : tie.Start invariant-loop-left decreases-loop-left → ℤ
 first s = to_z w64 (of_z w64 s.args.start)
 
-abbrev apart : tie.Start invariant-loop decreases-loop → ℤ
+abbrev apart : tie.Start invariant-loop-left decreases-loop-left → ℤ
 apart s = to_z w64 (of_z w64 s.args.stride)
 
-inside : (s : tie.Start invariant-loop decreases-loop) → PlacesInside (length (values s)) (first s) (apart s) (8 * s.args.vectors)
+inside : (s : tie.Start invariant-loop-left decreases-loop-left) → PlacesInside (length (values s)) (first s) (apart s) (8 * s.args.vectors)
 inside s = simp (to_z-of_z w64 s.args.start s.ranges.start, to_z-of_z w64 s.args.stride s.ranges.stride) s.requires.1
 
-eight_is : (s : tie.Start invariant-loop decreases-loop) → 8 < 8 * s.args.vectors → to_z w64 (of_z w64 s.args.eight) ≡ apart s *ℤ pos 8
+eight_is : (s : tie.Start invariant-loop-left decreases-loop-left) → 8 < 8 * s.args.vectors → to_z w64 (of_z w64 s.args.eight) ≡ apart s *ℤ pos 8
 eight_is s l = simp (to_z-of_z w64 s.args.stride s.ranges.stride, to_z-of_z w64 s.args.eight s.ranges.eight) (s.requires.0 l)
 
-loop-holds : tie.Need-loop-init invariant-loop decreases-loop
-loop-holds c =
+loop-left-init : tie.Need-loop-left-init invariant-loop-left decreases-loop-left
+loop-left-init c =
     let s = c.before.before.before in
     subst (λ (w : Waiting). Walk false begun (values s) (first s) (apart s) s.args.vectors w (first s) (first s) s.args.vectors)
-    (sym (c.start-waiting.ensures ∙ ap (λ (l : Lanes). start_waiting l.m) c.before.start-lanes.ensures))
+    (sym (c.start_waiting-lanes.ensures ∙ ap (λ (l : Lanes). start_waiting l.m) c.before.start_lanes.ensures))
     (walk-begin false begun (values s) (first s) (apart s) s.args.vectors)
 
 -- a turn of the loop
-abbrev entry : tie.At-loop invariant-loop decreases-loop → tie.Start invariant-loop decreases-loop
+abbrev entry : tie.At-loop-left invariant-loop-left decreases-loop-left → tie.Start invariant-loop-left decreases-loop-left
 entry t = t.before.before.before.before
 
-vector-of-requires : tie.Need-vector-of-requires invariant-loop decreases-loop
-vector-of-requires c κs = let t = c.before in (omega arith, walk_inside _ _ _ _ _ _ _ _ _ _ t.loop.invariant c.loop-test.true (inside (entry t)))
+vector_of-vector-requires : tie.Need-vector_of-vector-requires invariant-loop-left decreases-loop-left
+vector_of-vector-requires c κs = let t = c.before in (omega arith, walk_inside _ _ _ _ _ _ _ _ _ _ t.loop-left.invariant c.loop-left-test.true (inside (entry t)))
 
-wait-vector-requires : tie.Need-wait-vector-requires invariant-loop decreases-loop
-wait-vector-requires c κs =
+wait_vector-lanes-requires : tie.Need-wait_vector-lanes-requires invariant-loop-left decreases-loop-left
+wait_vector-lanes-requires c κs =
     let t = c.before.before in
-    (walk-m-long _ _ _ _ _ _ _ _ _ _ t.loop.invariant refl, walk-least-long _ _ _ _ _ _ _ _ _ _ t.loop.invariant refl, ap length c.vector-of.ensures ∙ vector-long _)
+    (walk-m-long _ _ _ _ _ _ _ _ _ _ t.loop-left.invariant refl, walk-least-long _ _ _ _ _ _ _ _ _ _ t.loop-left.invariant refl, ap length c.vector_of-vector.ensures ∙ vector-long _)
 
-sub-left : tie.Need-overflow-sub-left invariant-loop decreases-loop
-sub-left c = omega arith
+overflow_sub-left : tie.Need-overflow_sub-left invariant-loop-left decreases-loop-left
+overflow_sub-left c = omega arith
 
 -- the place of the next vector, of those that are left
-next-place-requires : tie.Need-next-place-requires invariant-loop decreases-loop
-next-place-requires c κs l =
+next_place-next-requires : tie.Need-next_place-next-requires invariant-loop-left decreases-loop-left
+next_place-next-requires c κs l =
     let i = c.before.before in
     let t = i.before in
     let s = entry t in
-    let u = t.loop.invariant.upto in
-    subst (λ (z : ℤ). PlacesFit (to_z w64 t.loop.next) z (t.loop.left - 1 + 1)) (sym (eight_is s (omega arith)))
-    (λ k b. walk-fits _ _ _ _ _ _ _ _ _ _ t.loop.invariant i.loop-test.true (inside s) (omega (arith, s.good.0.1)) k (let h : k < t.loop.left = omega arith in h))
+    let u = t.loop-left.invariant.upto in
+    subst (λ (z : ℤ). PlacesFit (to_z w64 t.loop-left.next-bits) z (t.loop-left.left - 1 + 1)) (sym (eight_is s (omega arith)))
+    (λ k b. walk-fits _ _ _ _ _ _ _ _ _ _ t.loop-left.invariant i.loop-left-test.true (inside s) (omega (arith, s.well_formed.0.1)) k (let h : k < t.loop-left.left = omega arith in h))
 
 -- the vector is in
-fed : (c : tie.After-wait-vector invariant-loop decreases-loop) → let t = c.before.before.before in
-    c.wait-vector.result ≡ feed (wait_step false) 0 t.loop.lanes (strided (values (entry t)) (to_z w64 t.loop.next) (apart (entry t)) 8)
+fed : (c : tie.After-wait_vector-lanes invariant-loop-left decreases-loop-left) → let t = c.before.before.before in
+    c.wait_vector-lanes.result ≡ feed (wait_step false) 0 t.loop-left.lanes (strided (values (entry t)) (to_z w64 t.loop-left.next-bits) (apart (entry t)) 8)
 fed c =
     let t = c.before.before.before in
     let s = entry t in
-    c.wait-vector.ensures ∙ ap (feed (wait_step false) 0 t.loop.lanes) (c.before.vector-of.ensures ∙ vector-whole (values s) (to_z w64 t.loop.next) (apart s))
+    c.wait_vector-lanes.ensures ∙ ap (feed (wait_step false) 0 t.loop-left.lanes) (c.before.vector_of-vector.ensures ∙ vector-whole (values s) (to_z w64 t.loop-left.next-bits) (apart s))
 
-loop-less : tie.Need-loop-smaller invariant-loop decreases-loop
-loop-less c = omega arith
+loop-left-smaller : tie.Need-loop-left-smaller invariant-loop-left decreases-loop-left
+loop-left-smaller c = omega arith
 
-loop-again : tie.Need-loop-preserved invariant-loop decreases-loop
-loop-again c =
+loop-left-preserved : tie.Need-loop-left-preserved invariant-loop-left decreases-loop-left
+loop-left-preserved c =
     let w = c.before in
     let i = w.before.before in
     let t = i.before in
     let s = entry t in
-    let u = t.loop.invariant.upto in
-    walk_step _ _ _ _ _ _ _ _ _ _ t.loop.invariant _ _ i.loop-test.true (fed w)
+    let u = t.loop-left.invariant.upto in
+    walk_step _ _ _ _ _ _ _ _ _ _ t.loop-left.invariant _ _ i.loop-left-test.true (fed w)
     (λ h.
-    to_z-of_z w64 c.next_place.result (record { sfits = c.next_place.type-inv })
-    ∙ c.next_place.ensures.0 h
-    ∙ ap (λ (z : ℤ). to_z w64 t.loop.next +ℤ z) (eight_is s (omega arith)))
+    to_z-of_z w64 c.next_place-next.result (record { sfits = c.next_place-next.type_inv })
+    ∙ c.next_place-next.ensures.0 h
+    ∙ ap (λ (z : ℤ). to_z w64 t.loop-left.next-bits +ℤ z) (eight_is s (omega arith)))
 
-returns : tie.Need-returns invariant-loop decreases-loop
+returns : tie.Need-returns invariant-loop-left decreases-loop-left
 returns c =
     let t = c.before in
     let s = entry t in
-    let z : t.loop.left ≡ 0 = (let l = c.loop-test.false in omega arith) in
-    let e = walk-fed _ _ _ _ _ _ _ _ _ _ t.loop.invariant z in
-    let p = walk-last _ _ _ _ _ _ _ _ _ _ t.loop.invariant z in
+    let z : t.loop-left.left ≡ 0 = (let l = c.loop-left-test.false in omega arith) in
+    let e = walk-fed _ _ _ _ _ _ _ _ _ _ t.loop-left.invariant z in
+    let p = walk-last _ _ _ _ _ _ _ _ _ _ t.loop-left.invariant z in
     (simp (to_z-of_z w64 s.args.start s.fits.start, to_z-of_z w64 s.args.stride s.fits.stride) at e, simp (to_z-of_z w64 s.args.start s.fits.start, to_z-of_z w64 s.args.stride s.fits.stride) at p)
 
-pub short-apart-spec : {M : Type 1} → statement M
-short-apart-spec =
-    tie.close
-    (tie.spec
-    invariant-loop
-    decreases-loop
-    start-lanes-requires
-    start-waiting-requires
-    loop-holds
-    vector-of-requires
-    wait-vector-requires
-    sub-left
-    next-place-requires
-    loop-less
-    loop-again
-    returns)
+pub short_apart_spec : {M : Type 1} → statement M
+short_apart_spec = tie.close (tie.spec invariant-loop-left decreases-loop-left start_lanes-requires start_waiting-lanes-requires loop-left-init vector_of-vector-requires wait_vector-lanes-requires overflow_sub-left next_place-next-requires loop-left-smaller loop-left-preserved returns)

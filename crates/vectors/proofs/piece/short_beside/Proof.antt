@@ -24,102 +24,88 @@ use Rattle.vectors.proofs.piece.short_beside.Tie as tie
 abbrev begun : Waiting
 begun = start_waiting (replicate 8 one)
 
-abbrev invariant-loop : tie.invariant-loop
-invariant-loop values start vectors lanes₀ at₀ next₀ left₀ lanes at next left = Walk false begun values (to_z w64 start) (pos 1) vectors lanes (to_z w64 at) (to_z w64 next) left
+abbrev invariant-loop-left : tie.invariant-loop-left
+invariant-loop-left values start vectors lanes₀ at₀ next₀ left₀ lanes at next left = Walk false begun values (to_z w64 start) (pos 1) vectors lanes (to_z w64 at) (to_z w64 next) left
 
-abbrev decreases-loop : tie.decreases-loop
-decreases-loop values start vectors lanes₀ at₀ next₀ left₀ lanes at next left = left
+abbrev decreases-loop-left : tie.decreases-loop-left
+decreases-loop-left values start vectors lanes₀ at₀ next₀ left₀ lanes at next left = left
 
-start-lanes-requires : tie.Need-start-lanes-requires invariant-loop decreases-loop
-start-lanes-requires c κs = search rules
+start_lanes-requires : tie.Need-start_lanes-requires invariant-loop-left decreases-loop-left
+start_lanes-requires c κs = search rules
 
-start-waiting-requires : tie.Need-start-waiting-requires invariant-loop decreases-loop
-start-waiting-requires c κs = search rules
+start_waiting-lanes-requires : tie.Need-start_waiting-lanes-requires invariant-loop-left decreases-loop-left
+start_waiting-lanes-requires c κs = search rules
 
 -- the entry: its values, and its numbers as the code holds them
-abbrev values : tie.Start invariant-loop decreases-loop → List Float
+abbrev values : tie.Start invariant-loop-left decreases-loop-left → List Float
 values s = s.args.values.now
 
-abbrev first : tie.Start invariant-loop decreases-loop → ℤ
+abbrev first : tie.Start invariant-loop-left decreases-loop-left → ℤ
 first s = to_z w64 (of_z w64 s.args.start)
 
-inside : (s : tie.Start invariant-loop decreases-loop) → PlacesInside (length (values s)) (first s) (pos 1) (8 * s.args.vectors)
+inside : (s : tie.Start invariant-loop-left decreases-loop-left) → PlacesInside (length (values s)) (first s) (pos 1) (8 * s.args.vectors)
 inside s = simp (to_z-of_z w64 s.args.start s.ranges.start) s.requires
 
-loop-holds : tie.Need-loop-init invariant-loop decreases-loop
-loop-holds c =
+loop-left-init : tie.Need-loop-left-init invariant-loop-left decreases-loop-left
+loop-left-init c =
     let s = c.before.before.before in
     subst (λ (w : Waiting). Walk false begun (values s) (first s) (pos 1) s.args.vectors w (first s) (first s) s.args.vectors)
-    (sym (c.start-waiting.ensures ∙ ap (λ (l : Lanes). start_waiting l.m) c.before.start-lanes.ensures))
+    (sym (c.start_waiting-lanes.ensures ∙ ap (λ (l : Lanes). start_waiting l.m) c.before.start_lanes.ensures))
     (walk-begin false begun (values s) (first s) (pos 1) s.args.vectors)
 
 -- a turn of the loop
-abbrev entry : tie.At-loop invariant-loop decreases-loop → tie.Start invariant-loop decreases-loop
+abbrev entry : tie.At-loop-left invariant-loop-left decreases-loop-left → tie.Start invariant-loop-left decreases-loop-left
 entry t = t.before.before.before.before
 
-vector-beside-requires : tie.Need-vector-beside-requires invariant-loop decreases-loop
-vector-beside-requires c κs = let t = c.before in walk_inside _ _ _ _ _ _ _ _ _ _ t.loop.invariant c.loop-test.true (inside (entry t))
+vector_beside-vector-requires : tie.Need-vector_beside-vector-requires invariant-loop-left decreases-loop-left
+vector_beside-vector-requires c κs = let t = c.before in walk_inside _ _ _ _ _ _ _ _ _ _ t.loop-left.invariant c.loop-left-test.true (inside (entry t))
 
-wait-vector-requires : tie.Need-wait-vector-requires invariant-loop decreases-loop
-wait-vector-requires c κs =
+wait_vector-lanes-requires : tie.Need-wait_vector-lanes-requires invariant-loop-left decreases-loop-left
+wait_vector-lanes-requires c κs =
     let t = c.before.before in
-    (walk-m-long _ _ _ _ _ _ _ _ _ _ t.loop.invariant refl, walk-least-long _ _ _ _ _ _ _ _ _ _ t.loop.invariant refl, ap length c.vector-beside.ensures ∙ length-strided _ _ _ 8)
+    (walk-m-long _ _ _ _ _ _ _ _ _ _ t.loop-left.invariant refl, walk-least-long _ _ _ _ _ _ _ _ _ _ t.loop-left.invariant refl, ap length c.vector_beside-vector.ensures ∙ length-strided _ _ _ 8)
 
-sub-left : tie.Need-overflow-sub-left invariant-loop decreases-loop
-sub-left c = omega arith
+overflow_sub-left : tie.Need-overflow_sub-left invariant-loop-left decreases-loop-left
+overflow_sub-left c = omega arith
 
 -- the place of the next vector, of those that are left
-next-place-requires : tie.Need-next-place-requires invariant-loop decreases-loop
-next-place-requires c κs l =
+next_place-next-requires : tie.Need-next_place-next-requires invariant-loop-left decreases-loop-left
+next_place-next-requires c κs l =
     let i = c.before.before in
     let t = i.before in
     let s = entry t in
-    let u = t.loop.invariant.upto in
-    λ k b. walk-fits _ _ _ _ _ _ _ _ _ _ t.loop.invariant i.loop-test.true (inside s) (omega (arith, s.good.0.1)) k (let h : k < t.loop.left = omega arith in h)
+    let u = t.loop-left.invariant.upto in
+    λ k b. walk-fits _ _ _ _ _ _ _ _ _ _ t.loop-left.invariant i.loop-left-test.true (inside s) (omega (arith, s.well_formed.0.1)) k (let h : k < t.loop-left.left = omega arith in h)
 
 -- the vector is in
-fed : (c : tie.After-wait-vector invariant-loop decreases-loop) → let t = c.before.before.before in
-    c.wait-vector.result ≡ feed (wait_step false) 0 t.loop.lanes (strided (values (entry t)) (to_z w64 t.loop.next) (pos 1) 8)
+fed : (c : tie.After-wait_vector-lanes invariant-loop-left decreases-loop-left) → let t = c.before.before.before in
+    c.wait_vector-lanes.result ≡ feed (wait_step false) 0 t.loop-left.lanes (strided (values (entry t)) (to_z w64 t.loop-left.next-bits) (pos 1) 8)
 fed c =
     let t = c.before.before.before in
     let s = entry t in
-    c.wait-vector.ensures ∙ ap (feed (wait_step false) 0 t.loop.lanes) c.before.vector-beside.ensures
+    c.wait_vector-lanes.ensures ∙ ap (feed (wait_step false) 0 t.loop-left.lanes) c.before.vector_beside-vector.ensures
 
-loop-less : tie.Need-loop-smaller invariant-loop decreases-loop
-loop-less c = omega arith
+loop-left-smaller : tie.Need-loop-left-smaller invariant-loop-left decreases-loop-left
+loop-left-smaller c = omega arith
 
-loop-again : tie.Need-loop-preserved invariant-loop decreases-loop
-loop-again c =
+loop-left-preserved : tie.Need-loop-left-preserved invariant-loop-left decreases-loop-left
+loop-left-preserved c =
     let w = c.before in
     let i = w.before.before in
     let t = i.before in
     let s = entry t in
-    let u = t.loop.invariant.upto in
-    walk_step _ _ _ _ _ _ _ _ _ _ t.loop.invariant _ _ i.loop-test.true (fed w)
-    (λ h. to_z-of_z w64 c.next_place.result (record { sfits = c.next_place.type-inv }) ∙ c.next_place.ensures.0 h)
+    let u = t.loop-left.invariant.upto in
+    walk_step _ _ _ _ _ _ _ _ _ _ t.loop-left.invariant _ _ i.loop-left-test.true (fed w)
+    (λ h. to_z-of_z w64 c.next_place-next.result (record { sfits = c.next_place-next.type_inv }) ∙ c.next_place-next.ensures.0 h)
 
-returns : tie.Need-returns invariant-loop decreases-loop
+returns : tie.Need-returns invariant-loop-left decreases-loop-left
 returns c =
     let t = c.before in
     let s = entry t in
-    let z : t.loop.left ≡ 0 = (let l = c.loop-test.false in omega arith) in
-    let e = walk-fed _ _ _ _ _ _ _ _ _ _ t.loop.invariant z in
-    let p = walk-last _ _ _ _ _ _ _ _ _ _ t.loop.invariant z in
+    let z : t.loop-left.left ≡ 0 = (let l = c.loop-left-test.false in omega arith) in
+    let e = walk-fed _ _ _ _ _ _ _ _ _ _ t.loop-left.invariant z in
+    let p = walk-last _ _ _ _ _ _ _ _ _ _ t.loop-left.invariant z in
     (simp (to_z-of_z w64 s.args.start s.fits.start) at e, simp (to_z-of_z w64 s.args.start s.fits.start) at p)
 
-pub short-beside-spec : {M : Type 1} → statement M
-short-beside-spec =
-    tie.close
-    (tie.spec
-    invariant-loop
-    decreases-loop
-    start-lanes-requires
-    start-waiting-requires
-    loop-holds
-    vector-beside-requires
-    wait-vector-requires
-    sub-left
-    next-place-requires
-    loop-less
-    loop-again
-    returns)
+pub short_beside_spec : {M : Type 1} → statement M
+short_beside_spec = tie.close (tie.spec invariant-loop-left decreases-loop-left start_lanes-requires start_waiting-lanes-requires loop-left-init vector_beside-vector-requires wait_vector-lanes-requires overflow_sub-left next_place-next-requires loop-left-smaller loop-left-preserved returns)

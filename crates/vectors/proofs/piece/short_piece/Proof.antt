@@ -28,49 +28,49 @@ use Rattle.vectors.proofs.Shorts.{short-product}
 use Rattle.vectors.proofs.piece.short_piece.Statement.{statement}
 use Rattle.vectors.proofs.piece.short_piece.Tie as tie
 
-far-stride-requires : tie.Need-far-stride-requires
-far-stride-requires c κs =
+far_stride-eight-requires : tie.Need-far_stride-eight-requires
+far_stride-eight-requires c κs =
     let s = c.before in (
       lit≤ tt,
       λ l. simp (to_z-of_z w64 s.args.stride s.ranges.stride)
-          (step_fits (length s.args.values.now) s.args.start s.args.stride s.args.len s.requires.0 8 l (omega (arith, s.well-formed.0.1))),
+          (step_fits (length s.args.values.now) s.args.start s.args.stride s.args.len s.requires.0 8 l (omega (arith, s.well_formed.0.1))),
     )
 
 -- the stride of eight values, as the code holds it
-eight : (c : tie.After-far-stride) → let s = c.before.before in EightApart s.args.stride s.args.len (to_z w64 (of_z w64 c.far-stride.result))
+eight : (c : tie.After-far_stride-eight) → let s = c.before.before in EightApart s.args.stride s.args.len (to_z w64 (of_z w64 c.far_stride-eight.result))
 eight c l =
     let s = c.before.before in
-    to_z-of_z w64 _ (record { sfits = c.far-stride.type-inv }) ∙ simp (to_z-of_z w64 s.args.stride s.ranges.stride) at (c.far-stride.ensures l)
+    to_z-of_z w64 _ (record { sfits = c.far_stride-eight.type_inv }) ∙ simp (to_z-of_z w64 s.args.stride s.ranges.stride) at (c.far_stride-eight.ensures l)
 
-short-lanes-requires : tie.Need-short-lanes-requires
-short-lanes-requires c κs =
+short_lanes-w-requires : tie.Need-short_lanes-w-requires
+short_lanes-w-requires c κs =
     let s = c.before.before in
     simp (to_z-of_z w64 s.args.start s.ranges.start, to_z-of_z w64 s.args.stride s.ranges.stride) (eight c, s.requires.0)
 
 -- the entry, and the values of the piece
-abbrev entry : tie.After-short-lanes → tie.Start
+abbrev entry : tie.After-short_lanes-w → tie.Start
 entry c = c.before.before.before
 
 abbrev piece : tie.Start → List Float
 piece s = strided s.args.values.now s.args.start s.args.stride s.args.len
 
 -- the lanes of the piece
-waited : (c : tie.After-short-lanes) → c.short-lanes.result ≡ feed (wait_step false) 0 (start_waiting (replicate 8 one)) (padded (piece (entry c)))
+waited : (c : tie.After-short_lanes-w) → c.short_lanes-w.result ≡ feed (wait_step false) 0 (start_waiting (replicate 8 one)) (padded (piece (entry c)))
 waited c =
-    let s = entry c in simp (to_z-of_z w64 s.args.start s.fits.start, to_z-of_z w64 s.args.stride s.fits.stride) at c.short-lanes.ensures
+    let s = entry c in simp (to_z-of_z w64 s.args.start s.fits.start, to_z-of_z w64 s.args.stride s.fits.stride) at c.short_lanes-w.ensures
 
-chain-requires : tie.Need-chain-requires
-chain-requires c κs = ap (λ (w : Waiting). length w.m) (waited c.before) ∙ wait-m-long _ 0 (start_waiting (replicate 8 one)) _
+chain-p-requires : tie.Need-chain-p-requires
+chain-p-requires c κs = ap (λ (w : Waiting). length w.m) (waited c.before) ∙ wait-m-long _ 0 (start_waiting (replicate 8 one)) _
 
-split-fields-requires : tie.Need-split-fields-requires
-split-fields-requires c κs = search rules
+split_fields-q-requires : tie.Need-split_fields-q-requires
+split_fields-q-requires c κs = search rules
 
-none-below-requires : tie.Need-none-below-requires
-none-below-requires c κs =
+none_below-requires : tie.Need-none_below-requires
+none_below-requires c κs =
     ap (λ (w : Waiting). length w.least) (waited c.before.before.before) ∙ wait-least-long _ 0 (start_waiting (replicate 8 one)) _
 
-not-past-requires : tie.Need-not-past-requires
-not-past-requires c κs = search rules
+not_past-requires : tie.Need-not_past-requires
+not_past-requires c κs = search rules
 
 returns : tie.Need-returns
 returns c ok =
@@ -80,15 +80,15 @@ returns c ok =
     let h = f.before in
     let w = h.before.before in
     let s = entry w in
-    let t = and_both b.none_below.result p.not-past.result ok in
-    let fits : SFits w64 f.split-fields.result.e = record { sfits = c.struct_told.given.1.0.1 } in
-    ap (λ (z : ℤ). record { m = f.split-fields.result.m; e = z; bad = false }) (to_z-of_z w64 f.split-fields.result.e fits)
-    ∙ short-product false (piece s) (strided-values s.args.values.now w.before.before.shared-slice-known.given s.args.start s.args.stride s.args.len)
+    let t = and_both b.none_below.result p.not_past.result ok in
+    let fits : SFits w64 f.split_fields-q.result.e = record { sfits = c.struct_told-1.given.1.0.1 } in
+    ap (λ (z : ℤ). record { m = f.split_fields-q.result.m; e = z; bad = false }) (to_z-of_z w64 f.split_fields-q.result.e fits)
+    ∙ short-product false (piece s) (strided-values s.args.values.now w.before.before.shared_slice_known-1.given s.args.start s.args.stride s.args.len)
     s.args.least
-    (subst (λ (n : ℕ). ShortLeast false n s.args.least) (sym (length-strided s.args.values.now s.args.start s.args.stride s.args.len)) s.pre.1)
-    w.short-lanes.result (waited w) f.split-fields.result
-    (subst (λ (y : Float). is_subnormal y ≡ false → f.split-fields.result ≡ split y) h.chain.ensures f.split-fields.ensures)
-    (sym b.none_below.ensures ∙ t.0) (ap not_past (sym h.chain.ensures) ∙ sym p.not-past.ensures ∙ t.1)
+    (subst (λ (n : ℕ). ShortLeast false n s.args.least) (sym (length-strided s.args.values.now s.args.start s.args.stride s.args.len)) s.requires.1)
+    w.short_lanes-w.result (waited w) f.split_fields-q.result
+    (subst (λ (y : Float). is_subnormal y ≡ false → f.split_fields-q.result ≡ split y) h.chain-p.ensures f.split_fields-q.ensures)
+    (sym b.none_below.ensures ∙ t.0) (ap not_past (sym h.chain-p.ensures) ∙ sym p.not_past.ensures ∙ t.1)
 
-pub short-piece-spec : {M : Type 1} → statement M
-short-piece-spec = tie.close (tie.spec far-stride-requires short-lanes-requires chain-requires split-fields-requires none-below-requires not-past-requires returns)
+pub short_piece_spec : {M : Type 1} → statement M
+short_piece_spec = tie.close (tie.spec far_stride-eight-requires short_lanes-w-requires chain-p-requires split_fields-q-requires none_below-requires not_past-requires returns)

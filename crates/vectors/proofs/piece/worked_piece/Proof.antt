@@ -33,129 +33,116 @@ use Rattle.vectors.proofs.piece.worked_piece.Tie as tie
 abbrev piece : tie.Start → List Float
 piece s = strided s.args.values.now s.args.start s.args.stride s.args.len
 
-values : (c : tie.After-shared-slice-known) → Each Value (piece c.before)
-values c = let s = c.before in strided-values s.args.values.now c.shared-slice-known.given s.args.start s.args.stride s.args.len
+values : (c : tie.After-shared_slice_known-1) → Each Value (piece c.before)
+values c = let s = c.before in strided-values s.args.values.now c.shared_slice_known-1.given s.args.start s.args.stride s.args.len
 
-far-stride-requires : tie.Need-far-stride-requires
-far-stride-requires c κs =
+far_stride-eight-requires : tie.Need-far_stride-eight-requires
+far_stride-eight-requires c κs =
     let s = c.before in (
       lit≤ tt,
       λ l. simp (to_z-of_z w64 s.args.stride s.ranges.stride)
-          (step_fits (length s.args.values.now) s.args.start s.args.stride s.args.len s.requires.2 8 l (omega (arith, s.well-formed.0.1))),
+          (step_fits (length s.args.values.now) s.args.start s.args.stride s.args.len s.requires.2 8 l (omega (arith, s.well_formed.0.1))),
     )
 
 -- the stride of eight values, as the code holds it
-eight : (c : tie.After-far-stride) → let s = c.before.before in EightApart s.args.stride s.args.len (to_z w64 (of_z w64 c.far-stride.result))
+eight : (c : tie.After-far_stride-eight) → let s = c.before.before in EightApart s.args.stride s.args.len (to_z w64 (of_z w64 c.far_stride-eight.result))
 eight c l =
     let s = c.before.before in
-    to_z-of_z w64 _ (record { sfits = c.far-stride.type-inv }) ∙ simp (to_z-of_z w64 s.args.stride s.ranges.stride) at (c.far-stride.ensures l)
+    to_z-of_z w64 _ (record { sfits = c.far_stride-eight.type_inv }) ∙ simp (to_z-of_z w64 s.args.stride s.ranges.stride) at (c.far_stride-eight.ensures l)
 
-middle-piece-requires : tie.Need-middle-piece-requires
-middle-piece-requires c κs =
+middle_piece-q-requires : tie.Need-middle_piece-q-requires
+middle_piece-q-requires c κs =
     let s = c.before.before in
     simp (to_z-of_z w64 s.args.start s.ranges.start, to_z-of_z w64 s.args.stride s.ranges.stride) (eight c, s.requires.2)
 
-returns : tie.Need-returns
-returns c =
+returns-then-q : tie.Need-returns-then-q
+returns-then-q c =
     let t = c.before in
     let r = t.before in
     let k = r.before.before in
     let s = k.before in
-    let fits : SFits w64 r.middle-piece.result.e = record { sfits = c.struct_told.given.1.1.0.1 } in
+    let fits : SFits w64 r.middle_piece-q.result.e = record { sfits = c.struct_told-1.given.1.1.0.1 } in
     let e =
-    simp (to_z-of_z w64 s.args.start s.ranges.start, to_z-of_z w64 s.args.stride s.ranges.stride) at (r.middle-piece.ensures t.if1.true) in
-    ap (λ (z : ℤ). record { m = r.middle-piece.result.m; e = z; bad = false }) (to_z-of_z w64 r.middle-piece.result.e fits)
+    simp (to_z-of_z w64 s.args.start s.ranges.start, to_z-of_z w64 s.args.stride s.ranges.stride) at (r.middle_piece-q.ensures t.if-q.true) in
+    ap (λ (z : ℤ). record { m = r.middle_piece-q.result.m; e = z; bad = false }) (to_z-of_z w64 r.middle_piece-q.result.e fits)
     ∙ e
     ∙ unmarked-worked s.args.in_blocks (piece s) (values k) (ap (λ (a : StableProductFloatAcc). a.bad) (sym e))
 
-soon-bad-requires : tie.Need-soon-bad-requires
-soon-bad-requires c κs =
+soon_bad-requires : tie.Need-soon_bad-requires
+soon_bad-requires c κs =
     let f = c.before.before.before in
     let s = f.before.before in
     simp (to_z-of_z w64 s.args.start s.ranges.start, to_z-of_z w64 s.args.stride s.ranges.stride) (eight f, s.requires.2)
 
-returns-2 : tie.Need-returns-2
+returns-then-soon_bad : tie.Need-returns-then-soon_bad
 unfolding of_bits
-returns-2 c =
+returns-then-soon_bad c =
     let f = c.before in
     let k = f.before.before.before.before.before in
     let s = k.before in
-    stepped-worked s.args.in_blocks (piece s) _ f.before.if2.true
+    stepped-worked s.args.in_blocks (piece s) _ f.before.if-not-in_blocks.true-raw
     (sym
     (stepped-first (piece s) (values k)
-    (simp (to_z-of_z w64 s.args.start s.ranges.start, to_z-of_z w64 s.args.stride s.ranges.stride) at (f.soon-bad.ensures c.if3.true))))
+    (simp (to_z-of_z w64 s.args.start s.ranges.start, to_z-of_z w64 s.args.stride s.ranges.stride) at (f.soon_bad.ensures c.if-soon_bad.true))))
 
-fed-lanes-requires : tie.Need-fed-lanes-requires
-fed-lanes-requires c κs =
+fed_lanes-s-requires : tie.Need-fed_lanes-s-requires
+fed_lanes-s-requires c κs =
     let f = c.before.before.before in
     let s = f.before.before in
     simp (to_z-of_z w64 s.args.start s.ranges.start, to_z-of_z w64 s.args.stride s.ranges.stride) (s.requires.1, eight f, s.requires.2)
 
 -- what the function was called with, from where its lanes are fed
-abbrev entry : tie.After-fed-lanes → tie.Start
+abbrev entry : tie.After-fed_lanes-s → tie.Start
 entry f = f.before.before.before.before.before.before
 
 -- the lanes of the piece
-fed : (f : tie.After-fed-lanes) → LanesAfter start_lanes (piece (entry f)) f.fed-lanes.result
+fed : (f : tie.After-fed_lanes-s) → LanesAfter start_lanes (piece (entry f)) f.fed_lanes-s.result
 fed f =
     let s = entry f in
-    simp (to_z-of_z w64 s.args.start s.fits.start, to_z-of_z w64 s.args.stride s.fits.stride) at f.fed-lanes.ensures
+    simp (to_z-of_z w64 s.args.start s.fits.start, to_z-of_z w64 s.args.stride s.fits.stride) at f.fed_lanes-s.ensures
 
-small : (f : tie.After-fed-lanes) → SmallLanes (2 ^ 56) f.fed-lanes.result
+small : (f : tie.After-fed_lanes-s) → SmallLanes (2 ^ 56) f.fed_lanes-s.result
 small f =
     let s = entry f in
-    vectors-small s.args.values.now s.args.start s.args.stride s.args.len f.fed-lanes.result s.pre.1 (fed f)
+    vectors-small s.args.values.now s.args.start s.args.stride s.args.len f.fed_lanes-s.result s.requires.1 (fed f)
 
-first-bad-requires : tie.Need-first-bad-requires
-first-bad-requires c κs = search rules
+first_bad-first-requires : tie.Need-first_bad-first-requires
+first_bad-first-requires c κs = search rules
 
 -- the first lane that met a bad value
-first : (c : tie.After-first-bad) → c.first-bad.result ≡ first_bad (piece (entry c.before.before.before))
+first : (c : tie.After-first_bad-first) → c.first_bad-first.result ≡ first_bad (piece (entry c.before.before.before))
 first c =
     let s = entry c.before.before.before in
-    simp (to_z-of_z w64 s.args.start s.fits.start, to_z-of_z w64 s.args.stride s.fits.stride) at c.first-bad.ensures
+    simp (to_z-of_z w64 s.args.start s.fits.start, to_z-of_z w64 s.args.stride s.fits.stride) at c.first_bad-first.ensures
 
-product-before-requires : tie.Need-product-before-requires
-product-before-requires c κs =
+product_before-requires : tie.Need-product_before-requires
+product_before-requires c κs =
     let f = c.before.before.before in (
       small f,
-      fed-eight _ f.fed-lanes.result (fed f),
+      fed-eight _ f.fed_lanes-s.result (fed f),
       subst (λ (k : ℕ). k ≤ 8) (sym (first c)) (first-few _ (values f.before.before.before.before.before)),
     )
 
-returns-3 : tie.Need-returns-3
-returns-3 c =
+returns-then-in_blocks-s : tie.Need-returns-then-in_blocks-s
+returns-then-in_blocks-s c =
     let q = c.before in
     let f = q.before.before.before in
     let s = entry f in
-    let t = and_both (not s.args.in_blocks) f.fed-lanes.result.bad q.before.if4.true in
+    let t = and_both (not s.args.in_blocks) f.fed_lanes-s.result.bad q.before.if-in_blocks-s.true in
     stepped-worked s.args.in_blocks (piece s) _ t.0
-    (c.product-before.ensures
-    ∙ ap (product_before f.fed-lanes.result) (first q)
-    ∙ stepped-marked (piece s) (values f.before.before.before.before.before) f.fed-lanes.result (fed f) t.1)
+    (c.product_before.ensures
+    ∙ ap (product_before f.fed_lanes-s.result) (first q)
+    ∙ stepped-marked (piece s) (values f.before.before.before.before.before) f.fed_lanes-s.result (fed f) t.1)
 
-lanes-product-requires : tie.Need-lanes-product-requires
-lanes-product-requires c κs = let f = c.before.before in (small f, fed-eight _ f.fed-lanes.result (fed f))
+lanes_product-requires : tie.Need-lanes_product-requires
+lanes_product-requires c κs = let f = c.before.before in (small f, fed-eight _ f.fed_lanes-s.result (fed f))
 
-returns-4 : tie.Need-returns-4
-returns-4 c =
+returns : tie.Need-returns
+returns c =
     let f = c.before.before.before in
     let s = entry f in
-    c.lanes-product.ensures
-    ∙ fed-worked s.args.in_blocks (piece s) f.fed-lanes.result (fed f) (values f.before.before.before.before.before) c.before.if4.false
+    c.lanes_product.ensures
+    ∙ fed-worked s.args.in_blocks (piece s) f.fed_lanes-s.result (fed f) (values f.before.before.before.before.before) c.before.if-in_blocks-s.false
 
-pub worked-piece-spec : {M : Type 1} → statement M
-worked-piece-spec =
-    tie.close
-    (tie.spec
-    far-stride-requires
-    middle-piece-requires
-    returns
-    soon-bad-requires
-    returns-2
-    fed-lanes-requires
-    first-bad-requires
-    product-before-requires
-    returns-3
-    lanes-product-requires
-    returns-4)
+pub worked_piece_spec : {M : Type 1} → statement M
+worked_piece_spec = tie.close (tie.spec far_stride-eight-requires middle_piece-q-requires returns-then-q soon_bad-requires returns-then-soon_bad fed_lanes-s-requires first_bad-first-requires product_before-requires returns-then-in_blocks-s lanes_product-requires returns)

@@ -8,5 +8,5 @@ returns : tie.Need-returns
 unfolding of_bits
 returns c = refl
 
-pub start-waiting-spec : {M : Type 1} → statement M
-start-waiting-spec = tie.close (tie.spec returns)
+pub start_waiting_spec : {M : Type 1} → statement M
+start_waiting_spec = tie.close (tie.spec returns)

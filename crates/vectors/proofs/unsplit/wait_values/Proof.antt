@@ -22,7 +22,7 @@ use Rattle.vectors.proofs.unsplit.wait_values.Statement.{statement}
 use Rattle.vectors.proofs.unsplit.wait_values.Tie as tie
 
 -- the entry, how far the whole vectors go, and the values of the vectors and those that are left
-abbrev entry : tie.After-wait-vectors → tie.Start
+abbrev entry : tie.After-wait_vectors-r → tie.Start
 entry c = c.before.before
 
 abbrev whole : tie.Start → ℕ
@@ -34,8 +34,8 @@ rest s = s.args.start +ℤ s.args.stride *ℤ pos (whole s)
 abbrev values : tie.Start → List Float
 values s = strided s.args.values.now s.args.start s.args.stride (whole s)
 
-wait-vectors-requires : tie.Need-wait-vectors-requires
-wait-vectors-requires c κs =
+wait_vectors-r-requires : tie.Need-wait_vectors-r-requires
+wait_vectors-r-requires c κs =
     let s = c.before in
     simp (to_z-of_z w64 s.args.start s.ranges.start, to_z-of_z w64 s.args.stride s.ranges.stride, to_z-of_z w64 s.args.eight s.ranges.eight) (
       s.requires.0,
@@ -45,75 +45,75 @@ wait-vectors-requires c κs =
     )
 
 -- the whole vectors, and where the last of them begins
-vectors : (c : tie.After-wait-vectors) → let s = entry c in c.wait-vectors.result.lanes ≡ feed (wait_step s.args.signs) 0 s.args.w (values s)
-vectors c = let s = entry c in simp (to_z-of_z w64 s.args.start s.fits.start, to_z-of_z w64 s.args.stride s.fits.stride) at c.wait-vectors.ensures.0
+vectors : (c : tie.After-wait_vectors-r) → let s = entry c in c.wait_vectors-r.result.lanes ≡ feed (wait_step s.args.signs) 0 s.args.w (values s)
+vectors c = let s = entry c in simp (to_z-of_z w64 s.args.start s.fits.start, to_z-of_z w64 s.args.stride s.fits.stride) at c.wait_vectors-r.ensures.0
 
-last : (c : tie.After-wait-vectors) → let s = entry c in c.wait-vectors.result.at ≡ last_vector s.args.start s.args.stride (whole s)
-last c = let s = entry c in simp (to_z-of_z w64 s.args.start s.fits.start, to_z-of_z w64 s.args.stride s.fits.stride) at c.wait-vectors.ensures.1
+last : (c : tie.After-wait_vectors-r) → let s = entry c in c.wait_vectors-r.result.at ≡ last_vector s.args.start s.args.stride (whole s)
+last c = let s = entry c in simp (to_z-of_z w64 s.args.start s.fits.start, to_z-of_z w64 s.args.stride s.fits.stride) at c.wait_vectors-r.ensures.1
 
-returns : tie.Need-returns
-returns c =
+returns-then-rest-eq0 : tie.Need-returns-then-rest-eq0
+returns-then-rest-eq0 c =
     let s = entry c.before in (
       vectors c.before
           ∙ ap (feed (wait_step s.args.signs) 0 s.args.w)
-          (vectors-padded s.args.values.now s.args.start s.args.stride s.args.len c.if1.true),
-      last c.before ∙ ap (last_vector s.args.start s.args.stride) (let e : whole s ≡ s.args.len = omega (arith, c.if1.true) in e),
+          (vectors-padded s.args.values.now s.args.start s.args.stride s.args.len c.if-rest-eq0.true),
+      last c.before ∙ ap (last_vector s.args.start s.args.stride) (let e : whole s ≡ s.args.len = omega (arith, c.if-rest-eq0.true) in e),
     )
 
 -- ---- values are left
-held : (c : tie.After-struct-told) → let at = c.before.before.wait-vectors.result.at in to_z w64 (of_z w64 at) ≡ at
-held c = to_z-of_z w64 _ (record { sfits = c.struct_told.given.1.0.1 })
+held : (c : tie.After-struct_told-1) → let at = c.before.before.wait_vectors-r.result.at in to_z w64 (of_z w64 at) ≡ at
+held c = to_z-of_z w64 _ (record { sfits = c.struct_told-1.given.1.0.1 })
 
-behind-requires : tie.Need-behind-requires
-behind-requires c κs l =
+behind-at-requires : tie.Need-behind-at-requires
+behind-at-requires c κs l =
     let g = c.before.before in
     let s = entry g in
     let xs = s.args.values.now in
     let some : 0 < whole s = omega arith in
-    let left : whole s < s.args.len = omega (arith, c.before.if1.false) in
+    let left : whole s < s.args.len = omega (arith, c.before.if-rest-eq0.false) in
     subst (λ (z : ℤ). PlacesFit z (to_z w64 (of_z w64 s.args.eight)) 2) (sym (held c))
-    (subst (λ (z : ℤ). PlacesFit g.wait-vectors.result.at z 2) (sym (to_z-of_z w64 s.args.eight s.fits.eight))
-    (behind-fits s.args.start s.args.stride g.wait-vectors.result.at s.args.eight (whole s) (omega arith) (last g) (length xs) s.args.len
-    s.pre.3 (omega (arith, s.good.1.1)) left some (s.pre.2 (omega arith))))
+    (subst (λ (z : ℤ). PlacesFit g.wait_vectors-r.result.at z 2) (sym (to_z-of_z w64 s.args.eight s.fits.eight))
+    (behind-fits s.args.start s.args.stride g.wait_vectors-r.result.at s.args.eight (whole s) (omega arith) (last g) (length xs) s.args.len
+    s.requires.3 (omega (arith, s.well_formed.1.1)) left some (s.requires.2 (omega arith))))
 
 -- where they begin
-at-is : (c : tie.After-behind) → to_z w64 (of_z w64 c.behind.result) ≡ rest (entry c.before.before.before)
+at-is : (c : tie.After-behind-at) → to_z w64 (of_z w64 c.behind-at.result) ≡ rest (entry c.before.before.before)
 at-is c =
     let q = c.before in
     let g = q.before.before in
     let s = entry g in
-    let left : whole s < s.args.len = omega (arith, q.before.if1.false) in
-    to_z-of_z w64 c.behind.result (record { sfits = c.behind.type-inv })
-    ∙ behind-is s.args.start s.args.stride g.wait-vectors.result.at s.args.eight (whole s) (omega arith) (last g) c.behind.result
-    (λ h. c.behind.ensures.0 (omega arith) ∙ held q)
+    let left : whole s < s.args.len = omega (arith, q.before.if-rest-eq0.false) in
+    to_z-of_z w64 c.behind-at.result (record { sfits = c.behind-at.type_inv })
+    ∙ behind-is s.args.start s.args.stride g.wait_vectors-r.result.at s.args.eight (whole s) (omega arith) (last g) c.behind-at.result
+    (λ h. c.behind-at.ensures.0 (omega arith) ∙ held q)
     (λ h.
-    c.behind.ensures.1 (omega arith)
+    c.behind-at.ensures.1 (omega arith)
     ∙ ap (λ (z : ℤ). z +ℤ to_z w64 (of_z w64 s.args.eight)) (held q)
-    ∙ ap (λ (z : ℤ). g.wait-vectors.result.at +ℤ z) (to_z-of_z w64 s.args.eight s.fits.eight))
-    (λ h. s.pre.2 (omega arith))
+    ∙ ap (λ (z : ℤ). g.wait_vectors-r.result.at +ℤ z) (to_z-of_z w64 s.args.eight s.fits.eight))
+    (λ h. s.requires.2 (omega arith))
 
-vector-of-requires : tie.Need-vector-of-requires
-vector-of-requires c κs =
+vector_of-vector-requires : tie.Need-vector_of-vector-requires
+vector_of-vector-requires c κs =
     let s = entry c.before.before.before in
     let l = length s.args.values.now in
     let n = s.args.len in (
       omega arith,
       subst (λ (z : ℤ). PlacesInside l z (to_z w64 (of_z w64 s.args.stride)) (n % 8)) (sym (at-is c))
           (subst (λ (z : ℤ). PlacesInside l (rest s) z (n % 8)) (sym (to_z-of_z w64 s.args.stride s.fits.stride))
-          (inside-part l s.args.start s.args.stride n (whole s) (n % 8) s.pre.3 (omega arith))),
+          (inside-part l s.args.start s.args.stride n (whole s) (n % 8) s.requires.3 (omega arith))),
     )
 
-wait-vector-requires : tie.Need-wait-vector-requires
-wait-vector-requires c κs =
+wait_vector-lanes-requires : tie.Need-wait_vector-lanes-requires
+wait_vector-lanes-requires c κs =
     let t = c.before.before.before.before in
     let s = entry t in (
-      ap (λ (w : Waiting). length w.m) (vectors t) ∙ wait-m-long s.args.signs 0 s.args.w _ ∙ s.pre.0,
-      ap (λ (w : Waiting). length w.least) (vectors t) ∙ wait-least-long s.args.signs 0 s.args.w _ ∙ s.pre.1,
-      ap length c.vector-of.ensures ∙ vector-long _,
+      ap (λ (w : Waiting). length w.m) (vectors t) ∙ wait-m-long s.args.signs 0 s.args.w _ ∙ s.requires.0,
+      ap (λ (w : Waiting). length w.least) (vectors t) ∙ wait-least-long s.args.signs 0 s.args.w _ ∙ s.requires.1,
+      ap length c.vector_of-vector.ensures ∙ vector-long _,
     )
 
-returns-2 : tie.Need-returns-2
-returns-2 c =
+returns : tie.Need-returns
+returns c =
     let p = c.before.before in
     let q = p.before.before in
     let t = q.before in
@@ -121,14 +121,14 @@ returns-2 c =
     let n = s.args.len in
     let xs = s.args.values.now in
     let vector =
-    c.before.vector-of.ensures
+    c.before.vector_of-vector.ensures
     ∙ ap (λ (z : ℤ). vector_of (strided xs z (to_z w64 (of_z w64 s.args.stride)) (n % 8))) (at-is p)
     ∙ ap (λ (z : ℤ). vector_of (strided xs (rest s) z (n % 8))) (to_z-of_z w64 s.args.stride s.fits.stride) in
-    let left = q.if1.false in (
-      rest-fed s.args.signs s.args.w xs s.args.start s.args.stride n t.wait-vectors.result.lanes c.wait-vector.result q.if1.false (vectors t)
-          (c.wait-vector.ensures ∙ ap (feed (wait_step s.args.signs) 0 t.wait-vectors.result.lanes) vector),
+    let left = q.if-rest-eq0.false in (
+      rest-fed s.args.signs s.args.w xs s.args.start s.args.stride n t.wait_vectors-r.result.lanes c.wait_vector-lanes.result q.if-rest-eq0.false (vectors t)
+          (c.wait_vector-lanes.ensures ∙ ap (feed (wait_step s.args.signs) 0 t.wait_vectors-r.result.lanes) vector),
       at-is p ∙ ap (λ (k : ℕ). s.args.start +ℤ s.args.stride *ℤ pos k) (let e : whole s ≡ 8 * ((n - 1) / 8) = omega arith in e),
     )
 
-pub wait-values-spec : {M : Type 1} → statement M
-wait-values-spec = tie.close (tie.spec wait-vectors-requires returns behind-requires vector-of-requires wait-vector-requires returns-2)
+pub wait_values_spec : {M : Type 1} → statement M
+wait_values_spec = tie.close (tie.spec wait_vectors-r-requires returns-then-rest-eq0 behind-at-requires vector_of-vector-requires wait_vector-lanes-requires returns)

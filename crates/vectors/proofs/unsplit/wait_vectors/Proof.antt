@@ -15,11 +15,11 @@ use Rattle.vectors.proofs.unsplit.wait_vectors.Statement.{statement}
 use Rattle.vectors.proofs.unsplit.wait_vectors.Tie as tie
 
 -- at stride 1 the vectors lie side by side
-beside : (c : tie.Then1) → c.before.before.args.stride ≡ pos 1
-beside c = same_bits _ (pos 1) c.before.before.ranges.stride (pos-fits 1 (omega arith)) c.if1.true
+beside : (c : tie.Then-stride-eq1) → c.before.before.args.stride ≡ pos 1
+beside c = same_bits _ (pos 1) c.before.before.ranges.stride (pos-fits 1 (omega arith)) c.if-stride-eq1.true
 
-wait-beside-requires : tie.Need-wait-beside-requires
-wait-beside-requires c κs =
+wait_beside-requires : tie.Need-wait_beside-requires
+wait_beside-requires c κs =
     let s = c.before.before in
     simp (to_z-of_z w64 s.args.start s.ranges.start) (
       s.requires.0,
@@ -27,26 +27,26 @@ wait-beside-requires c κs =
       subst (λ (d : ℤ). PlacesInside (length s.args.values.now) s.args.start d (8 * s.args.vectors)) (beside c) s.requires.3,
     )
 
-returns : tie.Need-returns
-returns c =
+returns-then-stride-eq1 : tie.Need-returns-then-stride-eq1
+returns-then-stride-eq1 c =
     let t = c.before in
     let s = t.before.before in (
-      simp (to_z-of_z w64 s.args.start s.ranges.start) at c.wait-beside.ensures.0
+      simp (to_z-of_z w64 s.args.start s.ranges.start) at c.wait_beside.ensures.0
           ∙ ap (λ (d : ℤ). feed (wait_step s.args.signs) 0 s.args.w (strided s.args.values.now s.args.start d (8 * s.args.vectors)))
           (sym (beside t)),
-      simp (to_z-of_z w64 s.args.start s.ranges.start) at c.wait-beside.ensures.1
+      simp (to_z-of_z w64 s.args.start s.ranges.start) at c.wait_beside.ensures.1
           ∙ ap (λ (d : ℤ). last_vector s.args.start d (8 * s.args.vectors)) (sym (beside t)),
     )
 
-wait-apart-requires : tie.Need-wait-apart-requires
-wait-apart-requires c κs =
+wait_apart-requires : tie.Need-wait_apart-requires
+wait_apart-requires c κs =
     let s = c.before.before in
     simp (to_z-of_z w64 s.args.start s.ranges.start, to_z-of_z w64 s.args.stride s.ranges.stride, to_z-of_z w64 s.args.eight s.ranges.eight) s.requires
 
-returns-2 : tie.Need-returns-2
-returns-2 c =
+returns : tie.Need-returns
+returns c =
     let s = c.before.before.before in
-    simp (to_z-of_z w64 s.args.start s.ranges.start, to_z-of_z w64 s.args.stride s.ranges.stride) at c.wait-apart.ensures
+    simp (to_z-of_z w64 s.args.start s.ranges.start, to_z-of_z w64 s.args.stride s.ranges.stride) at c.wait_apart.ensures
 
-pub wait-vectors-spec : {M : Type 1} → statement M
-wait-vectors-spec = tie.close (tie.spec wait-beside-requires returns wait-apart-requires returns-2)
+pub wait_vectors_spec : {M : Type 1} → statement M
+wait_vectors_spec = tie.close (tie.spec wait_beside-requires returns-then-stride-eq1 wait_apart-requires returns)

@@ -13,5 +13,5 @@ magnitude-requires c κs = search rules
 returns : tie.Need-returns
 returns c = lowest-test c.magnitude.result ∙ ap (λ (y : Float). lt y LOWEST) c.magnitude.ensures
 
-pub below-normal-spec : {M : Type 1} → statement M
-below-normal-spec = tie.close (tie.spec magnitude-requires returns)
+pub below_normal_spec : {M : Type 1} → statement M
+below_normal_spec = tie.close (tie.spec magnitude-requires returns)

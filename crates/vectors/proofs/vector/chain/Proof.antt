@@ -16,47 +16,36 @@ use Rattle.vectors.proofs.vector.chain.Tie as tie
 abbrev link : List Float → ℕ → Float → Float
 link v k p = product_of 11 52 p (get_or v k nan)
 
-abbrev invariant-loop : tie.invariant-loop
-invariant-loop vector p₀ k₀ p k = Worked (link vector.v) 8 one p k
+abbrev invariant-loop-k : tie.invariant-loop-k
+invariant-loop-k vector p₀ k₀ p k = Worked (link vector.v) 8 one p k
 
-abbrev decreases-loop : tie.decreases-loop
-decreases-loop vector p₀ k₀ p k = 8 - k
+abbrev decreases-loop-k : tie.decreases-loop-k
+decreases-loop-k vector p₀ k₀ p k = 8 - k
 
-loop-holds : tie.Need-loop-init invariant-loop decreases-loop
+loop-k-init : tie.Need-loop-k-init invariant-loop-k decreases-loop-k
 unfolding of_bits
-loop-holds c = worked-none refl
+loop-k-init c = worked-none refl
 
-mul-p : tie.Need-overflow-mul-p invariant-loop decreases-loop
-mul-p c = omega arith
+offset_bounds-vector-k : tie.Need-offset_bounds-vector-k invariant-loop-k decreases-loop-k
+offset_bounds-vector-k c = omega arith
 
-element-copy-out-p : tie.Need-element-copy-out-p invariant-loop decreases-loop
-element-copy-out-p c = omega arith
+bounds-vector-k : tie.Need-bounds-vector-k invariant-loop-k decreases-loop-k
+bounds-vector-k c = omega arith
 
-add-k : tie.Need-overflow-add-k invariant-loop decreases-loop
-add-k c = omega arith
+overflow_add-k : tie.Need-overflow_add-k invariant-loop-k decreases-loop-k
+overflow_add-k c = omega arith
 
-loop-less : tie.Need-loop-smaller invariant-loop decreases-loop
-loop-less c = omega arith
+loop-k-smaller : tie.Need-loop-k-smaller invariant-loop-k decreases-loop-k
+loop-k-smaller c = omega arith
 
-loop-again : tie.Need-loop-preserved invariant-loop decreases-loop
-loop-again c =
+loop-k-preserved : tie.Need-loop-k-preserved invariant-loop-k decreases-loop-k
+loop-k-preserved c =
     let t = c.before.before in
-    worked-more t.loop.invariant c.before.loop-test.true (mul-binary64 t.loop.p (get_or t.before.args.t1.v t.loop.k nan))
+    worked-more t.loop-k.invariant c.before.loop-k-test.true (mul-binary64 t.loop-k.p (get_or t.before.args.t1.v t.loop-k.k nan))
 
-returns : tie.Need-returns invariant-loop decreases-loop
+returns : tie.Need-returns invariant-loop-k decreases-loop-k
 unfolding chained
-returns c = worked-all c.before.loop.invariant c.loop-test.false
+returns c = worked-all c.before.loop-k.invariant c.loop-k-test.false
 
-pub chain-spec : {M : Type 1} → statement M
-chain-spec =
-    tie.close
-    (tie.spec
-    invariant-loop
-    decreases-loop
-    loop-holds
-    mul-p
-    element-copy-out-p
-    add-k
-    loop-less
-    loop-again
-    returns)
+pub chain_spec : {M : Type 1} → statement M
+chain_spec = tie.close (tie.spec invariant-loop-k decreases-loop-k loop-k-init offset_bounds-vector-k bounds-vector-k overflow_add-k loop-k-smaller loop-k-preserved returns)

@@ -6,28 +6,26 @@ use Rattle.vectors.proofs.Vectorwise.{guarded-inside, guarded-outside}
 use Rattle.vectors.proofs.vector.guarded_vector.Statement.{statement}
 use Rattle.vectors.proofs.vector.guarded_vector.Tie as tie
 
-vector-not-low-requires : tie.Need-vector-not-low-requires
-vector-not-low-requires c κs = search rules
+vector_not_low-requires : tie.Need-vector_not_low-requires
+vector_not_low-requires c κs = search rules
 
-unsplit-vector-requires : tie.Need-unsplit-vector-requires
-unsplit-vector-requires c κs = search rules
+unsplit_vector-requires : tie.Need-unsplit_vector-requires
+unsplit_vector-requires c κs = search rules
+
+returns-then-all-vector_not_low : tie.Need-returns-then-all-vector_not_low
+returns-then-all-vector_not_low c =
+    let s = c.before.before.before.args in
+    let b = c.before.before.vector_not_low in
+    c.unsplit_vector.ensures ∙ guarded-inside s.all s.s s.vector.v (ap (λ (t : Bool). not s.all && t) (sym b.ensures) ∙ c.before.if-all-vector_not_low.true)
+
+split_vector-requires : tie.Need-split_vector-requires
+split_vector-requires c κs = search rules
 
 returns : tie.Need-returns
 returns c =
     let s = c.before.before.before.args in
-    let b = c.before.before.vector-not-low in
-    c.unsplit-vector.ensures ∙ guarded-inside s.all s.s s.vector.v (ap (λ (t : Bool). not s.all && t) (sym b.ensures) ∙ c.before.if1.true)
+    let b = c.before.before.vector_not_low in
+    c.split_vector.ensures ∙ guarded-outside s.all s.s s.vector.v (ap (λ (t : Bool). not s.all && t) (sym b.ensures) ∙ c.before.if-all-vector_not_low.false)
 
-split-vector-requires : tie.Need-split-vector-requires
-split-vector-requires c κs = search rules
-
-returns-2 : tie.Need-returns-2
-returns-2 c =
-    let s = c.before.before.before.args in
-    let b = c.before.before.vector-not-low in
-    c.split-vector.ensures ∙ guarded-outside s.all s.s s.vector.v (ap (λ (t : Bool). not s.all && t) (sym b.ensures) ∙ c.before.if1.false)
-
-pub guarded-vector-spec : {M : Type 1} → statement M
-guarded-vector-spec =
-    tie.close
-    (tie.spec vector-not-low-requires unsplit-vector-requires returns split-vector-requires returns-2)
+pub guarded_vector_spec : {M : Type 1} → statement M
+guarded_vector_spec = tie.close (tie.spec vector_not_low-requires unsplit_vector-requires returns-then-all-vector_not_low split_vector-requires returns)

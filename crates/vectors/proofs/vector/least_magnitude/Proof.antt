@@ -4,41 +4,41 @@ use Rattle.vectors.proofs.Vectorwise.{least-tree}
 use Rattle.vectors.proofs.vector.least_magnitude.Statement.{statement}
 use Rattle.vectors.proofs.vector.least_magnitude.Tie as tie
 
-element-copy-out-lesser-magnitude : tie.Need-element-copy-out-lesser-magnitude
-element-copy-out-lesser-magnitude c = search rules
+bounds-vector-0 : tie.Need-bounds-vector-0
+bounds-vector-0 c = search rules
 
-element-copy-out-lesser-magnitude-2 : tie.Need-element-copy-out-lesser-magnitude-2
-element-copy-out-lesser-magnitude-2 c = search rules
+bounds-vector-4 : tie.Need-bounds-vector-4
+bounds-vector-4 c = search rules
 
-lesser-magnitude-requires : tie.Need-lesser-magnitude-requires
-lesser-magnitude-requires c κs = search rules
+lesser_magnitude-a-requires : tie.Need-lesser_magnitude-a-requires
+lesser_magnitude-a-requires c κs = search rules
 
-element-copy-out-lesser-magnitude-3 : tie.Need-element-copy-out-lesser-magnitude-3
-element-copy-out-lesser-magnitude-3 c = search rules
+bounds-vector-1 : tie.Need-bounds-vector-1
+bounds-vector-1 c = search rules
 
-element-copy-out-lesser-magnitude-4 : tie.Need-element-copy-out-lesser-magnitude-4
-element-copy-out-lesser-magnitude-4 c = search rules
+bounds-vector-5 : tie.Need-bounds-vector-5
+bounds-vector-5 c = search rules
 
-lesser-magnitude-requires-2 : tie.Need-lesser-magnitude-requires-2
-lesser-magnitude-requires-2 c κs = search rules
+lesser_magnitude-b-requires : tie.Need-lesser_magnitude-b-requires
+lesser_magnitude-b-requires c κs = search rules
 
-element-copy-out-lesser-magnitude-5 : tie.Need-element-copy-out-lesser-magnitude-5
-element-copy-out-lesser-magnitude-5 c = search rules
+bounds-vector-2 : tie.Need-bounds-vector-2
+bounds-vector-2 c = search rules
 
-element-copy-out-lesser-magnitude-6 : tie.Need-element-copy-out-lesser-magnitude-6
-element-copy-out-lesser-magnitude-6 c = search rules
+bounds-vector-6 : tie.Need-bounds-vector-6
+bounds-vector-6 c = search rules
 
-lesser-magnitude-requires-3 : tie.Need-lesser-magnitude-requires-3
-lesser-magnitude-requires-3 c κs = search rules
+lesser_magnitude-c-requires : tie.Need-lesser_magnitude-c-requires
+lesser_magnitude-c-requires c κs = search rules
 
-element-copy-out-lesser-magnitude-7 : tie.Need-element-copy-out-lesser-magnitude-7
-element-copy-out-lesser-magnitude-7 c = search rules
+bounds-vector-3 : tie.Need-bounds-vector-3
+bounds-vector-3 c = search rules
 
-element-copy-out-lesser-magnitude-8 : tie.Need-element-copy-out-lesser-magnitude-8
-element-copy-out-lesser-magnitude-8 c = search rules
+bounds-vector-7 : tie.Need-bounds-vector-7
+bounds-vector-7 c = search rules
 
-lesser-magnitude-requires-4 : tie.Need-lesser-magnitude-requires-4
-lesser-magnitude-requires-4 c κs = search rules
+lesser_magnitude-d-requires : tie.Need-lesser_magnitude-d-requires
+lesser_magnitude-d-requires c κs = search rules
 
 lesser-requires : tie.Need-lesser-requires
 lesser-requires c κs = search rules
@@ -58,28 +58,10 @@ returns c =
     let b = e.before.before.before in
     let a = b.before.before.before in
     let s = a.before.before.before.args in
-    least-tree s.over s.t1.v a.lesser-magnitude.result b.lesser-magnitude2.result e.lesser-magnitude3.result
-    d.lesser-magnitude4.result p.lesser.result q.lesser2.result c.lesser3.result
-    a.lesser-magnitude.ensures b.lesser-magnitude2.ensures e.lesser-magnitude3.ensures d.lesser-magnitude4.ensures p.lesser.ensures
-    q.lesser2.ensures c.lesser3.ensures
+    least-tree s.over s.t1.v a.lesser_magnitude-a.result b.lesser_magnitude-b.result e.lesser_magnitude-c.result
+    d.lesser_magnitude-d.result p.lesser.result q.lesser-2.result c.lesser-3.result
+    a.lesser_magnitude-a.ensures b.lesser_magnitude-b.ensures e.lesser_magnitude-c.ensures d.lesser_magnitude-d.ensures p.lesser.ensures
+    q.lesser-2.ensures c.lesser-3.ensures
 
-pub least-magnitude-spec : {M : Type 1} → statement M
-least-magnitude-spec =
-    tie.close
-    (tie.spec
-    element-copy-out-lesser-magnitude
-    element-copy-out-lesser-magnitude-2
-    lesser-magnitude-requires
-    element-copy-out-lesser-magnitude-3
-    element-copy-out-lesser-magnitude-4
-    lesser-magnitude-requires-2
-    element-copy-out-lesser-magnitude-5
-    element-copy-out-lesser-magnitude-6
-    lesser-magnitude-requires-3
-    element-copy-out-lesser-magnitude-7
-    element-copy-out-lesser-magnitude-8
-    lesser-magnitude-requires-4
-    lesser-requires
-    lesser-requires-2
-    lesser-requires-3
-    returns)
+pub least_magnitude_spec : {M : Type 1} → statement M
+least_magnitude_spec = tie.close (tie.spec bounds-vector-0 bounds-vector-4 lesser_magnitude-a-requires bounds-vector-1 bounds-vector-5 lesser_magnitude-b-requires bounds-vector-2 bounds-vector-6 lesser_magnitude-c-requires bounds-vector-3 bounds-vector-7 lesser_magnitude-d-requires lesser-requires lesser-requires-2 lesser-requires-3 returns)

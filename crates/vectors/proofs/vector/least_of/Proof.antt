@@ -29,28 +29,28 @@ pattern signs (suc k) f h l (inr c) =
       below-number f k (omega arith) (omega arith),
     )
 
-mul-field : tie.Need-overflow-mul-field
-mul-field c = let h = c.before.requires.1 in omega arith
+overflow_mul-field : tie.Need-overflow_mul-field
+overflow_mul-field c = let h = c.before.requires.1 in omega arith
 
-sub-field : tie.Need-overflow-sub-field
-sub-field c = let h = c.before.requires.1 in omega arith
+overflow_sub-field : tie.Need-overflow_sub-field
+overflow_sub-field c = let h = c.before.requires.1 in omega arith
 
-sub-field-2 : tie.Need-overflow-sub-field-2
-sub-field-2 c = let h = c.before.requires.1 in omega arith
+overflow_sub-field-else-signs : tie.Need-overflow_sub-field-else-signs
+overflow_sub-field-else-signs c = let h = c.before.requires.1 in omega arith
 
-field_of : (c : tie.Joined1) → let s = c.before in Field s.args.signs s.args.depth c.if1.field
-field_of c = ⊎_elim (λ p. inl (p.0.taken, p.1)) (λ p. inr (p.0.left, p.1)) c.if1.branch
+field_of : (c : tie.Joined-signs) → let s = c.before in Field s.args.signs s.args.depth c.if-signs.field
+field_of c = ⊎_elim (λ p. inl (p.0.taken, p.1)) (λ p. inr (p.0.left, p.1)) c.if-signs.branch
 
-is : (c : tie.Joined1) → let s = c.before in
-    (of_bits binary64 (c.if1.field * 2 ^ 52 % 2 ^ 64) ≡ least_of s.args.signs s.args.depth)
-    × T (not (nan_bits binary64 (c.if1.field * 2 ^ 52 % 2 ^ 64)))
-is c = let s = c.before in pattern s.args.signs s.args.depth c.if1.field s.requires.0 s.requires.1 (field_of c)
+is : (c : tie.Joined-signs) → let s = c.before in
+    (of_bits binary64 (c.if-signs.field * 2 ^ 52 % 2 ^ 64) ≡ least_of s.args.signs s.args.depth)
+    × T (not (nan_bits binary64 (c.if-signs.field * 2 ^ 52 % 2 ^ 64)))
+is c = let s = c.before in pattern s.args.signs s.args.depth c.if-signs.field s.requires.0 s.requires.1 (field_of c)
 
-float-from-bits-result : tie.Need-float-from-bits-result
-float-from-bits-result c = (is c.before).1
+float_from_bits-result : tie.Need-float_from_bits-result
+float_from_bits-result c = (is c.before).1
 
 returns : tie.Need-returns
 returns c = (is c.before).0
 
-pub least-of-spec : {M : Type 1} → statement M
-least-of-spec = tie.close (tie.spec mul-field sub-field sub-field-2 float-from-bits-result returns)
+pub least_of_spec : {M : Type 1} → statement M
+least_of_spec = tie.close (tie.spec overflow_mul-field overflow_sub-field overflow_sub-field-else-signs float_from_bits-result returns)

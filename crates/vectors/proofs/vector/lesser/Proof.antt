@@ -3,11 +3,11 @@ use Rattle.vectors.proofs.Vectorwise.{lesser-first, lesser-second}
 use Rattle.vectors.proofs.vector.lesser.Statement.{statement}
 use Rattle.vectors.proofs.vector.lesser.Tie as tie
 
-returns : tie.Need-returns
-returns c = lesser-first c.before.args.x c.before.args.y c.if1.true
+returns-then-x-y : tie.Need-returns-then-x-y
+returns-then-x-y c = lesser-first c.before.args.x c.before.args.y c.if-x-y.true
 
-returns-2 : tie.Need-returns-2
-returns-2 c = lesser-second c.before.args.x c.before.args.y c.if1.false
+returns-else-x-y : tie.Need-returns-else-x-y
+returns-else-x-y c = lesser-second c.before.args.x c.before.args.y c.if-x-y.false
 
-pub lesser-spec : {M : Type 1} → statement M
-lesser-spec = tie.close (tie.spec returns returns-2)
+pub lesser_spec : {M : Type 1} → statement M
+lesser_spec = tie.close (tie.spec returns-then-x-y returns-else-x-y)

@@ -3,11 +3,11 @@ use Rattle.vectors.proofs.Vectorwise.{magnitude-minus, magnitude-plus}
 use Rattle.vectors.proofs.vector.magnitude.Statement.{statement}
 use Rattle.vectors.proofs.vector.magnitude.Tie as tie
 
-returns : tie.Need-returns
-returns c = magnitude-minus c.before.args.x c.if1.true
+returns-then-x : tie.Need-returns-then-x
+returns-then-x c = magnitude-minus c.before.args.x c.if-x.true
 
-returns-2 : tie.Need-returns-2
-returns-2 c = magnitude-plus c.before.args.x c.if1.false
+returns-else-x : tie.Need-returns-else-x
+returns-else-x c = magnitude-plus c.before.args.x c.if-x.false
 
-pub magnitude-spec : {M : Type 1} → statement M
-magnitude-spec = tie.close (tie.spec returns returns-2)
+pub magnitude_spec : {M : Type 1} → statement M
+magnitude_spec = tie.close (tie.spec returns-then-x returns-else-x)

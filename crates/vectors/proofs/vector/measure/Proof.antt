@@ -6,11 +6,11 @@ use Rattle.vectors.specs.InnerWaiting.{measure}
 use Rattle.vectors.proofs.vector.measure.Statement.{statement}
 use Rattle.vectors.proofs.vector.measure.Tie as tie
 
-returns : tie.Need-returns
-returns c = let x = c.before.args.x in mul-binary64 x x ∙ sym (ap (λ (b : Bool). measure b x) c.if1.true)
+returns-then-signs : tie.Need-returns-then-signs
+returns-then-signs c = let x = c.before.args.x in mul-binary64 x x ∙ sym (ap (λ (b : Bool). measure b x) c.if-signs.true)
 
-returns-2 : tie.Need-returns-2
-returns-2 c = sym (ap (λ (b : Bool). measure b c.before.args.x) c.if1.false)
+returns-else-signs : tie.Need-returns-else-signs
+returns-else-signs c = sym (ap (λ (b : Bool). measure b c.before.args.x) c.if-signs.false)
 
-pub measure-spec : {M : Type 1} → statement M
-measure-spec = tie.close (tie.spec returns returns-2)
+pub measure_spec : {M : Type 1} → statement M
+measure_spec = tie.close (tie.spec returns-then-signs returns-else-signs)

@@ -9,48 +9,37 @@ use Rattle.vectors.specs.InnerWaiting.{not_below}
 use Rattle.vectors.proofs.vector.none_below.Statement.{statement}
 use Rattle.vectors.proofs.vector.none_below.Tie as tie
 
-abbrev invariant-loop : tie.invariant-loop
-invariant-loop least w ok₀ k₀ ok k = Worked (over (tested (not_below least)) w.least nan) 8 true ok k
+abbrev invariant-loop-k : tie.invariant-loop-k
+invariant-loop-k least w ok₀ k₀ ok k = Worked (over (tested (not_below least)) w.least nan) 8 true ok k
 
-abbrev decreases-loop : tie.decreases-loop
-decreases-loop least w ok₀ k₀ ok k = 8 - k
+abbrev decreases-loop-k : tie.decreases-loop-k
+decreases-loop-k least w ok₀ k₀ ok k = 8 - k
 
-loop-holds : tie.Need-loop-init invariant-loop decreases-loop
-loop-holds c = worked-none refl
+loop-k-init : tie.Need-loop-k-init invariant-loop-k decreases-loop-k
+loop-k-init c = worked-none refl
 
-mul_ok : tie.Need-overflow-mul-ok invariant-loop decreases-loop
-mul_ok c = omega arith
+offset_bounds-w-k : tie.Need-offset_bounds-w-k invariant-loop-k decreases-loop-k
+offset_bounds-w-k c = omega arith
 
-element-copy-out-ok : tie.Need-element-copy-out-ok invariant-loop decreases-loop
-element-copy-out-ok c = omega arith
+bounds-w-k : tie.Need-bounds-w-k invariant-loop-k decreases-loop-k
+bounds-w-k c = omega arith
 
-add-k : tie.Need-overflow-add-k invariant-loop decreases-loop
-add-k c = omega arith
+overflow_add-k : tie.Need-overflow_add-k invariant-loop-k decreases-loop-k
+overflow_add-k c = omega arith
 
-loop-less : tie.Need-loop-smaller invariant-loop decreases-loop
-loop-less c = omega arith
+loop-k-smaller : tie.Need-loop-k-smaller invariant-loop-k decreases-loop-k
+loop-k-smaller c = omega arith
 
-loop-again : tie.Need-loop-preserved invariant-loop decreases-loop
-loop-again c =
+loop-k-preserved : tie.Need-loop-k-preserved invariant-loop-k decreases-loop-k
+loop-k-preserved c =
     let t = c.before.before in
-    worked-more t.loop.invariant c.before.loop-test.true
+    worked-more t.loop-k.invariant c.before.loop-k-test.true
     refl
 
-returns : tie.Need-returns invariant-loop decreases-loop
+returns : tie.Need-returns invariant-loop-k decreases-loop-k
 returns c =
     let t = c.before in
-    worked-tested (not_below t.before.args.least) nan t.before.args.t1.least t.before.requires t.loop.invariant c.loop-test.false
+    worked-tested (not_below t.before.args.least) nan t.before.args.t1.least t.before.requires t.loop-k.invariant c.loop-k-test.false
 
-pub none-below-spec : {M : Type 1} → statement M
-none-below-spec =
-    tie.close
-    (tie.spec
-    invariant-loop
-    decreases-loop
-    loop-holds
-    mul_ok
-    element-copy-out-ok
-    add-k
-    loop-less
-    loop-again
-    returns)
+pub none_below_spec : {M : Type 1} → statement M
+none_below_spec = tie.close (tie.spec invariant-loop-k decreases-loop-k loop-k-init offset_bounds-w-k bounds-w-k overflow_add-k loop-k-smaller loop-k-preserved returns)

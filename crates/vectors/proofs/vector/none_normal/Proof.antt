@@ -10,51 +10,39 @@ use Rattle.vectors.specs.InnerWaiting.{below_normal}
 use Rattle.vectors.proofs.vector.none_normal.Statement.{statement}
 use Rattle.vectors.proofs.vector.none_normal.Tie as tie
 
-abbrev invariant-loop : tie.invariant-loop
-invariant-loop vector ok₀ k₀ ok k = Worked (over (tested below_normal) vector.v nan) 8 true ok k
+abbrev invariant-loop-k : tie.invariant-loop-k
+invariant-loop-k vector ok₀ k₀ ok k = Worked (over (tested below_normal) vector.v nan) 8 true ok k
 
-abbrev decreases-loop : tie.decreases-loop
-decreases-loop vector ok₀ k₀ ok k = 8 - k
+abbrev decreases-loop-k : tie.decreases-loop-k
+decreases-loop-k vector ok₀ k₀ ok k = 8 - k
 
-loop-holds : tie.Need-loop-init invariant-loop decreases-loop
-loop-holds c = worked-none refl
+loop-k-init : tie.Need-loop-k-init invariant-loop-k decreases-loop-k
+loop-k-init c = worked-none refl
 
-mul-below-normal : tie.Need-overflow-mul-below-normal invariant-loop decreases-loop
-mul-below-normal c = omega arith
+offset_bounds-vector-k : tie.Need-offset_bounds-vector-k invariant-loop-k decreases-loop-k
+offset_bounds-vector-k c = omega arith
 
-element-copy-out-below-normal : tie.Need-element-copy-out-below-normal invariant-loop decreases-loop
-element-copy-out-below-normal c = omega arith
+bounds-vector-k : tie.Need-bounds-vector-k invariant-loop-k decreases-loop-k
+bounds-vector-k c = omega arith
 
-below-normal-requires : tie.Need-below-normal-requires invariant-loop decreases-loop
-below-normal-requires c κs = search rules
+below_normal-ok-requires : tie.Need-below_normal-ok-requires invariant-loop-k decreases-loop-k
+below_normal-ok-requires c κs = search rules
 
-add-k : tie.Need-overflow-add-k invariant-loop decreases-loop
-add-k c = omega arith
+overflow_add-k : tie.Need-overflow_add-k invariant-loop-k decreases-loop-k
+overflow_add-k c = omega arith
 
-loop-less : tie.Need-loop-smaller invariant-loop decreases-loop
-loop-less c = omega arith
+loop-k-smaller : tie.Need-loop-k-smaller invariant-loop-k decreases-loop-k
+loop-k-smaller c = omega arith
 
-loop-again : tie.Need-loop-preserved invariant-loop decreases-loop
-loop-again c =
+loop-k-preserved : tie.Need-loop-k-preserved invariant-loop-k decreases-loop-k
+loop-k-preserved c =
     let t = c.before.before.before in
-    worked-more t.loop.invariant c.before.before.loop-test.true (ap (λ (b : Bool). t.loop.ok && b) c.below-normal.ensures)
+    worked-more t.loop-k.invariant c.before.before.loop-k-test.true (ap (λ (b : Bool). t.loop-k.ok && b) c.below_normal-ok.ensures)
 
-returns : tie.Need-returns invariant-loop decreases-loop
+returns : tie.Need-returns invariant-loop-k decreases-loop-k
 returns c =
     let t = c.before in
-    worked-tested below_normal nan t.before.args.t1.v t.before.requires t.loop.invariant c.loop-test.false
+    worked-tested below_normal nan t.before.args.t1.v t.before.requires t.loop-k.invariant c.loop-k-test.false
 
-pub none-normal-spec : {M : Type 1} → statement M
-none-normal-spec =
-    tie.close
-    (tie.spec
-    invariant-loop
-    decreases-loop
-    loop-holds
-    mul-below-normal
-    element-copy-out-below-normal
-    below-normal-requires
-    add-k
-    loop-less
-    loop-again
-    returns)
+pub none_normal_spec : {M : Type 1} → statement M
+none_normal_spec = tie.close (tie.spec invariant-loop-k decreases-loop-k loop-k-init offset_bounds-vector-k bounds-vector-k below_normal-ok-requires overflow_add-k loop-k-smaller loop-k-preserved returns)

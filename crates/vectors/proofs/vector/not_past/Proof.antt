@@ -6,5 +6,5 @@ use Rattle.vectors.proofs.vector.not_past.Tie as tie
 returns : tie.Need-returns
 returns c = past-test c.args.x
 
-pub not-past-spec : {M : Type 1} → statement M
-not-past-spec = tie.close (tie.spec returns)
+pub not_past_spec : {M : Type 1} → statement M
+not_past_spec = tie.close (tie.spec returns)

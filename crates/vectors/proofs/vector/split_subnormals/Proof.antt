@@ -14,73 +14,60 @@ use Rattle.vectors.proofs.Lows.{lane-subnormal}
 use Rattle.vectors.proofs.vector.split_subnormals.Statement.{statement}
 use Rattle.vectors.proofs.vector.split_subnormals.Tie as tie
 
-abbrev invariant-loop : tie.invariant-loop
-invariant-loop vector t₀ k₀ t k =
+abbrev invariant-loop-k : tie.invariant-loop-k
+invariant-loop-k vector t₀ k₀ t k =
     Worked (over split_step vector.v nan) 8 t₀ t k × SmallLanes (2 ^ 59 + farthest * k) t
 
-abbrev decreases-loop : tie.decreases-loop
-decreases-loop vector t₀ k₀ t k = 8 - k
+abbrev decreases-loop-k : tie.decreases-loop-k
+decreases-loop-k vector t₀ k₀ t k = 8 - k
 
-loop-holds : tie.Need-loop-init invariant-loop decreases-loop
-loop-holds c = (worked-none refl, lanes-le (2 ^ 59) (2 ^ 59 + farthest * 0) c.args.s (omega arith) c.requires.0)
+loop-k-init : tie.Need-loop-k-init invariant-loop-k decreases-loop-k
+loop-k-init c = (worked-none refl, lanes-le (2 ^ 59) (2 ^ 59 + farthest * 0) c.args.s (omega arith) c.requires.0)
 
-mul-split-subnormal-whole : tie.Need-overflow-mul-split-subnormal-whole invariant-loop decreases-loop
-mul-split-subnormal-whole c = omega arith
+offset_bounds-vector-k : tie.Need-offset_bounds-vector-k invariant-loop-k decreases-loop-k
+offset_bounds-vector-k c = omega arith
 
-element-copy-out-split-subnormal-whole : tie.Need-element-copy-out-split-subnormal-whole invariant-loop decreases-loop
-element-copy-out-split-subnormal-whole c = omega arith
+bounds-vector-k : tie.Need-bounds-vector-k invariant-loop-k decreases-loop-k
+bounds-vector-k c = omega arith
 
-split-subnormal-whole-requires : tie.Need-split-subnormal-whole-requires invariant-loop decreases-loop
-split-subnormal-whole-requires c κs v =
+split_subnormal_whole-requires : tie.Need-split_subnormal_whole-requires invariant-loop-k decreases-loop-k
+split_subnormal_whole-requires c κs v =
     let t = c.before.before in
     let s = t.before in
-    lane-subnormal s.args.t2.v s.requires.1 s.requires.2 t.loop.k c.before.loop-test.true v
+    lane-subnormal s.args.t2.v s.requires.1 s.requires.2 t.loop-k.k c.before.loop-k-test.true v
 
-put-split-requires : tie.Need-put-split-requires invariant-loop decreases-loop
-put-split-requires c κs =
+put_split-t-requires : tie.Need-put_split-t-requires invariant-loop-k decreases-loop-k
+put_split-t-requires c κs =
     let t = c.before.before.before in (
-      c.before.before.loop-test.true,
-      lanes-le (2 ^ 59 + farthest * t.loop.k) (2 ^ 61) t.loop.t (omega arith) t.loop.invariant.1,
-      split-near (get_or t.before.args.t2.v t.loop.k nan) c.split-subnormal-whole.result c.split-subnormal-whole.ensures,
+      c.before.before.loop-k-test.true,
+      lanes-le (2 ^ 59 + farthest * t.loop-k.k) (2 ^ 61) t.loop-k.t (omega arith) t.loop-k.invariant.1,
+      split-near (get_or t.before.args.t2.v t.loop-k.k nan) c.split_subnormal_whole.result c.split_subnormal_whole.ensures,
     )
 
-add-k : tie.Need-overflow-add-k invariant-loop decreases-loop
-add-k c = omega arith
+overflow_add-k : tie.Need-overflow_add-k invariant-loop-k decreases-loop-k
+overflow_add-k c = omega arith
 
-loop-less : tie.Need-loop-smaller invariant-loop decreases-loop
-loop-less c = omega arith
+loop-k-smaller : tie.Need-loop-k-smaller invariant-loop-k decreases-loop-k
+loop-k-smaller c = omega arith
 
-loop-again : tie.Need-loop-preserved invariant-loop decreases-loop
-loop-again c =
+loop-k-preserved : tie.Need-loop-k-preserved invariant-loop-k decreases-loop-k
+loop-k-preserved c =
     let p = c.before in
     let t = p.before.before.before in
-    let k = t.loop.k in
-    let l = p.before.before.loop-test.true in
+    let k = t.loop-k.k in
+    let l = p.before.before.loop-k-test.true in
     let x = get_or t.before.args.t2.v k nan in
-    let e = c.put-split.ensures ∙ split-own k t.loop.t x p.split-subnormal-whole.result l p.split-subnormal-whole.ensures in (
-      worked-more t.loop.invariant.0 l e,
+    let e = c.put_split-t.ensures ∙ split-own k t.loop-k.t x p.split_subnormal_whole.result l p.split_subnormal_whole.ensures in (
+      worked-more t.loop-k.invariant.0 l e,
       subst (SmallLanes (2 ^ 59 + farthest * (k + 1))) (sym e)
-          (lanes-le (2 ^ 59 + farthest * k + farthest) (2 ^ 59 + farthest * (k + 1)) (split_step k t.loop.t x) (omega arith)
-          (step_small (2 ^ 59 + farthest * k) t.loop.t t.loop.invariant.1 k x)),
+          (lanes-le (2 ^ 59 + farthest * k + farthest) (2 ^ 59 + farthest * (k + 1)) (split_step k t.loop-k.t x) (omega arith)
+          (step_small (2 ^ 59 + farthest * k) t.loop-k.t t.loop-k.invariant.1 k x)),
     )
 
-returns : tie.Need-returns invariant-loop decreases-loop
+returns : tie.Need-returns invariant-loop-k decreases-loop-k
 returns c =
     let t = c.before in
-    worked-fed split_step nan t.before.args.t2.v t.before.requires.1 t.loop.invariant.0 c.loop-test.false
+    worked-fed split_step nan t.before.args.t2.v t.before.requires.1 t.loop-k.invariant.0 c.loop-k-test.false
 
-pub split-subnormals-spec : {M : Type 1} → statement M
-split-subnormals-spec =
-    tie.close
-    (tie.spec
-    invariant-loop
-    decreases-loop
-    loop-holds
-    mul-split-subnormal-whole
-    element-copy-out-split-subnormal-whole
-    split-subnormal-whole-requires
-    put-split-requires
-    add-k
-    loop-less
-    loop-again
-    returns)
+pub split_subnormals_spec : {M : Type 1} → statement M
+split_subnormals_spec = tie.close (tie.spec invariant-loop-k decreases-loop-k loop-k-init offset_bounds-vector-k bounds-vector-k split_subnormal_whole-requires put_split-t-requires overflow_add-k loop-k-smaller loop-k-preserved returns)

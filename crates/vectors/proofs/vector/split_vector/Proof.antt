@@ -4,45 +4,35 @@ use borrow.Author.Rules.{rules}
 use Rattle.vectors.proofs.vector.split_vector.Statement.{statement}
 use Rattle.vectors.proofs.vector.split_vector.Tie as tie
 
-vector-ordinary-requires : tie.Need-vector-ordinary-requires
-vector-ordinary-requires c κs = search rules
+vector_ordinary-requires : tie.Need-vector_ordinary-requires
+vector_ordinary-requires c κs = search rules
 
-split-ordinaries-requires : tie.Need-split-ordinaries-requires
-split-ordinaries-requires c κs =
+split_ordinaries-requires : tie.Need-split_ordinaries-requires
+split_ordinaries-requires c κs =
     let q = c.before in
     let s = q.before in
-    (s.requires.0, s.requires.1, sym q.vector-ordinary.ensures ∙ c.if1.true)
+    (s.requires.0, s.requires.1, sym q.vector_ordinary.ensures ∙ c.if-vector_ordinary.true)
 
-returns : tie.Need-returns
-returns c = c.split-ordinaries.ensures
+returns-then-vector_ordinary : tie.Need-returns-then-vector_ordinary
+returns-then-vector_ordinary c = c.split_ordinaries.ensures
 
-vector-subnormal-requires : tie.Need-vector-subnormal-requires
-vector-subnormal-requires c κs = search rules
+vector_subnormal-requires : tie.Need-vector_subnormal-requires
+vector_subnormal-requires c κs = search rules
 
-split-subnormals-requires : tie.Need-split-subnormals-requires
-split-subnormals-requires c κs =
+split_subnormals-requires : tie.Need-split_subnormals-requires
+split_subnormals-requires c κs =
     let q = c.before in
     let s = q.before.before.before in
-    (s.requires.0, s.requires.1, sym q.vector-subnormal.ensures ∙ c.if2.true)
+    (s.requires.0, s.requires.1, sym q.vector_subnormal.ensures ∙ c.if-vector_subnormal.true)
 
-returns-2 : tie.Need-returns-2
-returns-2 c = c.split-subnormals.ensures
+returns-then-vector_subnormal : tie.Need-returns-then-vector_subnormal
+returns-then-vector_subnormal c = c.split_subnormals.ensures
 
-split-mixed-requires : tie.Need-split-mixed-requires
-split-mixed-requires c κs = search rules
+split_mixed-requires : tie.Need-split_mixed-requires
+split_mixed-requires c κs = search rules
 
-returns-3 : tie.Need-returns-3
-returns-3 c = c.split-mixed.ensures
+returns : tie.Need-returns
+returns c = c.split_mixed.ensures
 
-pub split-vector-spec : {M : Type 1} → statement M
-split-vector-spec =
-    tie.close
-    (tie.spec
-    vector-ordinary-requires
-    split-ordinaries-requires
-    returns
-    vector-subnormal-requires
-    split-subnormals-requires
-    returns-2
-    split-mixed-requires
-    returns-3)
+pub split_vector_spec : {M : Type 1} → statement M
+split_vector_spec = tie.close (tie.spec vector_ordinary-requires split_ordinaries-requires returns-then-vector_ordinary vector_subnormal-requires split_subnormals-requires returns-then-vector_subnormal split_mixed-requires returns)

@@ -10,64 +10,49 @@ use Rattle.kernels.proofs.Stepwise.{unsplit-lane}
 use Rattle.vectors.proofs.vector.unsplit_vector.Statement.{statement}
 use Rattle.vectors.proofs.vector.unsplit_vector.Tie as tie
 
-abbrev invariant-loop : tie.invariant-loop
-invariant-loop vector t₀ k₀ t k = Worked (over unsplit_step vector.v nan) 8 t₀ t k
+abbrev invariant-loop-k : tie.invariant-loop-k
+invariant-loop-k vector t₀ k₀ t k = Worked (over unsplit_step vector.v nan) 8 t₀ t k
 
-abbrev decreases-loop : tie.decreases-loop
-decreases-loop vector t₀ k₀ t k = 8 - k
+abbrev decreases-loop-k : tie.decreases-loop-k
+decreases-loop-k vector t₀ k₀ t k = 8 - k
 
-loop-holds : tie.Need-loop-init invariant-loop decreases-loop
-loop-holds c = worked-none refl
+loop-k-init : tie.Need-loop-k-init invariant-loop-k decreases-loop-k
+loop-k-init c = worked-none refl
 
-mul-t : tie.Need-overflow-mul-t invariant-loop decreases-loop
-mul-t c = omega arith
+offset_bounds-t-k : tie.Need-offset_bounds-t-k invariant-loop-k decreases-loop-k
+offset_bounds-t-k c = omega arith
 
-element-copy-out-t : tie.Need-element-copy-out-t invariant-loop decreases-loop
-element-copy-out-t c = omega arith
+bounds-t-k : tie.Need-bounds-t-k invariant-loop-k decreases-loop-k
+bounds-t-k c = omega arith
 
-mul-t-2 : tie.Need-overflow-mul-t-2 invariant-loop decreases-loop
-mul-t-2 c = omega arith
+offset_bounds-vector-k : tie.Need-offset_bounds-vector-k invariant-loop-k decreases-loop-k
+offset_bounds-vector-k c = omega arith
 
-element-copy-out-t-2 : tie.Need-element-copy-out-t-2 invariant-loop decreases-loop
-element-copy-out-t-2 c = omega arith
+bounds-vector-k : tie.Need-bounds-vector-k invariant-loop-k decreases-loop-k
+bounds-vector-k c = omega arith
 
-mul-t-3 : tie.Need-overflow-mul-t-3 invariant-loop decreases-loop
-mul-t-3 c = omega arith
+offset_bounds-t-k-in-loop-k : tie.Need-offset_bounds-t-k-in-loop-k invariant-loop-k decreases-loop-k
+offset_bounds-t-k-in-loop-k c = omega arith
 
-element-write-t : tie.Need-element-write-t invariant-loop decreases-loop
-element-write-t c = omega arith
+bounds-t-k-in-loop-k : tie.Need-bounds-t-k-in-loop-k invariant-loop-k decreases-loop-k
+bounds-t-k-in-loop-k c = omega arith
 
-add-k : tie.Need-overflow-add-k invariant-loop decreases-loop
-add-k c = omega arith
+overflow_add-k : tie.Need-overflow_add-k invariant-loop-k decreases-loop-k
+overflow_add-k c = omega arith
 
-loop-less : tie.Need-loop-smaller invariant-loop decreases-loop
-loop-less c = omega arith
+loop-k-smaller : tie.Need-loop-k-smaller invariant-loop-k decreases-loop-k
+loop-k-smaller c = omega arith
 
-loop-again : tie.Need-loop-preserved invariant-loop decreases-loop
-loop-again c =
+loop-k-preserved : tie.Need-loop-k-preserved invariant-loop-k decreases-loop-k
+loop-k-preserved c =
     let t = c.before.before.before in
-    let l = c.before.before.loop-test.true in
-    worked-more t.loop.invariant l (unsplit-lane t.loop.t t.loop.k (get_or t.before.args.t2.v t.loop.k nan) l)
+    let l = c.before.before.loop-k-test.true in
+    worked-more t.loop-k.invariant l (unsplit-lane t.loop-k.t t.loop-k.k (get_or t.before.args.t2.v t.loop-k.k nan) l)
 
-returns : tie.Need-returns invariant-loop decreases-loop
+returns : tie.Need-returns invariant-loop-k decreases-loop-k
 returns c =
     let t = c.before in
-    worked-fed unsplit_step nan t.before.args.t2.v t.before.requires.1 t.loop.invariant c.loop-test.false
+    worked-fed unsplit_step nan t.before.args.t2.v t.before.requires.1 t.loop-k.invariant c.loop-k-test.false
 
-pub unsplit-vector-spec : {M : Type 1} → statement M
-unsplit-vector-spec =
-    tie.close
-    (tie.spec
-    invariant-loop
-    decreases-loop
-    loop-holds
-    mul-t
-    element-copy-out-t
-    mul-t-2
-    element-copy-out-t-2
-    mul-t-3
-    element-write-t
-    add-k
-    loop-less
-    loop-again
-    returns)
+pub unsplit_vector_spec : {M : Type 1} → statement M
+unsplit_vector_spec = tie.close (tie.spec invariant-loop-k decreases-loop-k loop-k-init offset_bounds-t-k bounds-t-k offset_bounds-vector-k bounds-vector-k offset_bounds-t-k-in-loop-k bounds-t-k-in-loop-k overflow_add-k loop-k-smaller loop-k-preserved returns)

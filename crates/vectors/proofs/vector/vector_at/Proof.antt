@@ -12,66 +12,52 @@ use Rattle.vectors.proofs.Vectors.{vector-full}
 use Rattle.vectors.proofs.vector.vector_at.Statement.{statement}
 use Rattle.vectors.proofs.vector.vector_at.Tie as tie
 
-abbrev invariant-loop : tie.invariant-loop
-invariant-loop values at r₀ k₀ r k = Worked (over put (window values at 8) nan) 8 (replicate 8 one) r.v k
+abbrev invariant-loop-k : tie.invariant-loop-k
+invariant-loop-k values at r₀ k₀ r k = Worked (over put (window values at 8) nan) 8 (replicate 8 one) r.v k
 
-abbrev decreases-loop : tie.decreases-loop
-decreases-loop values at r₀ k₀ r k = 8 - k
+abbrev decreases-loop-k : tie.decreases-loop-k
+decreases-loop-k values at r₀ k₀ r k = 8 - k
 
-loop-holds : tie.Need-loop-init invariant-loop decreases-loop
+loop-k-init : tie.Need-loop-k-init invariant-loop-k decreases-loop-k
 unfolding of_bits
-loop-holds c = worked-none refl
+loop-k-init c = worked-none refl
 
-add_r : tie.Need-overflow-add-r invariant-loop decreases-loop
-add_r c = omega arith
+overflow_add-r : tie.Need-overflow_add-r invariant-loop-k decreases-loop-k
+overflow_add-r c = omega arith
 
-mul-r : tie.Need-overflow-mul-r invariant-loop decreases-loop
-mul-r c = omega arith
+offset_bounds-values-at : tie.Need-offset_bounds-values-at invariant-loop-k decreases-loop-k
+offset_bounds-values-at c = omega arith
 
-shared-slice-read-r : tie.Need-shared-slice-read-r invariant-loop decreases-loop
-shared-slice-read-r c = omega arith
+bounds-values-at : tie.Need-bounds-values-at invariant-loop-k decreases-loop-k
+bounds-values-at c = omega arith
 
-mul-r-2 : tie.Need-overflow-mul-r-2 invariant-loop decreases-loop
-mul-r-2 c = omega arith
+offset_bounds-r-k : tie.Need-offset_bounds-r-k invariant-loop-k decreases-loop-k
+offset_bounds-r-k c = omega arith
 
-element-write-r : tie.Need-element-write-r invariant-loop decreases-loop
-element-write-r c = omega arith
+bounds-r-k : tie.Need-bounds-r-k invariant-loop-k decreases-loop-k
+bounds-r-k c = omega arith
 
-add-k : tie.Need-overflow-add-k invariant-loop decreases-loop
-add-k c = omega arith
+overflow_add-k : tie.Need-overflow_add-k invariant-loop-k decreases-loop-k
+overflow_add-k c = omega arith
 
-loop-less : tie.Need-loop-smaller invariant-loop decreases-loop
-loop-less c = omega arith
+loop-k-smaller : tie.Need-loop-k-smaller invariant-loop-k decreases-loop-k
+loop-k-smaller c = omega arith
 
-loop-again : tie.Need-loop-preserved invariant-loop decreases-loop
-loop-again c =
+loop-k-preserved : tie.Need-loop-k-preserved invariant-loop-k decreases-loop-k
+loop-k-preserved c =
     let t = c.before.before in
     let s = t.before in
-    let l = c.before.loop-test.true in
-    worked-more t.loop.invariant l (ap (set t.loop.r.v t.loop.k) (sym (window-at s.args.values.now s.args.at 8 t.loop.k nan l)))
+    let l = c.before.loop-k-test.true in
+    worked-more t.loop-k.invariant l (ap (set t.loop-k.r.v t.loop-k.k) (sym (window-at s.args.values.now s.args.at 8 t.loop-k.k nan l)))
 
-returns : tie.Need-returns invariant-loop decreases-loop
+returns : tie.Need-returns invariant-loop-k decreases-loop-k
 unfolding vector_of
 returns c =
     let t = c.before in
     let s = t.before in
     let xs = window s.args.values.now s.args.at 8 in
     let e = window-length s.args.values.now s.args.at 8 s.requires in
-    worked-fed put nan xs e t.loop.invariant c.loop-test.false ∙ vector-full xs e
+    worked-fed put nan xs e t.loop-k.invariant c.loop-k-test.false ∙ vector-full xs e
 
-pub vector-at-spec : {M : Type 1} → statement M
-vector-at-spec =
-    tie.close
-    (tie.spec
-    invariant-loop
-    decreases-loop
-    loop-holds
-    add_r
-    mul-r
-    shared-slice-read-r
-    mul-r-2
-    element-write-r
-    add-k
-    loop-less
-    loop-again
-    returns)
+pub vector_at_spec : {M : Type 1} → statement M
+vector_at_spec = tie.close (tie.spec invariant-loop-k decreases-loop-k loop-k-init overflow_add-r offset_bounds-values-at bounds-values-at offset_bounds-r-k bounds-r-k overflow_add-k loop-k-smaller loop-k-preserved returns)

@@ -9,11 +9,11 @@ use Rattle.vectors.proofs.Vectorwise.{twice-test, positive-test}
 use Rattle.vectors.proofs.vector.vector_high.Statement.{statement}
 use Rattle.vectors.proofs.vector.vector_high.Tie as tie
 
-least-magnitude-requires : tie.Need-least-magnitude-requires
-least-magnitude-requires c κs = search rules
+least_magnitude-requires : tie.Need-least_magnitude-requires
+least_magnitude-requires c κs = search rules
 
-least-magnitude-requires-2 : tie.Need-least-magnitude-requires-2
-least-magnitude-requires-2 c κs = search rules
+least_magnitude-requires-then-least_magnitude : tie.Need-least_magnitude-requires-then-least_magnitude
+least_magnitude-requires-then-least_magnitude c κs = search rules
 
 -- whether zeros are passed over
 over-is : (l : Float) (vector : List Float) (b : Bool) → l ≡ least_magnitude false vector → le (of_bits binary64 1) l ≡ b
@@ -25,22 +25,22 @@ from_is : (r : Float) (vector : List Float) (b q : Bool) → r ≡ least_magnitu
     → le (of_bits binary64 9007199254740992) r ≡ not_below (least_of false 1021) (least_magnitude q vector)
 from_is r vector b q e h = twice-test r ∙ ap (not_below (least_of false 1021)) (e ∙ ap (λ (t : Bool). least_magnitude t vector) (sym h))
 
+returns-then-least_magnitude : tie.Need-returns-then-least_magnitude
+returns-then-least_magnitude c =
+    let q = c.before.before in
+    let v = q.before.args.vector.v in
+    from_is c.least_magnitude-then-least_magnitude.result v false (not (not_below (least_of false 1074) (least_magnitude false v))) c.least_magnitude-then-least_magnitude.ensures
+    (over-is q.least_magnitude.result v true q.least_magnitude.ensures c.before.if-least_magnitude.true)
+
+least_magnitude-requires-2 : tie.Need-least_magnitude-requires-2
+least_magnitude-requires-2 c κs = search rules
+
 returns : tie.Need-returns
 returns c =
     let q = c.before.before in
     let v = q.before.args.vector.v in
-    from_is c.least-magnitude2.result v false (not (not_below (least_of false 1074) (least_magnitude false v))) c.least-magnitude2.ensures
-    (over-is q.least-magnitude.result v true q.least-magnitude.ensures c.before.if1.true)
+    from_is c.least_magnitude-2.result v true (not (not_below (least_of false 1074) (least_magnitude false v))) c.least_magnitude-2.ensures
+    (over-is q.least_magnitude.result v false q.least_magnitude.ensures c.before.if-least_magnitude.false)
 
-least-magnitude-requires-3 : tie.Need-least-magnitude-requires-3
-least-magnitude-requires-3 c κs = search rules
-
-returns-2 : tie.Need-returns-2
-returns-2 c =
-    let q = c.before.before in
-    let v = q.before.args.vector.v in
-    from_is c.least-magnitude3.result v true (not (not_below (least_of false 1074) (least_magnitude false v))) c.least-magnitude3.ensures
-    (over-is q.least-magnitude.result v false q.least-magnitude.ensures c.before.if1.false)
-
-pub vector-high-spec : {M : Type 1} → statement M
-vector-high-spec = tie.close (tie.spec least-magnitude-requires least-magnitude-requires-2 returns least-magnitude-requires-3 returns-2)
+pub vector_high_spec : {M : Type 1} → statement M
+vector_high_spec = tie.close (tie.spec least_magnitude-requires least_magnitude-requires-then-least_magnitude returns-then-least_magnitude least_magnitude-requires-2 returns)

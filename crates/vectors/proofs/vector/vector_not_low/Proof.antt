@@ -7,11 +7,11 @@ use Rattle.vectors.proofs.Vectorwise.{below-test}
 use Rattle.vectors.proofs.vector.vector_not_low.Statement.{statement}
 use Rattle.vectors.proofs.vector.vector_not_low.Tie as tie
 
-least-magnitude-requires : tie.Need-least-magnitude-requires
-least-magnitude-requires c κs = search rules
+least_magnitude-requires : tie.Need-least_magnitude-requires
+least_magnitude-requires c κs = search rules
 
 returns : tie.Need-returns
-returns c = below-test c.least-magnitude.result ∙ ap (not_below (least_of false 15)) c.least-magnitude.ensures
+returns c = below-test c.least_magnitude.result ∙ ap (not_below (least_of false 15)) c.least_magnitude.ensures
 
-pub vector-not-low-spec : {M : Type 1} → statement M
-vector-not-low-spec = tie.close (tie.spec least-magnitude-requires returns)
+pub vector_not_low_spec : {M : Type 1} → statement M
+vector_not_low_spec = tie.close (tie.spec least_magnitude-requires returns)

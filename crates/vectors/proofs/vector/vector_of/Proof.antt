@@ -22,16 +22,16 @@ use Rattle.vectors.proofs.Vectorwise.{place-natural, place-below, fits-from, vec
 use Rattle.vectors.proofs.vector.vector_of.Statement.{statement}
 use Rattle.vectors.proofs.vector.vector_of.Tie as tie
 
-abbrev invariant-loop : tie.invariant-loop
-invariant-loop values at stride n r₀ place₀ k₀ r place k =
+abbrev invariant-loop-k : tie.invariant-loop-k
+invariant-loop-k values at stride n r₀ place₀ k₀ r place k =
     (k ≤ 8) × (r.v ≡ vector_of (strided values (to_z w64 at) (to_z w64 stride) (min k n))) × (k < n → to_z w64 place ≡ to_z w64 at +ℤ to_z w64 stride *ℤ pos k)
 
-abbrev decreases-loop : tie.decreases-loop
-decreases-loop values at stride n r₀ place₀ k₀ r place k = 8 - k
+abbrev decreases-loop-k : tie.decreases-loop-k
+decreases-loop-k values at stride n r₀ place₀ k₀ r place k = 8 - k
 
-loop-holds : tie.Need-loop-init invariant-loop decreases-loop
+loop-k-init : tie.Need-loop-k-init invariant-loop-k decreases-loop-k
 unfolding of_bits vector_of strided feed
-loop-holds c =
+loop-k-init c =
     let s = c.before in (
       omega arith,
       ap (λ (k : ℕ). vector_of (strided s.args.values.now (to_z w64 (of_z w64 s.args.at)) (to_z w64 (of_z w64 s.args.stride)) k))
@@ -40,145 +40,127 @@ loop-holds c =
     )
 
 -- a turn of the loop, as it is entered: the entry, its values, and its numbers as the code holds them
-abbrev entry : tie.At-loop invariant-loop decreases-loop → tie.Start invariant-loop decreases-loop
+abbrev entry : tie.At-loop-k invariant-loop-k decreases-loop-k → tie.Start invariant-loop-k decreases-loop-k
 entry t = t.before.before
 
-abbrev values : tie.At-loop invariant-loop decreases-loop → List Float
+abbrev values : tie.At-loop-k invariant-loop-k decreases-loop-k → List Float
 values t = (entry t).args.values.now
 
-abbrev first : tie.At-loop invariant-loop decreases-loop → ℤ
+abbrev first : tie.At-loop-k invariant-loop-k decreases-loop-k → ℤ
 first t = to_z w64 (of_z w64 (entry t).args.at)
 
-abbrev apart : tie.At-loop invariant-loop decreases-loop → ℤ
+abbrev apart : tie.At-loop-k invariant-loop-k decreases-loop-k → ℤ
 apart t = to_z w64 (of_z w64 (entry t).args.stride)
 
-abbrev count : tie.At-loop invariant-loop decreases-loop → ℕ
+abbrev count : tie.At-loop-k invariant-loop-k decreases-loop-k → ℕ
 count t = (entry t).args.n
 
 -- what is required, of the numbers as the code holds them
-inside : (t : tie.At-loop invariant-loop decreases-loop) → PlacesInside (length (values t)) (first t) (apart t) (count t)
-inside t = let s = entry t in simp (to_z-of_z w64 s.args.at s.fits.at, to_z-of_z w64 s.args.stride s.fits.stride) s.pre.1
+inside : (t : tie.At-loop-k invariant-loop-k decreases-loop-k) → PlacesInside (length (values t)) (first t) (apart t) (count t)
+inside t = let s = entry t in simp (to_z-of_z w64 s.args.at s.fits.at, to_z-of_z w64 s.args.stride s.fits.stride) s.requires.1
 
 -- the place of the next value
-here : (t : tie.At-loop invariant-loop decreases-loop) → t.loop.k < count t → nat_abs (to_z w64 t.loop.place) < length (values t)
+here : (t : tie.At-loop-k invariant-loop-k decreases-loop-k) → t.loop-k.k < count t → nat_abs (to_z w64 t.loop-k.place-bits) < length (values t)
 here t l =
-    subst (λ (z : ℤ). nat_abs z < length (values t)) (sym (t.loop.invariant.2 l))
-    (place-below (length (values t)) (first t) (apart t) (count t) (inside t) t.loop.k l)
+    subst (λ (z : ℤ). nat_abs z < length (values t)) (sym (t.loop-k.invariant.2 l))
+    (place-below (length (values t)) (first t) (apart t) (count t) (inside t) t.loop-k.k l)
 
-cast-index : tie.Need-overflow-cast-index invariant-loop decreases-loop
-cast-index c =
+overflow_cast-index : tie.Need-overflow_cast-index invariant-loop-k decreases-loop-k
+overflow_cast-index c =
     let t = c.before.before in
-    let l = c.if1.true in (
-      subst (λ (z : ℤ). T (non_neg z)) (sym (t.loop.invariant.2 l))
-          (place-natural (length (values t)) (first t) (apart t) (count t) (inside t) t.loop.k l),
-      record { fits = omega (arith, here t l, (entry t).well-formed.0.0) },
+    let l = c.if-k-n.true in (
+      subst (λ (z : ℤ). T (non_neg z)) (sym (t.loop-k.invariant.2 l))
+          (place-natural (length (values t)) (first t) (apart t) (count t) (inside t) t.loop-k.k l),
+      record { fits = omega (arith, here t l, (entry t).well_formed.0.0) },
     )
 
-mul-r : tie.Need-overflow-mul-r invariant-loop decreases-loop
-mul-r c = let t = c.before.before in omega (arith, here t c.if1.true, (entry t).well-formed.0.1)
+offset_bounds-values-index : tie.Need-offset_bounds-values-index invariant-loop-k decreases-loop-k
+offset_bounds-values-index c = let t = c.before.before in omega (arith, here t c.if-k-n.true, (entry t).well_formed.0.1)
 
-shared-slice-read-r : tie.Need-shared-slice-read-r invariant-loop decreases-loop
-shared-slice-read-r c = here c.before.before.before c.before.if1.true
+bounds-values-index : tie.Need-bounds-values-index invariant-loop-k decreases-loop-k
+bounds-values-index c = here c.before.before.before c.before.if-k-n.true
 
-mul-r-2 : tie.Need-overflow-mul-r-2 invariant-loop decreases-loop
-mul-r-2 c = let l = c.before.before.loop-test.true in omega arith
+offset_bounds-r-k : tie.Need-offset_bounds-r-k invariant-loop-k decreases-loop-k
+offset_bounds-r-k c = let l = c.before.before.loop-k-test.true in omega arith
 
-element-write-r : tie.Need-element-write-r invariant-loop decreases-loop
-element-write-r c = let l = c.before.before.loop-test.true in omega arith
+bounds-r-k : tie.Need-bounds-r-k invariant-loop-k decreases-loop-k
+bounds-r-k c = let l = c.before.before.loop-k-test.true in omega arith
 
-add-k : tie.Need-overflow-add-k invariant-loop decreases-loop
-add-k c = let l = c.before.loop-test.true in omega arith
+overflow_add-k : tie.Need-overflow_add-k invariant-loop-k decreases-loop-k
+overflow_add-k c = let l = c.before.loop-k-test.true in omega arith
 
 -- the value is in, if there is one
-more : (c : tie.Joined1 invariant-loop decreases-loop) → let t = c.before.before in
-    c.if1.r.v ≡ vector_of (strided (values t) (first t) (apart t) (min (t.loop.k + 1) (count t)))
-more c = ⊎_elim (λ p. ap (λ (u : Vector). u.v) p.2 ∙ taken p.0.taken) (λ p. ap (λ (u : Vector). u.v) p.1 ∙ passed p.0.left) c.if1.branch
+more : (c : tie.Joined-k-n invariant-loop-k decreases-loop-k) → let t = c.before.before in
+    c.if-k-n.r.v ≡ vector_of (strided (values t) (first t) (apart t) (min (t.loop-k.k + 1) (count t)))
+more c = ⊎_elim (λ p. ap (λ (u : Vector). u.v) p.2 ∙ taken p.0.taken) (λ p. ap (λ (u : Vector). u.v) p.1 ∙ passed p.0.left) c.if-k-n.branch
   where
-    t : tie.At-loop invariant-loop decreases-loop
+    t : tie.At-loop-k invariant-loop-k decreases-loop-k
     t = c.before.before
 
-    taken : (l : t.loop.k < count t) → set t.loop.r.v t.loop.k (get_or (values t) (nat_abs (to_z w64 t.loop.place)) nan)
-        ≡ vector_of (strided (values t) (first t) (apart t) (min (t.loop.k + 1) (count t)))
+    taken : (l : t.loop-k.k < count t) → set t.loop-k.r.v t.loop-k.k (get_or (values t) (nat_abs (to_z w64 t.loop-k.place-bits)) nan)
+        ≡ vector_of (strided (values t) (first t) (apart t) (min (t.loop-k.k + 1) (count t)))
     taken l =
-        vector-more (values t) (first t) (apart t) t.loop.k t.loop.r.v (to_z w64 t.loop.place)
-        (t.loop.inv.1
-        ∙ ap (λ (k : ℕ). vector_of (strided (values t) (first t) (apart t) k)) (let e : min t.loop.k (count t) ≡ t.loop.k = omega arith in e))
-        (t.loop.inv.2 l)
-        ∙ ap (λ (k : ℕ). vector_of (strided (values t) (first t) (apart t) k)) (let e : t.loop.k + 1 ≡ min (t.loop.k + 1) (count t) = omega arith in e)
+        vector-more (values t) (first t) (apart t) t.loop-k.k t.loop-k.r.v (to_z w64 t.loop-k.place-bits)
+        (t.loop-k.invariant.1
+        ∙ ap (λ (k : ℕ). vector_of (strided (values t) (first t) (apart t) k)) (let e : min t.loop-k.k (count t) ≡ t.loop-k.k = omega arith in e))
+        (t.loop-k.invariant.2 l)
+        ∙ ap (λ (k : ℕ). vector_of (strided (values t) (first t) (apart t) k)) (let e : t.loop-k.k + 1 ≡ min (t.loop-k.k + 1) (count t) = omega arith in e)
 
-    passed : (l : count t ≤ t.loop.k) → t.loop.r.v ≡ vector_of (strided (values t) (first t) (apart t) (min (t.loop.k + 1) (count t)))
+    passed : (l : count t ≤ t.loop-k.k) → t.loop-k.r.v ≡ vector_of (strided (values t) (first t) (apart t) (min (t.loop-k.k + 1) (count t)))
     passed l =
-        t.loop.inv.1
+        t.loop-k.invariant.1
         ∙ ap (λ (k : ℕ). vector_of (strided (values t) (first t) (apart t) k))
-        (let e : min t.loop.k (count t) ≡ min (t.loop.k + 1) (count t) = omega arith in e)
+        (let e : min t.loop-k.k (count t) ≡ min (t.loop-k.k + 1) (count t) = omega arith in e)
 
-sub-next-place : tie.Need-overflow-sub-next-place invariant-loop decreases-loop
-sub-next-place c = omega arith
+overflow_sub-n : tie.Need-overflow_sub-n invariant-loop-k decreases-loop-k
+overflow_sub-n c = omega arith
 
 -- the place a stride further, of a value
-next-place-requires : tie.Need-next-place-requires invariant-loop decreases-loop
-next-place-requires c κs h =
+next_place-place-requires : tie.Need-next_place-place-requires invariant-loop-k decreases-loop-k
+next_place-place-requires c κs h =
     let t = c.before.before.before in
-    let l = c.if2.true in
-    fits-from (length (values t)) (first t) (apart t) (count t) (inside t) (omega (arith, (entry t).well-formed.0.1)) (to_z w64 t.loop.place) t.loop.k _
-    (t.loop.invariant.2 (omega arith)) (omega arith)
+    let l = c.if-k-n-2.true in
+    fits-from (length (values t)) (first t) (apart t) (count t) (inside t) (omega (arith, (entry t).well_formed.0.1)) (to_z w64 t.loop-k.place-bits) t.loop-k.k _
+    (t.loop-k.invariant.2 (omega arith)) (omega arith)
 
-next : (c : tie.After-next-place invariant-loop decreases-loop) → let t = c.before.before.before.before in
-    to_z w64 (of_z w64 c.next_place.result) ≡ first t +ℤ apart t *ℤ pos (t.loop.k + 1)
+next : (c : tie.After-next_place-place invariant-loop-k decreases-loop-k) → let t = c.before.before.before.before in
+    to_z w64 (of_z w64 c.next_place-place.result) ≡ first t +ℤ apart t *ℤ pos (t.loop-k.k + 1)
 next c =
     let t = c.before.before.before.before in
-    let l = c.before.if2.true in
-    to_z-of_z w64 c.next_place.result (record { sfits = c.next_place.type-inv })
-    ∙ c.next_place.ensures.0 (omega arith)
-    ∙ ap (λ (z : ℤ). z +ℤ apart t) (t.loop.invariant.2 (omega arith))
-    ∙ place-next (first t) (apart t) t.loop.k
+    let l = c.before.if-k-n-2.true in
+    to_z-of_z w64 c.next_place-place.result (record { sfits = c.next_place-place.type_inv })
+    ∙ c.next_place-place.ensures.0 (omega arith)
+    ∙ ap (λ (z : ℤ). z +ℤ apart t) (t.loop-k.invariant.2 (omega arith))
+    ∙ place-next (first t) (apart t) t.loop-k.k
 
-loop-less : tie.Need-loop-smaller invariant-loop decreases-loop
-loop-less c = let l = c.before.before.before.loop-test.true in omega arith
+loop-k-smaller-then-k-n-2 : tie.Need-loop-k-smaller-then-k-n-2 invariant-loop-k decreases-loop-k
+loop-k-smaller-then-k-n-2 c = let l = c.before.before.before.loop-k-test.true in omega arith
 
-loop-again : tie.Need-loop-preserved invariant-loop decreases-loop
-loop-again c =
-    let l = c.before.before.before.loop-test.true in
+loop-k-preserved-then-k-n-2 : tie.Need-loop-k-preserved-then-k-n-2 invariant-loop-k decreases-loop-k
+loop-k-preserved-then-k-n-2 c =
+    let l = c.before.before.before.loop-k-test.true in
     (omega arith, more c.before.before, λ h. next c)
 
-loop-less-2 : tie.Need-loop-smaller-2 invariant-loop decreases-loop
-loop-less-2 c = let l = c.before.before.loop-test.true in omega arith
+loop-k-smaller : tie.Need-loop-k-smaller invariant-loop-k decreases-loop-k
+loop-k-smaller c = let l = c.before.before.loop-k-test.true in omega arith
 
 -- the last value, and what is past it: no further place is formed
-loop-again-2 : tie.Need-loop-preserved-2 invariant-loop decreases-loop
-loop-again-2 c =
-    let l = c.before.before.loop-test.true in
-    let g = c.if2.false in
+loop-k-preserved : tie.Need-loop-k-preserved invariant-loop-k decreases-loop-k
+loop-k-preserved c =
+    let l = c.before.before.loop-k-test.true in
+    let g = c.if-k-n-2.false in
     (omega arith, more c.before, λ h. absurd (omega arith))
 
-returns : tie.Need-returns invariant-loop decreases-loop
+returns : tie.Need-returns invariant-loop-k decreases-loop-k
 returns c =
     let t = c.before in
     let s = entry t in
-    let a = t.loop.invariant.0 in
-    let l = c.loop-test.false in
-    let h = s.pre.0 in
-    let z : min t.loop.k s.args.n ≡ s.args.n = omega arith in
-    let e = t.loop.invariant.1 ∙ ap (λ (k : ℕ). vector_of (strided (values t) (first t) (apart t) k)) z in
+    let a = t.loop-k.invariant.0 in
+    let l = c.loop-k-test.false in
+    let h = s.requires.0 in
+    let z : min t.loop-k.k s.args.n ≡ s.args.n = omega arith in
+    let e = t.loop-k.invariant.1 ∙ ap (λ (k : ℕ). vector_of (strided (values t) (first t) (apart t) k)) z in
     simp (to_z-of_z w64 s.args.at s.fits.at, to_z-of_z w64 s.args.stride s.fits.stride) at e
 
-pub vector-of-spec : {M : Type 1} → statement M
-vector-of-spec =
-    tie.close
-    (tie.spec
-    invariant-loop
-    decreases-loop
-    loop-holds
-    cast-index
-    mul-r
-    shared-slice-read-r
-    mul-r-2
-    element-write-r
-    add-k
-    sub-next-place
-    next-place-requires
-    loop-less
-    loop-again
-    loop-less-2
-    loop-again-2
-    returns)
+pub vector_of_spec : {M : Type 1} → statement M
+vector_of_spec = tie.close (tie.spec invariant-loop-k decreases-loop-k loop-k-init overflow_cast-index offset_bounds-values-index bounds-values-index offset_bounds-r-k bounds-r-k overflow_add-k overflow_sub-n next_place-place-requires loop-k-smaller-then-k-n-2 loop-k-preserved-then-k-n-2 loop-k-smaller loop-k-preserved returns)

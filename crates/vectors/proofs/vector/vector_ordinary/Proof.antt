@@ -7,23 +7,23 @@ use Rattle.vectors.specs.InnerWaiting.{not_past}
 use Rattle.vectors.proofs.vector.vector_ordinary.Statement.{statement}
 use Rattle.vectors.proofs.vector.vector_ordinary.Tie as tie
 
-vector-high-requires : tie.Need-vector-high-requires
-vector-high-requires c κs = search rules
+vector_high-requires : tie.Need-vector_high-requires
+vector_high-requires c κs = search rules
 
-none-past-requires : tie.Need-none-past-requires
-none-past-requires c κs = search rules
+none_past-requires : tie.Need-none_past-requires
+none_past-requires c κs = search rules
+
+returns-then-vector_high : tie.Need-returns-then-vector_high
+returns-then-vector_high c =
+    let q = c.before.before in
+    let v = q.before.args.vector.v in
+    c.none_past.ensures ∙ sym (ap (λ (t : Bool). t && every not_past v) (sym q.vector_high.ensures ∙ c.before.if-vector_high.true))
 
 returns : tie.Need-returns
 returns c =
-    let q = c.before.before in
-    let v = q.before.args.vector.v in
-    c.none-past.ensures ∙ sym (ap (λ (t : Bool). t && every not_past v) (sym q.vector-high.ensures ∙ c.before.if1.true))
-
-returns-2 : tie.Need-returns-2
-returns-2 c =
     let q = c.before in
     let v = q.before.args.vector.v in
-    sym (ap (λ (t : Bool). t && every not_past v) (sym q.vector-high.ensures ∙ c.if1.false))
+    sym (ap (λ (t : Bool). t && every not_past v) (sym q.vector_high.ensures ∙ c.if-vector_high.false))
 
-pub vector-ordinary-spec : {M : Type 1} → statement M
-vector-ordinary-spec = tie.close (tie.spec vector-high-requires none-past-requires returns returns-2)
+pub vector_ordinary_spec : {M : Type 1} → statement M
+vector_ordinary_spec = tie.close (tie.spec vector_high-requires none_past-requires returns-then-vector_high returns)

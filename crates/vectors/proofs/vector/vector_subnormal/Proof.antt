@@ -8,26 +8,26 @@ use Rattle.vectors.proofs.Vectorwise.{positive-test}
 use Rattle.vectors.proofs.vector.vector_subnormal.Statement.{statement}
 use Rattle.vectors.proofs.vector.vector_subnormal.Tie as tie
 
-least-magnitude-requires : tie.Need-least-magnitude-requires
-least-magnitude-requires c κs = search rules
+least_magnitude-requires : tie.Need-least_magnitude-requires
+least_magnitude-requires c κs = search rules
 
-none-normal-requires : tie.Need-none-normal-requires
-none-normal-requires c κs = search rules
+none_normal-requires : tie.Need-none_normal-requires
+none_normal-requires c κs = search rules
+
+returns-then-least_magnitude : tie.Need-returns-then-least_magnitude
+returns-then-least_magnitude c =
+    let q = c.before.before in
+    let v = q.before.args.vector.v in
+    c.none_normal.ensures
+    ∙ sym (ap (λ (t : Bool). t && every below_normal v)
+    (sym (positive-test q.least_magnitude.result ∙ ap (not_below (least_of false 1074)) q.least_magnitude.ensures) ∙ c.before.if-least_magnitude.true))
 
 returns : tie.Need-returns
 returns c =
-    let q = c.before.before in
-    let v = q.before.args.vector.v in
-    c.none-normal.ensures
-    ∙ sym (ap (λ (t : Bool). t && every below_normal v)
-    (sym (positive-test q.least-magnitude.result ∙ ap (not_below (least_of false 1074)) q.least-magnitude.ensures) ∙ c.before.if1.true))
-
-returns-2 : tie.Need-returns-2
-returns-2 c =
     let q = c.before in
     let v = q.before.args.vector.v in
     sym (ap (λ (t : Bool). t && every below_normal v)
-    (sym (positive-test q.least-magnitude.result ∙ ap (not_below (least_of false 1074)) q.least-magnitude.ensures) ∙ c.if1.false))
+    (sym (positive-test q.least_magnitude.result ∙ ap (not_below (least_of false 1074)) q.least_magnitude.ensures) ∙ c.if-least_magnitude.false))
 
-pub vector-subnormal-spec : {M : Type 1} → statement M
-vector-subnormal-spec = tie.close (tie.spec least-magnitude-requires none-normal-requires returns returns-2)
+pub vector_subnormal_spec : {M : Type 1} → statement M
+vector_subnormal_spec = tie.close (tie.spec least_magnitude-requires none_normal-requires returns-then-least_magnitude returns)

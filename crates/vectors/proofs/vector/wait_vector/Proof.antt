@@ -11,91 +11,70 @@ use Rattle.vectors.proofs.Vectorwise.{wait-lane}
 use Rattle.vectors.proofs.vector.wait_vector.Statement.{statement}
 use Rattle.vectors.proofs.vector.wait_vector.Tie as tie
 
-abbrev invariant-loop : tie.invariant-loop
-invariant-loop signs vector t₀ k₀ t k = Worked (over (wait_step signs) vector.v nan) 8 t₀ t k
+abbrev invariant-loop-k : tie.invariant-loop-k
+invariant-loop-k signs vector t₀ k₀ t k = Worked (over (wait_step signs) vector.v nan) 8 t₀ t k
 
-abbrev decreases-loop : tie.decreases-loop
-decreases-loop signs vector t₀ k₀ t k = 8 - k
+abbrev decreases-loop-k : tie.decreases-loop-k
+decreases-loop-k signs vector t₀ k₀ t k = 8 - k
 
-loop-holds : tie.Need-loop-init invariant-loop decreases-loop
-loop-holds c = worked-none refl
+loop-k-init : tie.Need-loop-k-init invariant-loop-k decreases-loop-k
+loop-k-init c = worked-none refl
 
-mul-x : tie.Need-overflow-mul-x invariant-loop decreases-loop
-mul-x c = omega arith
+offset_bounds-vector-k : tie.Need-offset_bounds-vector-k invariant-loop-k decreases-loop-k
+offset_bounds-vector-k c = omega arith
 
-element-copy-out-x : tie.Need-element-copy-out-x invariant-loop decreases-loop
-element-copy-out-x c = omega arith
+bounds-vector-k : tie.Need-bounds-vector-k invariant-loop-k decreases-loop-k
+bounds-vector-k c = omega arith
 
-mul-t : tie.Need-overflow-mul-t invariant-loop decreases-loop
-mul-t c = omega arith
+offset_bounds-t-k : tie.Need-offset_bounds-t-k invariant-loop-k decreases-loop-k
+offset_bounds-t-k c = omega arith
 
-element-copy-out-t : tie.Need-element-copy-out-t invariant-loop decreases-loop
-element-copy-out-t c = omega arith
+bounds-t-k : tie.Need-bounds-t-k invariant-loop-k decreases-loop-k
+bounds-t-k c = omega arith
 
-mul-t-2 : tie.Need-overflow-mul-t-2 invariant-loop decreases-loop
-mul-t-2 c = omega arith
+offset_bounds-t-k-in-loop-k : tie.Need-offset_bounds-t-k-in-loop-k invariant-loop-k decreases-loop-k
+offset_bounds-t-k-in-loop-k c = omega arith
 
-element-write-t : tie.Need-element-write-t invariant-loop decreases-loop
-element-write-t c = omega arith
+bounds-t-k-in-loop-k : tie.Need-bounds-t-k-in-loop-k invariant-loop-k decreases-loop-k
+bounds-t-k-in-loop-k c = omega arith
 
-mul-lesser : tie.Need-overflow-mul-lesser invariant-loop decreases-loop
-mul-lesser c = omega arith
+offset_bounds-t-k-in-loop-k-2 : tie.Need-offset_bounds-t-k-in-loop-k-2 invariant-loop-k decreases-loop-k
+offset_bounds-t-k-in-loop-k-2 c = omega arith
 
-element-copy-out-lesser : tie.Need-element-copy-out-lesser invariant-loop decreases-loop
-element-copy-out-lesser c = omega arith
+bounds-t-k-in-loop-k-2 : tie.Need-bounds-t-k-in-loop-k-2 invariant-loop-k decreases-loop-k
+bounds-t-k-in-loop-k-2 c = omega arith
 
-measure-requires : tie.Need-measure-requires invariant-loop decreases-loop
+measure-requires : tie.Need-measure-requires invariant-loop-k decreases-loop-k
 measure-requires c κs = search rules
 
-lesser-requires : tie.Need-lesser-requires invariant-loop decreases-loop
+lesser-requires : tie.Need-lesser-requires invariant-loop-k decreases-loop-k
 lesser-requires c κs = search rules
 
-mul-t-3 : tie.Need-overflow-mul-t-3 invariant-loop decreases-loop
-mul-t-3 c = omega arith
+offset_bounds-t-k-in-loop-k-3 : tie.Need-offset_bounds-t-k-in-loop-k-3 invariant-loop-k decreases-loop-k
+offset_bounds-t-k-in-loop-k-3 c = omega arith
 
-element-write-t-2 : tie.Need-element-write-t-2 invariant-loop decreases-loop
-element-write-t-2 c = omega arith
+bounds-t-k-in-loop-k-3 : tie.Need-bounds-t-k-in-loop-k-3 invariant-loop-k decreases-loop-k
+bounds-t-k-in-loop-k-3 c = omega arith
 
-add-k : tie.Need-overflow-add-k invariant-loop decreases-loop
-add-k c = omega arith
+overflow_add-k : tie.Need-overflow_add-k invariant-loop-k decreases-loop-k
+overflow_add-k c = omega arith
 
-loop-less : tie.Need-loop-smaller invariant-loop decreases-loop
-loop-less c = omega arith
+loop-k-smaller : tie.Need-loop-k-smaller invariant-loop-k decreases-loop-k
+loop-k-smaller c = omega arith
 
-loop-again : tie.Need-loop-preserved invariant-loop decreases-loop
-loop-again c =
+loop-k-preserved : tie.Need-loop-k-preserved invariant-loop-k decreases-loop-k
+loop-k-preserved c =
     let q = c.before.before.before.before.before in
     let t = q.before in
-    let l = q.loop-test.true in
-    worked-more t.loop.invariant l
-    (wait-lane t.before.args.signs t.loop.t t.loop.k (get_or t.before.args.t2.v t.loop.k nan) c.lesser.result l
-    (c.lesser.ensures ∙ ap (λ (z : Float). lesser z (get_or t.loop.t.least t.loop.k nan)) c.before.before.measure.ensures))
+    let l = q.loop-k-test.true in
+    worked-more t.loop-k.invariant l
+    (wait-lane t.before.args.signs t.loop-k.t t.loop-k.k (get_or t.before.args.t2.v t.loop-k.k nan) c.lesser.result l
+    (c.lesser.ensures ∙ ap (λ (z : Float). lesser z (get_or t.loop-k.t.least t.loop-k.k nan)) c.before.before.measure.ensures))
 
-returns : tie.Need-returns invariant-loop decreases-loop
+returns : tie.Need-returns invariant-loop-k decreases-loop-k
 returns c =
     let t = c.before in
-    worked-fed (wait_step t.before.args.signs) nan t.before.args.t2.v t.before.requires.2 t.loop.invariant c.loop-test.false
+    worked-fed (wait_step t.before.args.signs) nan t.before.args.t2.v t.before.requires.2 t.loop-k.invariant c.loop-k-test.false
 
-pub wait-vector-spec : {M : Type 1} → statement M
-wait-vector-spec =
-    tie.close
-    (tie.spec
-    invariant-loop
-    decreases-loop
-    loop-holds
-    mul-x
-    element-copy-out-x
-    mul-t
-    element-copy-out-t
-    mul-t-2
-    element-write-t
-    measure-requires
-    mul-lesser
-    element-copy-out-lesser
-    lesser-requires
-    mul-t-3
-    element-write-t-2
-    add-k
-    loop-less
-    loop-again
-    returns)
+pub wait_vector_spec : {M : Type 1} → statement M
+wait_vector_spec = tie.close (tie.spec invariant-loop-k decreases-loop-k loop-k-init offset_bounds-vector-k bounds-vector-k offset_bounds-t-k bounds-t-k offset_bounds-t-k-in-loop-k bounds-t-k-in-loop-k measure-requires offset_bounds-t-k-in-loop-k-2 bounds-t-k-in-loop-k-2 lesser-requires offset_bounds-t-k-in-loop-k-3 bounds-t-k-in-loop-k-3 overflow_add-k loop-k-smaller loop-k-preserved returns)

@@ -6,73 +6,55 @@ use Rattle.windows.proofs.Loops.{BesideUpto, beside-more, beside-all}
 use Rattle.windows.proofs.eight.beside.Statement.{statement}
 use Rattle.windows.proofs.eight.beside.Tie as tie
 
-abbrev invariant-loop : tie.invariant-loop
-invariant-loop a b r₀ k₀ r k = BesideUpto a.m b.m k r.v
+abbrev invariant-loop-k : tie.invariant-loop-k
+invariant-loop-k a b r₀ k₀ r k = BesideUpto a.m b.m k r.v
 
-abbrev decreases-loop : tie.decreases-loop
-decreases-loop a b r₀ k₀ r k = 8 - k
+abbrev decreases-loop-k : tie.decreases-loop-k
+decreases-loop-k a b r₀ k₀ r k = 8 - k
 
-loop-holds : tie.Need-loop-init invariant-loop decreases-loop
-loop-holds c = record { upto = omega arith; long = refl; low = λ j h. absurd (omega arith); high = λ j h. absurd (omega arith) }
+loop-k-init : tie.Need-loop-k-init invariant-loop-k decreases-loop-k
+loop-k-init c = record { upto = omega arith; long = refl; low = λ j h. absurd (omega arith); high = λ j h. absurd (omega arith) }
 
-mul-r : tie.Need-overflow-mul-r invariant-loop decreases-loop
-mul-r c = omega arith
+offset_bounds-a-k : tie.Need-offset_bounds-a-k invariant-loop-k decreases-loop-k
+offset_bounds-a-k c = omega arith
 
-element-copy-out-r : tie.Need-element-copy-out-r invariant-loop decreases-loop
-element-copy-out-r c = omega arith
+bounds-a-k : tie.Need-bounds-a-k invariant-loop-k decreases-loop-k
+bounds-a-k c = omega arith
 
-mul-r-2 : tie.Need-overflow-mul-r-2 invariant-loop decreases-loop
-mul-r-2 c = omega arith
+offset_bounds-r-k : tie.Need-offset_bounds-r-k invariant-loop-k decreases-loop-k
+offset_bounds-r-k c = omega arith
 
-element-write-r : tie.Need-element-write-r invariant-loop decreases-loop
-element-write-r c = omega arith
+bounds-r-k : tie.Need-bounds-r-k invariant-loop-k decreases-loop-k
+bounds-r-k c = omega arith
 
-mul-r-3 : tie.Need-overflow-mul-r-3 invariant-loop decreases-loop
-mul-r-3 c = omega arith
+offset_bounds-b-k : tie.Need-offset_bounds-b-k invariant-loop-k decreases-loop-k
+offset_bounds-b-k c = omega arith
 
-element-copy-out-r-2 : tie.Need-element-copy-out-r-2 invariant-loop decreases-loop
-element-copy-out-r-2 c = omega arith
+bounds-b-k : tie.Need-bounds-b-k invariant-loop-k decreases-loop-k
+bounds-b-k c = omega arith
 
-add_r : tie.Need-overflow-add-r invariant-loop decreases-loop
-add_r c = omega arith
+overflow_add-r : tie.Need-overflow_add-r invariant-loop-k decreases-loop-k
+overflow_add-r c = omega arith
 
-mul-r-4 : tie.Need-overflow-mul-r-4 invariant-loop decreases-loop
-mul-r-4 c = omega arith
+offset_bounds-r-k-in-loop-k : tie.Need-offset_bounds-r-k-in-loop-k invariant-loop-k decreases-loop-k
+offset_bounds-r-k-in-loop-k c = omega arith
 
-element-write-r-2 : tie.Need-element-write-r-2 invariant-loop decreases-loop
-element-write-r-2 c = omega arith
+bounds-r-k-in-loop-k : tie.Need-bounds-r-k-in-loop-k invariant-loop-k decreases-loop-k
+bounds-r-k-in-loop-k c = omega arith
 
-add-k : tie.Need-overflow-add-k invariant-loop decreases-loop
-add-k c = omega arith
+overflow_add-k : tie.Need-overflow_add-k invariant-loop-k decreases-loop-k
+overflow_add-k c = omega arith
 
-loop-less : tie.Need-loop-smaller invariant-loop decreases-loop
-loop-less c = omega arith
+loop-k-smaller : tie.Need-loop-k-smaller invariant-loop-k decreases-loop-k
+loop-k-smaller c = omega arith
 
-loop-again : tie.Need-loop-preserved invariant-loop decreases-loop
-loop-again c =
+loop-k-preserved : tie.Need-loop-k-preserved invariant-loop-k decreases-loop-k
+loop-k-preserved c =
     let t = c.before.before.before in
-    beside-more _ _ _ _ t.loop.invariant c.before.before.loop-test.true
+    beside-more _ _ _ _ t.loop-k.invariant c.before.before.loop-k-test.true
 
-returns : tie.Need-returns invariant-loop decreases-loop
-returns c = beside-all _ _ _ _ c.before.loop.invariant c.loop-test.false
+returns : tie.Need-returns invariant-loop-k decreases-loop-k
+returns c = beside-all _ _ _ _ c.before.loop-k.invariant c.loop-k-test.false
 
-pub beside-spec : {M : Type 1} → statement M
-beside-spec =
-    tie.close
-    (tie.spec
-    invariant-loop
-    decreases-loop
-    loop-holds
-    mul-r
-    element-copy-out-r
-    mul-r-2
-    element-write-r
-    mul-r-3
-    element-copy-out-r-2
-    add_r
-    mul-r-4
-    element-write-r-2
-    add-k
-    loop-less
-    loop-again
-    returns)
+pub beside_spec : {M : Type 1} → statement M
+beside_spec = tie.close (tie.spec invariant-loop-k decreases-loop-k loop-k-init offset_bounds-a-k bounds-a-k offset_bounds-r-k bounds-r-k offset_bounds-b-k bounds-b-k overflow_add-r offset_bounds-r-k-in-loop-k bounds-r-k-in-loop-k overflow_add-k loop-k-smaller loop-k-preserved returns)

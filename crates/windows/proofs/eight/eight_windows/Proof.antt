@@ -17,40 +17,40 @@ use Rattle.windows.proofs.Sharing.{eight-shared}
 use Rattle.windows.proofs.eight.eight_windows.Statement.{statement}
 use Rattle.windows.proofs.eight.eight_windows.Tie as tie
 
-lanes-from-requires : tie.Need-lanes-from-requires
-lanes-from-requires c κs = omega arith
+lanes_from-a-requires : tie.Need-lanes_from-a-requires
+lanes_from-a-requires c κs = omega arith
 
-add-lanes-from : tie.Need-overflow-add-lanes-from
-add-lanes-from c = let s = c.before.before in record { fits = lt_of_lt_of_le (let l : s.args.at + 8 < 2 ^ 63 = omega (arith, s.requires.0, s.well-formed.0.1) in l) (lit≤ tt) }
+overflow_add-at : tie.Need-overflow_add-at
+overflow_add-at c = let s = c.before.before in record { fits = lt_of_lt_of_le (let l : s.args.at + 8 < 2 ^ 63 = omega (arith, s.requires.0, s.well_formed.0.1) in l) (lit≤ tt) }
 
-lanes-from-requires-2 : tie.Need-lanes-from-requires-2
-lanes-from-requires-2 c κs = omega arith
+lanes_from-b-requires : tie.Need-lanes_from-b-requires
+lanes_from-b-requires c κs = omega arith
 
 -- lanes that wait are eight
 long : (r : Waiting) (xs : List Float) → r ≡ feed (wait_step false) 0 (start_waiting (replicate 8 one)) xs → (length r.m ≡ 8) × (length r.least ≡ 8)
 long r xs e =
     (ap (λ (w : Waiting). length w.m) e ∙ wait-m-long false 0 (start_waiting (replicate 8 one)) xs, ap (λ (w : Waiting). length w.least) e ∙ wait-least-long false 0 (start_waiting (replicate 8 one)) xs)
 
-beside-requires : tie.Need-beside-requires
-beside-requires c κs = ((long _ _ c.before.lanes-from.ensures.0).0, (long _ _ c.lanes-from2.ensures.0).0)
+beside-full-requires : tie.Need-beside-full-requires
+beside-full-requires c κs = ((long _ _ c.before.lanes_from-a.ensures.0).0, (long _ _ c.lanes_from-b.ensures.0).0)
 
-beside-requires-2 : tie.Need-beside-requires-2
-beside-requires-2 c κs = ((long _ _ c.before.before.lanes-from.ensures.1).0, (long _ _ c.before.lanes-from2.ensures.1).0)
+beside-more-requires : tie.Need-beside-more-requires
+beside-more-requires c κs = ((long _ _ c.before.before.lanes_from-a.ensures.1).0, (long _ _ c.before.lanes_from-b.ensures.1).0)
 
-times-lanes-requires : tie.Need-times-lanes-requires
-times-lanes-requires c κs = (refl, c.beside2.ensures.long, omega arith, omega arith)
+times_lanes-requires : tie.Need-times_lanes-requires
+times_lanes-requires c κs = (refl, c.beside-more.ensures.long, omega arith, omega arith)
 
-times-lanes-requires-2 : tie.Need-times-lanes-requires-2
-times-lanes-requires-2 c κs = (c.times-lanes.ensures.long, c.before.before.beside.ensures.long, omega arith, omega arith)
+times_lanes-c-requires : tie.Need-times_lanes-c-requires
+times_lanes-c-requires c κs = (c.times_lanes.ensures.long, c.before.before.beside-full.ensures.long, omega arith, omega arith)
 
-none-below-requires : tie.Need-none-below-requires
-none-below-requires c κs = (long _ _ c.before.before.before.before.before.lanes-from.ensures.1).1
+none_below-requires : tie.Need-none_below-requires
+none_below-requires c κs = (long _ _ c.before.before.before.before.before.lanes_from-a.ensures.1).1
 
-none-below-requires-2 : tie.Need-none-below-requires-2
-none-below-requires-2 c κs = (long _ _ c.before.before.before.before.before.lanes-from2.ensures.1).1
+none_below-requires-2 : tie.Need-none_below-requires-2
+none_below-requires-2 c κs = (long _ _ c.before.before.before.before.before.lanes_from-b.ensures.1).1
 
-none-past-requires : tie.Need-none-past-requires
-none-past-requires c κs = c.before.before.times-lanes2.ensures.long
+none_past-requires : tie.Need-none_past-requires
+none_past-requires c κs = c.before.before.times_lanes-c.ensures.long
 
 returns : tie.Need-returns
 unfolding of_bits
@@ -66,26 +66,13 @@ returns c ok =
     let l1 = l2.before in
     let k = l1.before in
     let s = k.before in
-    let p = and_both (q1.none_below.result && q2.none-below2.result) n.none-past.result ok in
-    let q = and_both q1.none_below.result q2.none-below2.result p.0 in
-    eight-shared s.args.values.now k.shared-slice-known.given s.args.w s.args.at s.args.least s.requires.1 l1.lanes-from.result.full
-    l2.lanes-from2.result.full l1.lanes-from.result.more l2.lanes-from2.result.more l1.lanes-from.ensures.0 l2.lanes-from2.ensures.0
-    l1.lanes-from.ensures.1 l2.lanes-from2.ensures.1 b1.beside.result.v b2.beside2.result.v t1.times-lanes.result.v
-    t2.times-lanes2.result.v b1.beside.ensures b2.beside2.ensures t1.times-lanes.ensures t2.times-lanes2.ensures
-    (sym q1.none_below.ensures ∙ q.0) (sym q2.none-below2.ensures ∙ q.1) (sym n.none-past.ensures ∙ p.1) s.requires.0
+    let p = and_both (q1.none_below.result && q2.none_below-2.result) n.none_past.result ok in
+    let q = and_both q1.none_below.result q2.none_below-2.result p.0 in
+    eight-shared s.args.values.now k.shared_slice_known-1.given s.args.w s.args.at s.args.least s.requires.1 l1.lanes_from-a.result.full
+    l2.lanes_from-b.result.full l1.lanes_from-a.result.more l2.lanes_from-b.result.more l1.lanes_from-a.ensures.0 l2.lanes_from-b.ensures.0
+    l1.lanes_from-a.ensures.1 l2.lanes_from-b.ensures.1 b1.beside-full.result.v b2.beside-more.result.v t1.times_lanes.result.v
+    t2.times_lanes-c.result.v b1.beside-full.ensures b2.beside-more.ensures t1.times_lanes.ensures t2.times_lanes-c.ensures
+    (sym q1.none_below.ensures ∙ q.0) (sym q2.none_below-2.ensures ∙ q.1) (sym n.none_past.ensures ∙ p.1) s.requires.0
 
-pub eight-windows-spec : {M : Type 1} → statement M
-eight-windows-spec =
-    tie.close
-    (tie.spec
-    lanes-from-requires
-    add-lanes-from
-    lanes-from-requires-2
-    beside-requires
-    beside-requires-2
-    times-lanes-requires
-    times-lanes-requires-2
-    none-below-requires
-    none-below-requires-2
-    none-past-requires
-    returns)
+pub eight_windows_spec : {M : Type 1} → statement M
+eight_windows_spec = tie.close (tie.spec lanes_from-a-requires overflow_add-at lanes_from-b-requires beside-full-requires beside-more-requires times_lanes-requires times_lanes-c-requires none_below-requires none_below-requires-2 none_past-requires returns)

@@ -21,43 +21,43 @@ use Rattle.windows.proofs.eight.lanes_from.Statement.{statement}
 use Rattle.windows.proofs.eight.lanes_from.Tie as tie
 
 -- the place, in i64
-held : (c : tie.After-shared-slice-known) → to_z w64 c.before.args.at ≡ pos c.before.args.at
-held c = let s = c.before in to_z_pos w64 s.args.at (lt_of_lt_of_le (let l : s.args.at < 2 ^ 63 = omega (arith, s.requires, s.well-formed.0.1) in l) (lit≤ tt))
+held : (c : tie.After-shared_slice_known-1) → to_z w64 c.before.args.at ≡ pos c.before.args.at
+held c = let s = c.before in to_z_pos w64 s.args.at (lt_of_lt_of_le (let l : s.args.at < 2 ^ 63 = omega (arith, s.requires, s.well_formed.0.1) in l) (lit≤ tt))
 
-cast-short-beside : tie.Need-overflow-cast-short-beside
-cast-short-beside c = record { sfits = lt_of_lt_of_le (let s = c.before in let l : s.args.at < 2 ^ 63 = omega (arith, s.requires, s.well-formed.0.1) in l) (lit≤ tt) }
+overflow_cast-at : tie.Need-overflow_cast-at
+overflow_cast-at c = record { sfits = lt_of_lt_of_le (let s = c.before in let l : s.args.at < 2 ^ 63 = omega (arith, s.requires, s.well_formed.0.1) in l) (lit≤ tt) }
 
-short-beside-requires : tie.Need-short-beside-requires
-short-beside-requires c κs =
+short_beside-r-requires : tie.Need-short_beside-r-requires
+short_beside-r-requires c κs =
     let s = c.before in
     let vs = s.args.values.now in
     subst (λ (z : ℤ). PlacesInside (length vs) z (pos 1) (8 * s.args.vectors)) (sym (held c)) (inside-beside (length vs) s.args.at (8 * s.args.vectors) (omega arith))
 
-mul-vector-at : tie.Need-overflow-mul-vector-at
-mul-vector-at c = omega arith
+overflow_mul-vectors : tie.Need-overflow_mul-vectors
+overflow_mul-vectors c = omega arith
 
-add-vector-at : tie.Need-overflow-add-vector-at
-add-vector-at c = omega arith
+overflow_add-at : tie.Need-overflow_add-at
+overflow_add-at c = omega arith
 
-vector-at-requires : tie.Need-vector-at-requires
-vector-at-requires c κs = omega arith
+vector_at-vector-requires : tie.Need-vector_at-vector-requires
+vector_at-vector-requires c κs = omega arith
 
 -- the lanes of the whole vectors
-full : (c : tie.After-short-beside) → let s = c.before.before in
-    c.short-beside.result.lanes
+full : (c : tie.After-short_beside-r) → let s = c.before.before in
+    c.short_beside-r.result.lanes
     ≡ feed (wait_step false) 0 (start_waiting (replicate 8 one)) (strided s.args.values.now (pos s.args.at) (pos 1) (8 * s.args.vectors))
 full c =
     let s = c.before.before in
-    c.short-beside.ensures.0
+    c.short_beside-r.ensures.0
     ∙ ap (λ (z : ℤ). feed (wait_step false) 0 (start_waiting (replicate 8 one)) (strided s.args.values.now z (pos 1) (8 * s.args.vectors))) (held c.before)
 
-wait-vector-requires : tie.Need-wait-vector-requires
-wait-vector-requires c κs =
+wait_vector-more-requires : tie.Need-wait_vector-more-requires
+wait_vector-more-requires c κs =
     let g = c.before.before in
     let s = g.before.before in (
       ap (λ (w : Waiting). length w.m) (full g) ∙ wait-m-long false 0 (start_waiting (replicate 8 one)) _,
       ap (λ (w : Waiting). length w.least) (full g) ∙ wait-least-long false 0 (start_waiting (replicate 8 one)) _,
-      ap length c.vector-at.ensures ∙ window-length s.args.values.now (s.args.at + 8 * s.args.vectors) 8 (omega arith),
+      ap length c.vector_at-vector.ensures ∙ window-length s.args.values.now (s.args.at + 8 * s.args.vectors) 8 (omega arith),
     )
 
 returns : tie.Need-returns
@@ -66,11 +66,10 @@ returns c =
     let g = p.before.before in
     let s = g.before.before in (
       full g,
-      c.wait-vector.ensures
-          ∙ ap (feed (wait_step false) 0 g.short-beside.result.lanes) p.vector-at.ensures
-          ∙ one_more s.args.values.now s.args.at s.args.vectors g.short-beside.result.lanes s.requires (full g),
+      c.wait_vector-more.ensures
+          ∙ ap (feed (wait_step false) 0 g.short_beside-r.result.lanes) p.vector_at-vector.ensures
+          ∙ one_more s.args.values.now s.args.at s.args.vectors g.short_beside-r.result.lanes s.requires (full g),
     )
 
-pub lanes-from-spec : {M : Type 1} → statement M
-lanes-from-spec =
-    tie.close (tie.spec cast-short-beside short-beside-requires mul-vector-at add-vector-at vector-at-requires wait-vector-requires returns)
+pub lanes_from_spec : {M : Type 1} → statement M
+lanes_from_spec = tie.close (tie.spec overflow_cast-at short_beside-r-requires overflow_mul-vectors overflow_add-at vector_at-vector-requires wait_vector-more-requires returns)

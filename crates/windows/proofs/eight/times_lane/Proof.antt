@@ -5,65 +5,49 @@ use Rattle.windows.proofs.Loops.{LaneUpto, lane-none, lane-more, lane-all}
 use Rattle.windows.proofs.eight.times_lane.Statement.{statement}
 use Rattle.windows.proofs.eight.times_lane.Tie as tie
 
-abbrev invariant-loop : tie.invariant-loop
-invariant-loop k lanes r₀ t₀ r t = LaneUpto r₀.v lanes.v k t r.v
+abbrev invariant-loop-t : tie.invariant-loop-t
+invariant-loop-t k lanes r₀ t₀ r t = LaneUpto r₀.v lanes.v k t r.v
 
-abbrev decreases-loop : tie.decreases-loop
-decreases-loop k lanes r₀ t₀ r t = 8 - t
+abbrev decreases-loop-t : tie.decreases-loop-t
+decreases-loop-t k lanes r₀ t₀ r t = 8 - t
 
-loop-holds : tie.Need-loop-init invariant-loop decreases-loop
-loop-holds c = lane-none _ _ _ c.requires.0
+loop-t-init : tie.Need-loop-t-init invariant-loop-t decreases-loop-t
+loop-t-init c = lane-none _ _ _ c.requires.0
 
-mul-r : tie.Need-overflow-mul-r invariant-loop decreases-loop
-mul-r c = omega arith
+offset_bounds-r-t : tie.Need-offset_bounds-r-t invariant-loop-t decreases-loop-t
+offset_bounds-r-t c = omega arith
 
-element-copy-out-r : tie.Need-element-copy-out-r invariant-loop decreases-loop
-element-copy-out-r c = omega arith
+bounds-r-t : tie.Need-bounds-r-t invariant-loop-t decreases-loop-t
+bounds-r-t c = omega arith
 
-add_r : tie.Need-overflow-add-r invariant-loop decreases-loop
-add_r c = omega arith
+overflow_add-r : tie.Need-overflow_add-r invariant-loop-t decreases-loop-t
+overflow_add-r c = omega arith
 
-mul-r-2 : tie.Need-overflow-mul-r-2 invariant-loop decreases-loop
-mul-r-2 c = omega arith
+offset_bounds-lanes-t : tie.Need-offset_bounds-lanes-t invariant-loop-t decreases-loop-t
+offset_bounds-lanes-t c = omega arith
 
-element-copy-out-r-2 : tie.Need-element-copy-out-r-2 invariant-loop decreases-loop
-element-copy-out-r-2 c = omega arith
+bounds-lanes-t : tie.Need-bounds-lanes-t invariant-loop-t decreases-loop-t
+bounds-lanes-t c = omega arith
 
-mul-r-3 : tie.Need-overflow-mul-r-3 invariant-loop decreases-loop
-mul-r-3 c = omega arith
+offset_bounds-r-t-in-loop-t : tie.Need-offset_bounds-r-t-in-loop-t invariant-loop-t decreases-loop-t
+offset_bounds-r-t-in-loop-t c = omega arith
 
-element-write-r : tie.Need-element-write-r invariant-loop decreases-loop
-element-write-r c = omega arith
+bounds-r-t-in-loop-t : tie.Need-bounds-r-t-in-loop-t invariant-loop-t decreases-loop-t
+bounds-r-t-in-loop-t c = omega arith
 
-add-t : tie.Need-overflow-add-t invariant-loop decreases-loop
-add-t c = omega arith
+overflow_add-t : tie.Need-overflow_add-t invariant-loop-t decreases-loop-t
+overflow_add-t c = omega arith
 
-loop-less : tie.Need-loop-smaller invariant-loop decreases-loop
-loop-less c = omega arith
+loop-t-smaller : tie.Need-loop-t-smaller invariant-loop-t decreases-loop-t
+loop-t-smaller c = omega arith
 
-loop-again : tie.Need-loop-preserved invariant-loop decreases-loop
-loop-again c =
+loop-t-preserved : tie.Need-loop-t-preserved invariant-loop-t decreases-loop-t
+loop-t-preserved c =
     let t = c.before.before.before in
-    lane-more _ _ _ _ _ t.loop.invariant c.before.before.loop-test.true
+    lane-more _ _ _ _ _ t.loop-t.invariant c.before.before.loop-t-test.true
 
-returns : tie.Need-returns invariant-loop decreases-loop
-returns c = lane-all _ _ _ _ _ c.before.loop.invariant c.loop-test.false
+returns : tie.Need-returns invariant-loop-t decreases-loop-t
+returns c = lane-all _ _ _ _ _ c.before.loop-t.invariant c.loop-t-test.false
 
-pub times-lane-spec : {M : Type 1} → statement M
-times-lane-spec =
-    tie.close
-    (tie.spec
-    invariant-loop
-    decreases-loop
-    loop-holds
-    mul-r
-    element-copy-out-r
-    add_r
-    mul-r-2
-    element-copy-out-r-2
-    mul-r-3
-    element-write-r
-    add-t
-    loop-less
-    loop-again
-    returns)
+pub times_lane_spec : {M : Type 1} → statement M
+times_lane_spec = tie.close (tie.spec invariant-loop-t decreases-loop-t loop-t-init offset_bounds-r-t bounds-r-t overflow_add-r offset_bounds-lanes-t bounds-lanes-t offset_bounds-r-t-in-loop-t bounds-r-t-in-loop-t overflow_add-t loop-t-smaller loop-t-preserved returns)

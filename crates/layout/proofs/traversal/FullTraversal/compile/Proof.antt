@@ -35,24 +35,24 @@ use Rattle.layout.proofs.traversal.one_outer.Reads as one-outer-reads
 use Rattle.layout.proofs.traversal.with_run.Reads as with-run-reads
 
 -- the total, where it fits
-counted : (c : tie.Else4) → let s = c.before.before.before.before.before.before.before in
-    total_of s.args.sizes.now ≡ some c.before.before.checked-total.result.value
+counted : (c : tie.Else-not-total) → let s = c.before.before.before.before.before.before.before in
+    total_of s.args.sizes.now ≡ some c.before.before.checked_total-total.result.value
 counted c =
     let s = c.before.before.before.before.before.before.before in
-    total-yes s.args.sizes.now s.args.strides.now _ c.before.before.checked-total.ensures (not-false _ c.if4.false)
+    total-yes s.args.sizes.now s.args.strides.now _ c.before.before.checked_total-total.ensures (not-false _ c.if-not-total.false)
 
 -- the place where the total is known, from the ordered axes
-abbrev axes-total : tie.After-ordered-axes → tie.Else4
+abbrev axes-total : tie.After-ordered_axes-ordered → tie.Else-not-total
 axes-total o = o.before.before.before.before
 
-some_left : (o : tie.After-ordered-axes) → (axes-total o).before.before.checked-total.result.value ≡ 0 → ⊥
-some_left o = o.before.before.before.if5.false
+some_left : (o : tie.After-ordered_axes-ordered) → (axes-total o).before.before.checked_total-total.result.value ≡ 0 → ⊥
+some_left o = o.before.before.before.if-t-eq0.false
 
 -- the layout, where every check holds; and rule L3 holds of its axes
-compiled : (c : tie.Else7) → let f = c.before.before in let t = axes-total f.before.before.before.before.before in let m = t.before.before in
+compiled : (c : tie.Else-not-fused) → let f = c.before.before in let t = axes-total f.before.before.before.before.before in let m = t.before.before in
     let s = m.before.before.before.before.before in
-    let xs = held f.compress-reduce-outer-axes.result.count f.compress-reduce-outer-axes.new.0 f.compress-reduce-outer-axes.new.1.0 in
-    (traversal_of PLACES s.args.sizes.now s.args.strides.now ≡ some (layout_of PLACES m.checked-total.result.value xs)) × (resets_fit xs ≡ true)
+    let xs = held f.compress_reduce_outer_axes-fused.result.count f.compress_reduce_outer_axes-fused.new.0 f.compress_reduce_outer_axes-fused.new.1.0 in
+    (traversal_of PLACES s.args.sizes.now s.args.strides.now ≡ some (layout_of PLACES m.checked_total-total.result.value xs)) × (resets_fit xs ≡ true)
 compiled c =
     let f = c.before.before in
     let k = f.before.before.before in
@@ -60,112 +60,112 @@ compiled c =
     let t = axes-total o in
     let m = t.before.before in
     let s = m.before.before.before.before.before in
-    let q = not-false _ k.if6.false in
-    let z = not-false _ c.if7.false in (
-      is-layout s.args.sizes.now s.args.strides.now m.checked-total.result.value (counted t) (some_left o) o.ordered-axes.result
-          o.ordered-axes.ensures.1.0 q _ _ (o.ordered-axes.ensures.1.1 q).0 f.compress-reduce-outer-axes.result _ _
-          f.compress-reduce-outer-axes.ensures.1.0 z,
-      fused-fit s.args.sizes.now s.args.strides.now m.checked-total.result.value (counted t) (some_left o) o.ordered-axes.result
-          o.ordered-axes.ensures.1.0 q _ _ (o.ordered-axes.ensures.1.1 q).0 f.compress-reduce-outer-axes.result _ _
-          f.compress-reduce-outer-axes.ensures.1.0 z,
+    let q = not-false _ k.if-not-ordered.false in
+    let z = not-false _ c.if-not-fused.false in (
+      is-layout s.args.sizes.now s.args.strides.now m.checked_total-total.result.value (counted t) (some_left o) o.ordered_axes-ordered.result
+          o.ordered_axes-ordered.ensures.1.0 q _ _ (o.ordered_axes-ordered.ensures.1.1 q).0 f.compress_reduce_outer_axes-fused.result _ _
+          f.compress_reduce_outer_axes-fused.ensures.1.0 z,
+      fused-fit s.args.sizes.now s.args.strides.now m.checked_total-total.result.value (counted t) (some_left o) o.ordered_axes-ordered.result
+          o.ordered_axes-ordered.ensures.1.0 q _ _ (o.ordered_axes-ordered.ensures.1.1 q).0 f.compress_reduce_outer_axes-fused.result _ _
+          f.compress_reduce_outer_axes-fused.ensures.1.0 z,
     )
 
 refused-requires : tie.Need-refused-requires
 refused-requires c κs = search rules
 
-returns : tie.Need-returns
-returns c =
+returns-then-sizes-strides : tie.Need-returns-then-sizes-strides
+returns-then-sizes-strides c =
     let s = c.before.before.before in
-    c.refused.ensures ∙ sym (code-1 s.args.sizes.now s.args.strides.now c.before.if1.true)
+    c.refused.ensures ∙ sym (code-1 s.args.sizes.now s.args.strides.now c.before.if-sizes-strides.true)
 
-shared-slice-read-compile-line : tie.Need-shared-slice-read-compile-line
-shared-slice-read-compile-line c = search rules
+bounds-sizes-0 : tie.Need-bounds-sizes-0
+bounds-sizes-0 c = search rules
 
-shared-slice-copy-out-compile-line : tie.Need-shared-slice-copy-out-compile-line
-shared-slice-copy-out-compile-line c = search rules
+bounds-strides-0 : tie.Need-bounds-strides-0
+bounds-strides-0 c = search rules
 
-compile-line-requires : tie.Need-compile-line-requires
-compile-line-requires c κs = search rules
+compile_line-requires : tie.Need-compile_line-requires
+compile_line-requires c κs = search rules
 
-returns-2 : tie.Need-returns-2
-returns-2 c =
+returns-then-sizes-eq1 : tie.Need-returns-then-sizes-eq1
+returns-then-sizes-eq1 c =
     let l = c.before.before.before in
     let s = l.before.before.before in
-    let f : SFits w64 (get_or s.args.strides.now 0 (pos 0)) = record { sfits = c.before.compile-line-arg.given } in
-    simp (to_z-of_z f) at c.compile-line.ensures
-    ∙ ap (λ (z : List ℕ). compile_of PLACES z (get_or s.args.strides.now 0 (pos 0) ∷ [])) (single 0 s.args.sizes.now l.if2.true)
-    ∙ ap (compile_of PLACES s.args.sizes.now) (single (pos 0) s.args.strides.now (sym l.before.if1.false ∙ l.if2.true))
+    let f : SFits w64 (get_or s.args.strides.now 0 (pos 0)) = record { sfits = c.before.compile_line-arg-1.given } in
+    simp (to_z-of_z f) at c.compile_line.ensures
+    ∙ ap (λ (z : List ℕ). compile_of PLACES z (get_or s.args.strides.now 0 (pos 0) ∷ [])) (single 0 s.args.sizes.now l.if-sizes-eq1.true)
+    ∙ ap (compile_of PLACES s.args.sizes.now) (single (pos 0) s.args.strides.now (sym l.before.if-sizes-strides.false ∙ l.if-sizes-eq1.true))
 
-refused-requires-2 : tie.Need-refused-requires-2
-refused-requires-2 c κs = search rules
+refused-requires-then-sizes-gt-PLACES : tie.Need-refused-requires-then-sizes-gt-PLACES
+refused-requires-then-sizes-gt-PLACES c κs = search rules
 
-returns-3 : tie.Need-returns-3
-returns-3 c =
+returns-then-sizes-gt-PLACES : tie.Need-returns-then-sizes-gt-PLACES
+returns-then-sizes-gt-PLACES c =
     let e = c.before.before.before in
     let s = e.before.before in
-    c.refused2.ensures ∙ sym (code-2 s.args.sizes.now s.args.strides.now e.if1.false c.before.if3.true)
+    c.refused-then-sizes-gt-PLACES.ensures ∙ sym (code-2 s.args.sizes.now s.args.strides.now e.if-sizes-strides.false c.before.if-sizes-gt-PLACES.true)
 
-checked-total-requires : tie.Need-checked-total-requires
-checked-total-requires c κs = search rules
+checked_total-total-requires : tie.Need-checked_total-total-requires
+checked_total-total-requires c κs = search rules
 
-refused-requires-3 : tie.Need-refused-requires-3
-refused-requires-3 c κs = search rules
+refused-requires-then-not-total : tie.Need-refused-requires-then-not-total
+refused-requires-then-not-total c κs = search rules
 
-returns-4 : tie.Need-returns-4
-returns-4 c =
+returns-then-not-total : tie.Need-returns-then-not-total
+returns-then-not-total c =
     let m = c.before.before.before in
     let e = m.before.before.before in
     let s = e.before.before in
-    c.refused3.ensures
-    ∙ sym (code-3 s.args.sizes.now s.args.strides.now e.if1.false m.before.if3.false
-    (total-no s.args.sizes.now s.args.strides.now _ m.checked-total.ensures (not-true _ c.before.if4.true)))
+    c.refused-then-not-total.ensures
+    ∙ sym (code-3 s.args.sizes.now s.args.strides.now e.if-sizes-strides.false m.before.if-sizes-gt-PLACES.false
+    (total-no s.args.sizes.now s.args.strides.now _ m.checked_total-total.ensures (not-true _ c.before.if-not-total.true)))
 
-no-elements-requires : tie.Need-no-elements-requires
-no-elements-requires c κs = search rules
+no_elements-requires : tie.Need-no_elements-requires
+no_elements-requires c κs = search rules
 
-returns-5 : tie.Need-returns-5
-returns-5 c =
+returns-then-t-eq0 : tie.Need-returns-then-t-eq0
+returns-then-t-eq0 c =
     let t = c.before.before in
     let m = t.before.before in
     let e = m.before.before.before in
     let s = e.before.before in
-    c.no-elements.ensures
-    ∙ sym (code-0 s.args.sizes.now s.args.strides.now e.if1.false m.before.if3.false (empty_layout PLACES) m.checked-total.result.value
-    (no-elements s.args.sizes.now s.args.strides.now m.checked-total.result.value (counted t) c.before.if5.true) (counted t)
-    (omega (arith, c.before.if5.true)))
+    c.no_elements.ensures
+    ∙ sym (code-0 s.args.sizes.now s.args.strides.now e.if-sizes-strides.false m.before.if-sizes-gt-PLACES.false (empty_layout PLACES) m.checked_total-total.result.value
+    (no-elements s.args.sizes.now s.args.strides.now m.checked_total-total.result.value (counted t) c.before.if-t-eq0.true) (counted t)
+    (omega (arith, c.before.if-t-eq0.true)))
 
-ordered-axes-requires : tie.Need-ordered-axes-requires
-ordered-axes-requires c κs =
+ordered_axes-ordered-requires : tie.Need-ordered_axes-ordered-requires
+ordered_axes-ordered-requires c κs =
     let m = c.before.before.before.before.before in
     let e = m.before.before.before in
-    (e.if1.false, m.before.if3.false, (refl, refl))
+    (e.if-sizes-strides.false, m.before.if-sizes-gt-PLACES.false, (refl, refl))
 
-refused-requires-4 : tie.Need-refused-requires-4
-refused-requires-4 c κs = search rules
+refused-requires-then-not-ordered : tie.Need-refused-requires-then-not-ordered
+refused-requires-then-not-ordered c κs = search rules
 
-returns-6 : tie.Need-returns-6
-returns-6 c =
+returns-then-not-ordered : tie.Need-returns-then-not-ordered
+returns-then-not-ordered c =
     let o = c.before.before.before in
     let t = axes-total o in
     let m = t.before.before in
     let e = m.before.before.before in
     let s = e.before.before in
-    c.refused4.ensures
-    ∙ sym (code-3 s.args.sizes.now s.args.strides.now e.if1.left m.before.if3.left
-    (no-resets s.args.sizes.now s.args.strides.now m.checked-total.result.value (counted t) (some_left o) o.ordered-axes.result
-    o.ordered-axes.ensures.1.0 (not-true _ c.before.if6.true)))
+    c.refused-then-not-ordered.ensures
+    ∙ sym (code-3 s.args.sizes.now s.args.strides.now e.if-sizes-strides.left m.before.if-sizes-gt-PLACES.left
+    (no-resets s.args.sizes.now s.args.strides.now m.checked_total-total.result.value (counted t) (some_left o) o.ordered_axes-ordered.result
+    o.ordered_axes-ordered.ensures.1.0 (not-true _ c.before.if-not-ordered.true)))
 
-compress-reduce-outer-axes-requires : tie.Need-compress-reduce-outer-axes-requires
-compress-reduce-outer-axes-requires c κs =
+compress_reduce_outer_axes-fused-requires : tie.Need-compress_reduce_outer_axes-fused-requires
+compress_reduce_outer_axes-fused-requires c κs =
     let k = c.before.before in
     let o = k.before.before in
-    ((o.ordered-axes.ensures.1.1 (not-false _ k.if6.false)).1, o.ordered-axes.ensures.0)
+    ((o.ordered_axes-ordered.ensures.1.1 (not-false _ k.if-not-ordered.false)).1, o.ordered_axes-ordered.ensures.0)
 
-refused-requires-5 : tie.Need-refused-requires-5
-refused-requires-5 c κs = search rules
+refused-requires-then-not-fused : tie.Need-refused-requires-then-not-fused
+refused-requires-then-not-fused c κs = search rules
 
-returns-7 : tie.Need-returns-7
-returns-7 c =
+returns-then-not-fused : tie.Need-returns-then-not-fused
+returns-then-not-fused c =
     let f = c.before.before.before in
     let k = f.before.before.before in
     let o = k.before.before in
@@ -173,115 +173,84 @@ returns-7 c =
     let m = t.before.before in
     let e = m.before.before.before in
     let s = e.before.before in
-    let q = not-false _ k.if6.false in
-    c.refused5.ensures
-    ∙ sym (code-3 s.args.sizes.now s.args.strides.now e.if1.left m.before.if3.left
-    (no-fusing s.args.sizes.now s.args.strides.now m.checked-total.result.value (counted t) (some_left o) o.ordered-axes.result
-    o.ordered-axes.ensures.1.0 q _ _ (o.ordered-axes.ensures.1.1 q).0 f.compress-reduce-outer-axes.result _ _
-    f.compress-reduce-outer-axes.ensures.1.0 (not-true _ c.before.if7.true)))
+    let q = not-false _ k.if-not-ordered.false in
+    c.refused-then-not-fused.ensures
+    ∙ sym (code-3 s.args.sizes.now s.args.strides.now e.if-sizes-strides.left m.before.if-sizes-gt-PLACES.left
+    (no-fusing s.args.sizes.now s.args.strides.now m.checked_total-total.result.value (counted t) (some_left o) o.ordered_axes-ordered.result
+    o.ordered_axes-ordered.ensures.1.0 q _ _ (o.ordered_axes-ordered.ensures.1.1 q).0 f.compress_reduce_outer_axes-fused.result _ _
+    f.compress_reduce_outer_axes-fused.ensures.1.0 (not-true _ c.before.if-not-fused.true)))
 
-refused-requires-6 : tie.Need-refused-requires-6
-refused-requires-6 c κs = search rules
+refused-requires-then-t-gt-MOST_ELEMENTS : tie.Need-refused-requires-then-t-gt-MOST_ELEMENTS
+refused-requires-then-t-gt-MOST_ELEMENTS c κs = search rules
 
-returns-8 : tie.Need-returns-8
-returns-8 c =
+returns-then-t-gt-MOST_ELEMENTS : tie.Need-returns-then-t-gt-MOST_ELEMENTS
+returns-then-t-gt-MOST_ELEMENTS c =
     let k = c.before.before in
     let t = axes-total k.before.before.before.before.before.before.before in
     let m = t.before.before in
     let e = m.before.before.before in
     let s = e.before.before in
-    c.refused6.ensures
+    c.refused-then-t-gt-MOST_ELEMENTS.ensures
     ∙ sym
-    (code-4 s.args.sizes.now s.args.strides.now e.if1.left m.before.if3.left _ m.checked-total.result.value (compiled k).0 (counted t)
-    c.before.if8.true)
+    (code-4 s.args.sizes.now s.args.strides.now e.if-sizes-strides.left m.before.if-sizes-gt-PLACES.left _ m.checked_total-total.result.value (compiled k).0 (counted t)
+    c.before.if-t-gt-MOST_ELEMENTS.true)
 
-array-read-one-outer : tie.Need-array-read-one-outer
-array-read-one-outer c = search rules
+bounds-extents-0 : tie.Need-bounds-extents-0
+bounds-extents-0 c = search rules
 
-array-copy-out-one-outer : tie.Need-array-copy-out-one-outer
-array-copy-out-one-outer c = search rules
+bounds-steps-0 : tie.Need-bounds-steps-0
+bounds-steps-0 c = search rules
 
-array-read-one-outer-2 : tie.Need-array-read-one-outer-2
-array-read-one-outer-2 c = search rules
+bounds-extents-1 : tie.Need-bounds-extents-1
+bounds-extents-1 c = search rules
 
-array-copy-out-one-outer-2 : tie.Need-array-copy-out-one-outer-2
-array-copy-out-one-outer-2 c = search rules
+bounds-steps-1 : tie.Need-bounds-steps-1
+bounds-steps-1 c = search rules
 
-one-outer-requires : tie.Need-one-outer-requires
-one-outer-requires c κs =
+one_outer-requires : tie.Need-one_outer-requires
+one_outer-requires c κs =
     let k = c.before.before.before.before.before in
     let f = k.before.before in
-    let d : SFits w64 (get_or f.compress-reduce-outer-axes.new.1.0 1 (pos 0)) = record { sfits = c.one-outer-arg2.given } in
+    let d : SFits w64 (get_or f.compress_reduce_outer_axes-fused.new.1.0 1 (pos 0)) = record { sfits = c.one_outer-arg-then-fused-eq2-1.given } in
     simp (to_z-of_z d)
-    (resets-at _ _ f.compress-reduce-outer-axes.ensures.0 f.compress-reduce-outer-axes.result.count 1 (omega (arith, c.before.before.if9.true))
-    f.compress-reduce-outer-axes.ensures.1.1 (compiled k).1)
+    (resets-at _ _ f.compress_reduce_outer_axes-fused.ensures.0 f.compress_reduce_outer_axes-fused.result.count 1 (omega (arith, c.before.before.if-fused-eq2.true))
+    f.compress_reduce_outer_axes-fused.ensures.1.1 (compiled k).1)
 
-returns-9 : tie.Need-returns-9
-returns-9 c =
+returns-then-fused-eq2 : tie.Need-returns-then-fused-eq2
+returns-then-fused-eq2 c =
     let k = c.before.before.before.before.before.before in
     let f = k.before.before in
     let t = axes-total k.before.before.before.before.before.before.before in
     let m = t.before.before in
     let e = m.before.before.before in
     let s = e.before.before in
-    let d : SFits w64 (get_or f.compress-reduce-outer-axes.new.1.0 0 (pos 0)) = record { sfits = c.before.before.one-outer-arg.given } in
-    let g : SFits w64 (get_or f.compress-reduce-outer-axes.new.1.0 1 (pos 0)) = record { sfits = c.before.one-outer-arg2.given } in
-    simp (to_z-of_z d, to_z-of_z g) at c.one-outer.ensures
-    ∙ ap (λ (xs : List ReduceOuterAxis). record { code = 0; traversal = layout_of PLACES m.checked-total.result.value xs })
-    (sym (ap (λ (n : ℕ). held n f.compress-reduce-outer-axes.new.0 f.compress-reduce-outer-axes.new.1.0) c.before.before.before.if9.true
-    ∙ held_two _ _ f.compress-reduce-outer-axes.ensures.0))
+    let d : SFits w64 (get_or f.compress_reduce_outer_axes-fused.new.1.0 0 (pos 0)) = record { sfits = c.before.before.one_outer-arg-1.given } in
+    let g : SFits w64 (get_or f.compress_reduce_outer_axes-fused.new.1.0 1 (pos 0)) = record { sfits = c.before.one_outer-arg-then-fused-eq2-1.given } in
+    simp (to_z-of_z d, to_z-of_z g) at c.one_outer.ensures
+    ∙ ap (λ (xs : List ReduceOuterAxis). record { code = 0; traversal = layout_of PLACES m.checked_total-total.result.value xs })
+    (sym (ap (λ (n : ℕ). held n f.compress_reduce_outer_axes-fused.new.0 f.compress_reduce_outer_axes-fused.new.1.0) c.before.before.before.if-fused-eq2.true
+    ∙ held_two _ _ f.compress_reduce_outer_axes-fused.ensures.0))
     ∙ sym
-    (code-0 s.args.sizes.now s.args.strides.now e.if1.left m.before.if3.left _ m.checked-total.result.value (compiled k).0 (counted t)
-    c.before.before.before.before.before.if8.false)
+    (code-0 s.args.sizes.now s.args.strides.now e.if-sizes-strides.left m.before.if-sizes-gt-PLACES.left _ m.checked_total-total.result.value (compiled k).0 (counted t)
+    c.before.before.before.before.before.if-t-gt-MOST_ELEMENTS.false)
 
-with-run-requires : tie.Need-with-run-requires
-with-run-requires c κs =
+with_run-requires : tie.Need-with_run-requires
+with_run-requires c κs =
     let k = c.before.before.before.before.before in
     let f = k.before.before in
-    (f.compress-reduce-outer-axes.ensures.1.1, f.compress-reduce-outer-axes.ensures.0, (compiled k).1)
+    (f.compress_reduce_outer_axes-fused.ensures.1.1, f.compress_reduce_outer_axes-fused.ensures.0, (compiled k).1)
 
-returns-10 : tie.Need-returns-10
-returns-10 c =
+returns : tie.Need-returns
+returns c =
     let k = c.before.before.before.before.before.before in
     let t = axes-total k.before.before.before.before.before.before.before in
     let m = t.before.before in
     let e = m.before.before.before in
     let s = e.before.before in
-    ap (λ (l : FullTraversal). record { code = 0; traversal = l }) c.with-run.ensures
+    ap (λ (l : FullTraversal). record { code = 0; traversal = l }) c.with_run.ensures
     ∙ sym
-    (code-0 s.args.sizes.now s.args.strides.now e.if1.left m.before.if3.left _ m.checked-total.result.value (compiled k).0 (counted t)
-    c.before.before.before.before.before.if8.false)
+    (code-0 s.args.sizes.now s.args.strides.now e.if-sizes-strides.left m.before.if-sizes-gt-PLACES.left _ m.checked_total-total.result.value (compiled k).0 (counted t)
+    c.before.before.before.before.before.if-t-gt-MOST_ELEMENTS.false)
 
-pub compile-spec : {M : Type 1} → statement M
-compile-spec =
-    tie.close
-    (tie.spec
-    refused-requires
-    returns
-    shared-slice-read-compile-line
-    shared-slice-copy-out-compile-line
-    compile-line-requires
-    returns-2
-    refused-requires-2
-    returns-3
-    checked-total-requires
-    refused-requires-3
-    returns-4
-    no-elements-requires
-    returns-5
-    ordered-axes-requires
-    refused-requires-4
-    returns-6
-    compress-reduce-outer-axes-requires
-    refused-requires-5
-    returns-7
-    refused-requires-6
-    returns-8
-    array-read-one-outer
-    array-copy-out-one-outer
-    array-read-one-outer-2
-    array-copy-out-one-outer-2
-    one-outer-requires
-    returns-9
-    with-run-requires
-    returns-10)
+pub compile_spec : {M : Type 1} → statement M
+compile_spec = tie.close (tie.spec refused-requires returns-then-sizes-strides bounds-sizes-0 bounds-strides-0 compile_line-requires returns-then-sizes-eq1 refused-requires-then-sizes-gt-PLACES returns-then-sizes-gt-PLACES checked_total-total-requires refused-requires-then-not-total returns-then-not-total no_elements-requires returns-then-t-eq0 ordered_axes-ordered-requires refused-requires-then-not-ordered returns-then-not-ordered compress_reduce_outer_axes-fused-requires refused-requires-then-not-fused returns-then-not-fused refused-requires-then-t-gt-MOST_ELEMENTS returns-then-t-gt-MOST_ELEMENTS bounds-extents-0 bounds-steps-0 bounds-extents-1 bounds-steps-1 one_outer-requires returns-then-fused-eq2 with_run-requires returns)

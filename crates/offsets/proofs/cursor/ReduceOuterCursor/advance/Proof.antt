@@ -21,139 +21,118 @@ use Rattle.offsets.proofs.cursor.ReduceOuterCursor.advance.Tie as tie
 use Rattle.offsets.proofs.cursor.ReduceOuterCursor.advance.Reads as reads
 use Rattle.offsets.proofs.cursor.ReduceOuterCursor.advance.Lts as lts
 
-abbrev invariant-loop : tie.invariant-loop
-invariant-loop count axes c₀ i₀ c i = Advancing (take count axes) c₀ c i
+abbrev invariant-loop-i : tie.invariant-loop-i
+invariant-loop-i count axes c₀ i₀ c i = Advancing (take count axes) c₀ c i
 
-abbrev decreases-loop : tie.decreases-loop
-decreases-loop count axes c₀ i₀ c i = count - i
+abbrev decreases-loop-i : tie.decreases-loop-i
+decreases-loop-i count axes c₀ i₀ c i = count - i
 
-loop-holds : tie.Need-loop-init invariant-loop decreases-loop
-loop-holds c = advancing-none _ _ c.requires.2
+loop-i-init : tie.Need-loop-i-init invariant-loop-i decreases-loop-i
+loop-i-init c = advancing-none _ _ c.requires.2
 
 -- the axis at i, and those after it
-here : (c : tie.In-loop invariant-loop decreases-loop) → let s = c.before.before in
-    drop c.before.loop.i (take s.args.count s.args.t3)
-    ≡ get_or s.args.t3 c.before.loop.i no_axis ∷ drop (c.before.loop.i + 1) (take s.args.count s.args.t3)
+here : (c : tie.In-loop-i invariant-loop-i decreases-loop-i) → let s = c.before.before in
+    drop c.before.loop-i.i (take s.args.count s.args.t3)
+    ≡ get_or s.args.t3 c.before.loop-i.i no_axis ∷ drop (c.before.loop-i.i + 1) (take s.args.count s.args.t3)
 here c =
     let s = c.before.before in
-    take-from s.args.t3 s.args.count no_axis c.before.loop.i c.loop-test.true (omega (arith, s.requires.0, s.requires.1))
+    take-from s.args.t3 s.args.count no_axis c.before.loop-i.i c.loop-i-test.true (omega (arith, s.requires.0, s.requires.1))
 
-counted : (c : tie.In-loop invariant-loop decreases-loop) → length (take c.before.before.args.count c.before.before.args.t3) ≡ c.before.before.args.count
+counted : (c : tie.In-loop-i invariant-loop-i decreases-loop-i) → length (take c.before.before.args.count c.before.before.args.t3) ≡ c.before.before.args.count
 counted c = let s = c.before.before in length-take-le s.args.count s.args.t3 (omega (arith, s.requires.0, s.requires.1))
 
-axis : (c : tie.In-loop invariant-loop decreases-loop) → Axis (get_or c.before.before.args.t3 c.before.loop.i no_axis)
-axis c = advance-axis _ _ _ _ c.before.loop.invariant _ (here c)
+axis : (c : tie.In-loop-i invariant-loop-i decreases-loop-i) → Axis (get_or c.before.before.args.t3 c.before.loop-i.i no_axis)
+axis c = advance-axis _ _ _ _ c.before.loop-i.invariant _ (here c)
 
-digit : (c : tie.In-loop invariant-loop decreases-loop)
-    → get_or c.before.loop.c.digits c.before.loop.i 0
-    ≡ c.before.loop.invariant.index % (get_or c.before.before.args.t3 c.before.loop.i no_axis).extent
-digit c = advance-digit _ _ _ _ c.before.loop.invariant _ (here c)
+digit : (c : tie.In-loop-i invariant-loop-i decreases-loop-i)
+    → get_or c.before.loop-i.c.digits c.before.loop-i.i 0
+    ≡ c.before.loop-i.invariant.index % (get_or c.before.before.args.t3 c.before.loop-i.i no_axis).extent
+digit c = advance-digit _ _ _ _ c.before.loop-i.invariant _ (here c)
 
-from-here : (c : tie.In-loop invariant-loop decreases-loop) → Small c.before.loop.c.source_offset
-from-here c = advance-here _ _ _ _ c.before.loop.invariant _ (here c)
+from-here : (c : tie.In-loop-i invariant-loop-i decreases-loop-i) → Small c.before.loop-i.c.source_offset
+from-here c = advance-here _ _ _ _ c.before.loop-i.invariant _ (here c)
 
 -- a step, where the digit has room
-room : (c : tie.Then1 invariant-loop decreases-loop) → let k = c.before.before.before.before.before in let s = k.before in
-    k.loop.invariant.index % (get_or s.args.t3 k.loop.i no_axis).extent + 1 < (get_or s.args.t3 k.loop.i no_axis).extent
-room c = omega (arith, digit c.before.before.before.before, c.if1.true)
+room : (c : tie.Then-d-a invariant-loop-i decreases-loop-i) → let k = c.before.before.before.before.before in let s = k.before in
+    k.loop-i.invariant.index % (get_or s.args.t3 k.loop-i.i no_axis).extent + 1 < (get_or s.args.t3 k.loop-i.i no_axis).extent
+room c = omega (arith, digit c.before.before.before.before, c.if-d-a.true)
 
-full : (c : tie.Else1 invariant-loop decreases-loop) → let k = c.before.before.before.before.before in let s = k.before in
-    (get_or s.args.t3 k.loop.i no_axis).extent ≤ k.loop.invariant.index % (get_or s.args.t3 k.loop.i no_axis).extent + 1
-full c = omega (arith, digit c.before.before.before.before, c.if1.false)
+full : (c : tie.Else-d-a invariant-loop-i decreases-loop-i) → let k = c.before.before.before.before.before in let s = k.before in
+    (get_or s.args.t3 k.loop-i.i no_axis).extent ≤ k.loop-i.invariant.index % (get_or s.args.t3 k.loop-i.i no_axis).extent + 1
+full c = omega (arith, digit c.before.before.before.before, c.if-d-a.false)
 
-mul-a : tie.Need-overflow-mul-a invariant-loop decreases-loop
-mul-a c = omega arith
+offset_bounds-axes-i : tie.Need-offset_bounds-axes-i invariant-loop-i decreases-loop-i
+offset_bounds-axes-i c = omega arith
 
-array-copy-out-a : tie.Need-array-copy-out-a invariant-loop decreases-loop
-array-copy-out-a c = omega arith
+bounds-axes-i : tie.Need-bounds-axes-i invariant-loop-i decreases-loop-i
+bounds-axes-i c = omega arith
 
-mul-d : tie.Need-overflow-mul-d invariant-loop decreases-loop
-mul-d c = omega arith
+offset_bounds-c-i : tie.Need-offset_bounds-c-i invariant-loop-i decreases-loop-i
+offset_bounds-c-i c = omega arith
 
-element-copy-out-d : tie.Need-element-copy-out-d invariant-loop decreases-loop
-element-copy-out-d c = omega arith
+bounds-c-i : tie.Need-bounds-c-i invariant-loop-i decreases-loop-i
+bounds-c-i c = omega arith
 
-add-d : tie.Need-overflow-add-d invariant-loop decreases-loop
-add-d c = let t = c.before.before in omega (arith, digit t, mod-lt t.before.loop.invariant.index (axis t).1, axis-small _ (axis t))
+overflow_add-d : tie.Need-overflow_add-d invariant-loop-i decreases-loop-i
+overflow_add-d c = let t = c.before.before in omega (arith, digit t, mod-lt t.before.loop-i.invariant.index (axis t).1, axis-small _ (axis t))
 
-mul-c : tie.Need-overflow-mul-c invariant-loop decreases-loop
-mul-c c = omega arith
+offset_bounds-c-i-then-d-a : tie.Need-offset_bounds-c-i-then-d-a invariant-loop-i decreases-loop-i
+offset_bounds-c-i-then-d-a c = omega arith
 
-element-write-c : tie.Need-element-write-c invariant-loop decreases-loop
-element-write-c c = omega arith
+bounds-c-i-then-d-a : tie.Need-bounds-c-i-then-d-a invariant-loop-i decreases-loop-i
+bounds-c-i-then-d-a c = omega arith
 
-add-c : tie.Need-overflow-add-c invariant-loop decreases-loop
-add-c c =
+overflow_add-c : tie.Need-overflow_add-c invariant-loop-i decreases-loop-i
+overflow_add-c c =
     let u = c.before.before.before in
     let t = u.before.before.before.before in
-    let a = get_or t.before.before.args.t3 t.before.loop.i no_axis in
-    let f : SFits w64 a.source_step = record { sfits = c.struct-told2.given.1.0.1 } in
-    simp (to_z-of_z f, to_z-of_z (small-fits _ (from-here t))) (small-fits _ (step-in-bounds _ _ _ _ t.before.loop.invariant a (here t) (room u)))
+    let a = get_or t.before.before.args.t3 t.before.loop-i.i no_axis in
+    let f : SFits w64 a.source_step = record { sfits = c.struct_told-then-d-a-1.given.1.0.1 } in
+    simp (to_z-of_z f, to_z-of_z (small-fits _ (from-here t))) (small-fits _ (step-in-bounds _ _ _ _ t.before.loop-i.invariant a (here t) (room u)))
 
-returns : tie.Need-returns invariant-loop decreases-loop
+returns-then-d-a : tie.Need-returns-then-d-a invariant-loop-i decreases-loop-i
+returns-then-d-a c =
+    let u = c.before.before.before in
+    let t = u.before.before.before.before in
+    let a = get_or t.before.before.args.t3 t.before.loop-i.i no_axis in
+    let f : SFits w64 a.source_step = record { sfits = c.struct_told-then-d-a-1.given.1.0.1 } in
+    simp (to_z-of_z f, to_z-of_z (small-fits _ (from-here t)), to_z-of_z (small-fits _ (step-in-bounds _ _ _ _ t.before.loop-i.invariant a (here t) (room u))))
+    (advanced-step _ _ _ _ t.before.loop-i.invariant a (here t) (room u) _ refl
+    (ap (λ (n : ℕ). set t.before.loop-i.c.digits t.before.loop-i.i (n + 1)) (digit t)))
+
+offset_bounds-c-i-in-loop-i : tie.Need-offset_bounds-c-i-in-loop-i invariant-loop-i decreases-loop-i
+offset_bounds-c-i-in-loop-i c = omega arith
+
+bounds-c-i-in-loop-i : tie.Need-bounds-c-i-in-loop-i invariant-loop-i decreases-loop-i
+bounds-c-i-in-loop-i c = omega arith
+
+overflow_add-c-in-loop-i : tie.Need-overflow_add-c-in-loop-i invariant-loop-i decreases-loop-i
+overflow_add-c-in-loop-i c =
+    let u = c.before.before.before in
+    let t = u.before.before.before.before in
+    let a = get_or t.before.before.args.t3 t.before.loop-i.i no_axis in
+    let f : SFits w64 a.source_reset = record { sfits = c.struct_told-in-loop-i-2-1.given.1.1.0.1 } in
+    simp (to_z-of_z f, to_z-of_z (small-fits _ (from-here t))) (small-fits _ (reset-in-bounds _ _ _ _ t.before.loop-i.invariant a (here t) (full u)))
+
+overflow_add-i : tie.Need-overflow_add-i invariant-loop-i decreases-loop-i
+overflow_add-i c = omega arith
+
+loop-i-smaller : tie.Need-loop-i-smaller invariant-loop-i decreases-loop-i
+loop-i-smaller c = omega arith
+
+loop-i-preserved : tie.Need-loop-i-preserved invariant-loop-i decreases-loop-i
+loop-i-preserved c =
+    let u = c.before.before.before in
+    let t = u.before.before.before.before in
+    let a = get_or t.before.before.args.t3 t.before.loop-i.i no_axis in
+    let f : SFits w64 a.source_reset = record { sfits = c.struct_told-in-loop-i-2-1.given.1.1.0.1 } in
+    simp (to_z-of_z f, to_z-of_z (small-fits _ (from-here t)), to_z-of_z (small-fits _ (reset-in-bounds _ _ _ _ t.before.loop-i.invariant a (here t) (full u))))
+    (advancing-more _ _ _ _ t.before.loop-i.invariant a (here t) (full u) (omega (arith, t.loop-i-test.true, counted t)) _ refl refl)
+
+returns : tie.Need-returns invariant-loop-i decreases-loop-i
 returns c =
-    let u = c.before.before.before in
-    let t = u.before.before.before.before in
-    let a = get_or t.before.before.args.t3 t.before.loop.i no_axis in
-    let f : SFits w64 a.source_step = record { sfits = c.struct-told2.given.1.0.1 } in
-    simp (to_z-of_z f, to_z-of_z (small-fits _ (from-here t)), to_z-of_z (small-fits _ (step-in-bounds _ _ _ _ t.before.loop.invariant a (here t) (room u))))
-    (advanced-step _ _ _ _ t.before.loop.invariant a (here t) (room u) _ refl
-    (ap (λ (n : ℕ). set t.before.loop.c.digits t.before.loop.i (n + 1)) (digit t)))
-
-mul-c-2 : tie.Need-overflow-mul-c-2 invariant-loop decreases-loop
-mul-c-2 c = omega arith
-
-element-write-c-2 : tie.Need-element-write-c-2 invariant-loop decreases-loop
-element-write-c-2 c = omega arith
-
-add-c-2 : tie.Need-overflow-add-c-2 invariant-loop decreases-loop
-add-c-2 c =
-    let u = c.before.before.before in
-    let t = u.before.before.before.before in
-    let a = get_or t.before.before.args.t3 t.before.loop.i no_axis in
-    let f : SFits w64 a.source_reset = record { sfits = c.struct-told4.given.1.1.0.1 } in
-    simp (to_z-of_z f, to_z-of_z (small-fits _ (from-here t))) (small-fits _ (reset-in-bounds _ _ _ _ t.before.loop.invariant a (here t) (full u)))
-
-add-i : tie.Need-overflow-add-i invariant-loop decreases-loop
-add-i c = omega arith
-
-loop-less : tie.Need-loop-smaller invariant-loop decreases-loop
-loop-less c = omega arith
-
-loop-again : tie.Need-loop-preserved invariant-loop decreases-loop
-loop-again c =
-    let u = c.before.before.before in
-    let t = u.before.before.before.before in
-    let a = get_or t.before.before.args.t3 t.before.loop.i no_axis in
-    let f : SFits w64 a.source_reset = record { sfits = c.struct-told4.given.1.1.0.1 } in
-    simp (to_z-of_z f, to_z-of_z (small-fits _ (from-here t)), to_z-of_z (small-fits _ (reset-in-bounds _ _ _ _ t.before.loop.invariant a (here t) (full u))))
-    (advancing-more _ _ _ _ t.before.loop.invariant a (here t) (full u) (omega (arith, t.loop-test.true, counted t)) _ refl refl)
-
-returns-2 : tie.Need-returns-2 invariant-loop decreases-loop
-returns-2 c =
     let s = c.before.before in
-    advanced-all (take s.args.count s.args.t3) _ _ c.before.loop.i c.before.loop.invariant (simp length-take (omega (arith, c.loop-test.false)))
+    advanced-all (take s.args.count s.args.t3) _ _ c.before.loop-i.i c.before.loop-i.invariant (simp length-take (omega (arith, c.loop-i-test.false)))
 
-pub advance-spec : {M : Type 1} → statement M
-advance-spec =
-    tie.close
-    (tie.spec
-    invariant-loop
-    decreases-loop
-    loop-holds
-    mul-a
-    array-copy-out-a
-    mul-d
-    element-copy-out-d
-    add-d
-    mul-c
-    element-write-c
-    add-c
-    returns
-    mul-c-2
-    element-write-c-2
-    add-c-2
-    add-i
-    loop-less
-    loop-again
-    returns-2)
+pub advance_spec : {M : Type 1} → statement M
+advance_spec = tie.close (tie.spec invariant-loop-i decreases-loop-i loop-i-init offset_bounds-axes-i bounds-axes-i offset_bounds-c-i bounds-c-i overflow_add-d offset_bounds-c-i-then-d-a bounds-c-i-then-d-a overflow_add-c returns-then-d-a offset_bounds-c-i-in-loop-i bounds-c-i-in-loop-i overflow_add-c-in-loop-i overflow_add-i loop-i-smaller loop-i-preserved returns)

@@ -52,100 +52,100 @@ carried s h k =
     advancing-more _ _ _ _ (begun s) (axis s 0) (here s 0 h) k
     (let n = length-take-le s.args.count s.args.t3 (omega (arith, s.requires.0, s.requires.1)) in omega arith) (back s) refl refl
 
-array-copy-out-first : tie.Need-array-copy-out-first
-array-copy-out-first c = search rules
+bounds-axes-0 : tie.Need-bounds-axes-0
+bounds-axes-0 c = search rules
 
-element-copy-out-d : tie.Need-element-copy-out-d
-element-copy-out-d c = search rules
+bounds-c-0 : tie.Need-bounds-c-0
+bounds-c-0 c = search rules
 
-add-d : tie.Need-overflow-add-d
-add-d c =
+overflow_add-d : tie.Need-overflow_add-d
+overflow_add-d c =
     let u = c.before.before in
     let s = u.before in
-    let a = advance-axis _ _ _ _ (begun s) _ (here s 0 u.if1.true) in
-    omega (arith, digit s u.if1.true, mod-lt (begun s).index a.1, axis-small _ a)
+    let a = advance-axis _ _ _ _ (begun s) _ (here s 0 u.if-count-gt0.true) in
+    omega (arith, digit s u.if-count-gt0.true, mod-lt (begun s).index a.1, axis-small _ a)
 
-element-write-c : tie.Need-element-write-c
-element-write-c c = search rules
+bounds-c-0-then-d-first : tie.Need-bounds-c-0-then-d-first
+bounds-c-0-then-d-first c = search rules
 
-room : (c : tie.Then2) → let u = c.before.before.before.before in let s = u.before in (begun s).index % (axis s 0).extent + 1 < (axis s 0).extent
-room c = let u = c.before.before.before.before in omega (arith, digit u.before u.if1.true, c.if2.true)
+room : (c : tie.Then-d-first) → let u = c.before.before.before.before in let s = u.before in (begun s).index % (axis s 0).extent + 1 < (axis s 0).extent
+room c = let u = c.before.before.before.before in omega (arith, digit u.before u.if-count-gt0.true, c.if-d-first.true)
 
-full : (c : tie.Else2) → let u = c.before.before.before.before in let s = u.before in (axis s 0).extent ≤ (begun s).index % (axis s 0).extent + 1
-full c = let u = c.before.before.before.before in omega (arith, digit u.before u.if1.true, c.if2.false)
+full : (c : tie.Else-d-first) → let u = c.before.before.before.before in let s = u.before in (axis s 0).extent ≤ (begun s).index % (axis s 0).extent + 1
+full c = let u = c.before.before.before.before in omega (arith, digit u.before u.if-count-gt0.true, c.if-d-first.false)
 
-add-c : tie.Need-overflow-add-c
-add-c c =
+overflow_add-c : tie.Need-overflow_add-c
+overflow_add-c c =
     let t = c.before.before.before in
     let u = t.before.before.before.before in
     let s = u.before in
-    let h = here s 0 u.if1.true in
-    let f : SFits w64 (axis s 0).source_step = record { sfits = c.struct-told2.given.1.0.1 } in
+    let h = here s 0 u.if-count-gt0.true in
+    let f : SFits w64 (axis s 0).source_step = record { sfits = c.struct_told-then-d-first-1.given.1.0.1 } in
     simp (to_z-of_z f, to_z-of_z (small-fits _ (advance-here _ _ _ _ (begun s) _ h))) (small-fits _ (step-in-bounds _ _ _ _ (begun s) _ h (room t)))
 
-returns : tie.Need-returns
-returns c =
+returns-then-d-first : tie.Need-returns-then-d-first
+returns-then-d-first c =
     let t = c.before.before.before in
     let u = t.before.before.before.before in
     let s = u.before in
-    let h = here s 0 u.if1.true in
-    let f : SFits w64 (axis s 0).source_step = record { sfits = c.struct-told2.given.1.0.1 } in
+    let h = here s 0 u.if-count-gt0.true in
+    let f : SFits w64 (axis s 0).source_step = record { sfits = c.struct_told-then-d-first-1.given.1.0.1 } in
     simp (to_z-of_z f, to_z-of_z (small-fits _ (advance-here _ _ _ _ (begun s) _ h)), to_z-of_z (small-fits _ (step-in-bounds _ _ _ _ (begun s) _ h (room t))))
-    (advanced-step _ _ _ _ (begun s) _ h (room t) _ refl (ap (λ (n : ℕ). set s.args.self.digits 0 (n + 1)) (digit s u.if1.true)))
+    (advanced-step _ _ _ _ (begun s) _ h (room t) _ refl (ap (λ (n : ℕ). set s.args.self.digits 0 (n + 1)) (digit s u.if-count-gt0.true)))
 
-element-write-c-2 : tie.Need-element-write-c-2
-element-write-c-2 c = search rules
+bounds-c-0-then-count-gt1 : tie.Need-bounds-c-0-then-count-gt1
+bounds-c-0-then-count-gt1 c = search rules
 
-add-c-2 : tie.Need-overflow-add-c-2
-add-c-2 c =
+overflow_add-c-then-count-gt1 : tie.Need-overflow_add-c-then-count-gt1
+overflow_add-c-then-count-gt1 c =
     let t = c.before.before.before.before in
     let u = t.before.before.before.before in
     let s = u.before in
-    let h = here s 0 u.if1.true in
-    let f : SFits w64 (axis s 0).source_reset = record { sfits = c.struct-told4.given.1.1.0.1 } in
+    let h = here s 0 u.if-count-gt0.true in
+    let f : SFits w64 (axis s 0).source_reset = record { sfits = c.struct_told-then-count-gt1-2-1.given.1.1.0.1 } in
     simp (to_z-of_z f, to_z-of_z (small-fits _ (advance-here _ _ _ _ (begun s) _ h))) (small-fits _ (reset-in-bounds _ _ _ _ (begun s) _ h (full t)))
 
-array-copy-out-second : tie.Need-array-copy-out-second
-array-copy-out-second c = search rules
+bounds-axes-1 : tie.Need-bounds-axes-1
+bounds-axes-1 c = search rules
 
-element-copy-out-e : tie.Need-element-copy-out-e
-element-copy-out-e c = search rules
+bounds-c-1 : tie.Need-bounds-c-1
+bounds-c-1 c = search rules
 
 -- the digit of the second axis
-digit-2 : (c : tie.Then3) → let u = c.before.before.before.before.before in let s = u.before in
-    get_or (set s.args.self.digits 0 0) 1 0 ≡ (carried s u.if1.true (full c.before)).index % (axis s 1).extent
+digit-2 : (c : tie.Then-count-gt1) → let u = c.before.before.before.before.before in let s = u.before in
+    get_or (set s.args.self.digits 0 0) 1 0 ≡ (carried s u.if-count-gt0.true (full c.before)).index % (axis s 1).extent
 digit-2 c =
     let u = c.before.before.before.before.before in
     let s = u.before in
-    advance-digit _ _ _ _ (carried s u.if1.true (full c.before)) _ (here s 1 c.if3.true)
+    advance-digit _ _ _ _ (carried s u.if-count-gt0.true (full c.before)) _ (here s 1 c.if-count-gt1.true)
 
-add-e : tie.Need-overflow-add-e
-add-e c =
+overflow_add-e : tie.Need-overflow_add-e
+overflow_add-e c =
     let t = c.before.before.before.before.before in
     let u = t.before.before.before.before.before in
     let s = u.before in
-    let p = carried s u.if1.true (full t.before) in
-    let a = advance-axis _ _ _ _ p _ (here s 1 t.if3.true) in
+    let p = carried s u.if-count-gt0.true (full t.before) in
+    let a = advance-axis _ _ _ _ p _ (here s 1 t.if-count-gt1.true) in
     omega (arith, digit-2 t, mod-lt p.index a.1, axis-small _ a)
 
-element-write-c-3 : tie.Need-element-write-c-3
-element-write-c-3 c = search rules
+bounds-c-1-then-e-second : tie.Need-bounds-c-1-then-e-second
+bounds-c-1-then-e-second c = search rules
 
-room-2 : (c : tie.Then4) → let t = c.before.before.before.before.before.before.before in let u = t.before.before.before.before.before in
-    let s = u.before in (carried s u.if1.true (full t.before)).index % (axis s 1).extent + 1 < (axis s 1).extent
-room-2 c = let t = c.before.before.before.before.before.before.before in omega (arith, digit-2 t, c.if4.true)
+room-2 : (c : tie.Then-e-second) → let t = c.before.before.before.before.before.before.before in let u = t.before.before.before.before.before in
+    let s = u.before in (carried s u.if-count-gt0.true (full t.before)).index % (axis s 1).extent + 1 < (axis s 1).extent
+room-2 c = let t = c.before.before.before.before.before.before.before in omega (arith, digit-2 t, c.if-e-second.true)
 
-add-c-3 : tie.Need-overflow-add-c-3
-add-c-3 c =
+overflow_add-c-then-e-second : tie.Need-overflow_add-c-then-e-second
+overflow_add-c-then-e-second c =
     let v = c.before.before.before in
     let t = v.before.before.before.before.before.before.before in
     let u = t.before.before.before.before.before in
     let s = u.before in
-    let p = carried s u.if1.true (full t.before) in
-    let h = here s 0 u.if1.true in
-    let k = here s 1 t.if3.true in
-    let f : SFits w64 (axis s 0).source_reset = record { sfits = v.before.before.before.before.struct-told4.given.1.1.0.1 } in
-    let g : SFits w64 (axis s 1).source_step = record { sfits = c.struct-told6.given.1.0.1 } in
+    let p = carried s u.if-count-gt0.true (full t.before) in
+    let h = here s 0 u.if-count-gt0.true in
+    let k = here s 1 t.if-count-gt1.true in
+    let f : SFits w64 (axis s 0).source_reset = record { sfits = v.before.before.before.before.struct_told-then-count-gt1-2-1.given.1.1.0.1 } in
+    let g : SFits w64 (axis s 1).source_step = record { sfits = c.struct_told-then-e-second-2-1.given.1.0.1 } in
     simp (
       to_z-of_z f,
       to_z-of_z g,
@@ -153,17 +153,17 @@ add-c-3 c =
       to_z-of_z (small-fits _ (reset-in-bounds _ _ _ _ (begun s) _ h (full t.before))),
     ) (small-fits _ (step-in-bounds _ _ _ _ p _ k (room-2 v)))
 
-returns-2 : tie.Need-returns-2
-returns-2 c =
+returns-then-e-second : tie.Need-returns-then-e-second
+returns-then-e-second c =
     let v = c.before.before.before in
     let t = v.before.before.before.before.before.before.before in
     let u = t.before.before.before.before.before in
     let s = u.before in
-    let p = carried s u.if1.true (full t.before) in
-    let h = here s 0 u.if1.true in
-    let k = here s 1 t.if3.true in
-    let f : SFits w64 (axis s 0).source_reset = record { sfits = v.before.before.before.before.struct-told4.given.1.1.0.1 } in
-    let g : SFits w64 (axis s 1).source_step = record { sfits = c.struct-told6.given.1.0.1 } in
+    let p = carried s u.if-count-gt0.true (full t.before) in
+    let h = here s 0 u.if-count-gt0.true in
+    let k = here s 1 t.if-count-gt1.true in
+    let f : SFits w64 (axis s 0).source_reset = record { sfits = v.before.before.before.before.struct_told-then-count-gt1-2-1.given.1.1.0.1 } in
+    let g : SFits w64 (axis s 1).source_step = record { sfits = c.struct_told-then-e-second-2-1.given.1.0.1 } in
     simp (
       to_z-of_z f,
       to_z-of_z g,
@@ -175,26 +175,8 @@ returns-2 c =
 advance-requires : tie.Need-advance-requires
 advance-requires c κs = search rules
 
-returns-3 : tie.Need-returns-3
-returns-3 c = search rules
+returns : tie.Need-returns
+returns c = search rules
 
-pub to-next-run-spec : {M : Type 1} → statement M
-to-next-run-spec =
-    tie.close
-    (tie.spec
-    array-copy-out-first
-    element-copy-out-d
-    add-d
-    element-write-c
-    add-c
-    returns
-    element-write-c-2
-    add-c-2
-    array-copy-out-second
-    element-copy-out-e
-    add-e
-    element-write-c-3
-    add-c-3
-    returns-2
-    advance-requires
-    returns-3)
+pub to_next_run_spec : {M : Type 1} → statement M
+to_next_run_spec = tie.close (tie.spec bounds-axes-0 bounds-c-0 overflow_add-d bounds-c-0-then-d-first overflow_add-c returns-then-d-first bounds-c-0-then-count-gt1 overflow_add-c-then-count-gt1 bounds-axes-1 bounds-c-1 overflow_add-e bounds-c-1-then-e-second overflow_add-c-then-e-second returns-then-e-second advance-requires returns)
