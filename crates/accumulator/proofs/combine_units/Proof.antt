@@ -11,16 +11,14 @@ use Rattle.accumulator.proofs.combine_units.Tie as tie
 
 returns-then-lhs-rhs : tie.Need-returns-then-lhs-rhs
 returns-then-lhs-rhs c =
-    let s = c.before.before.before in
-    sym (combined-bad s.args.lhs s.args.rhs c.if-lhs-rhs.true)
+    sym (combined-bad c.args.lhs c.args.rhs c.if-lhs-rhs.true)
 
 split_fields-p-requires : tie.Need-split_fields-p-requires
 split_fields-p-requires c κs = search rules
 
 overflow_add-e : tie.Need-overflow_add-e
 overflow_add-e c =
-    let s = c.before.before.before.before.before.before.before.before.before.before in
-    sum_fits s.args.lhs.e s.args.rhs.e s.requires.0 s.requires.1
+    sum_fits c.args.lhs.e c.args.rhs.e c.requires.0 c.requires.1
 
 -- what was split
 abbrev after : tie.After-struct_told-3-1 → tie.After-split_fields-p
@@ -33,18 +31,16 @@ overflow_add-raised : tie.Need-overflow_add-raised
 overflow_add-raised c =
     let p = after c in
     let k = p.before.before.before.before in
-    let s = k.before.before in
-    split-fits s.args.lhs s.args.rhs k.before.struct_known-1.given.0 k.struct_known-2-1.given.0 s.requires.2 s.requires.3 p.split_fields-p.result
-    p.split_fields-p.ensures s.requires.0 s.requires.1 (split-e c)
+    split-fits k.args.lhs k.args.rhs k.struct_known-1.given.0 k.struct_known-2-1.given.0 k.requires.2 k.requires.3 p.split_fields-p.result
+    p.split_fields-p.ensures k.requires.0 k.requires.1 (split-e c)
 
 returns : tie.Need-returns
 returns c =
     let p = after c in
     let e1 = p.before.before.before in
     let k = e1.before in
-    let s = k.before.before in
-    code-split s.args.lhs s.args.rhs k.before.struct_known-1.given.0 k.struct_known-2-1.given.0 s.requires.2 s.requires.3 p.split_fields-p.result
-    p.split_fields-p.ensures s.requires.0 s.requires.1 (split-e c) e1.if-lhs-rhs.left
+    code-split k.args.lhs k.args.rhs k.struct_known-1.given.0 k.struct_known-2-1.given.0 k.requires.2 k.requires.3 p.split_fields-p.result
+    p.split_fields-p.ensures k.requires.0 k.requires.1 (split-e c) e1.if-lhs-rhs.left
 
 pub combine_units_spec : {M : Type 1} → statement M
 combine_units_spec = tie.close (tie.spec returns-then-lhs-rhs split_fields-p-requires overflow_add-e overflow_add-raised returns)

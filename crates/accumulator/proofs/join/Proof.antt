@@ -17,55 +17,50 @@ in_limits-requires c κs = search rules
 
 returns-then-not-in_limits : tie.Need-returns-then-not-in_limits
 returns-then-not-in_limits c =
-    let s = c.before.before in
-    refused-left s.args.a s.args.b (sym c.before.in_limits.ensures ∙ not-true c.before.in_limits.result c.if-not-in_limits.true-raw)
+    refused-left c.args.a c.args.b (sym c.in_limits.ensures ∙ not-true c.in_limits.result c.if-not-in_limits.true-raw)
 
 in_limits-requires-2 : tie.Need-in_limits-requires-2
 in_limits-requires-2 c κs = search rules
 
 -- past the first test the left one stands
-left-in-limits : (c : tie.Else-not-in_limits) → in_limits c.before.before.args.a ≡ true
-left-in-limits c = sym c.before.in_limits.ensures ∙ not-false c.before.in_limits.result c.if-not-in_limits.false-raw
+left-in-limits : (c : tie.Else-not-in_limits) → in_limits c.args.a ≡ true
+left-in-limits c = sym c.in_limits.ensures ∙ not-false c.in_limits.result c.if-not-in_limits.false-raw
 
-right-in-limits : (c : tie.Else-not-in_limits-2) → in_limits c.before.before.before.before.args.b ≡ true
-right-in-limits c = sym c.before.in_limits-2.ensures ∙ not-false c.before.in_limits-2.result c.if-not-in_limits-2.false-raw
+right-in-limits : (c : tie.Else-not-in_limits-2) → in_limits c.args.b ≡ true
+right-in-limits c = sym c.in_limits-2.ensures ∙ not-false c.in_limits-2.result c.if-not-in_limits-2.false-raw
 
 returns-then-not-in_limits-2 : tie.Need-returns-then-not-in_limits-2
 returns-then-not-in_limits-2 c =
     let e1 = c.before.before in
-    let s = e1.before.before in
-    refused-right s.args.a s.args.b (left-in-limits e1)
-    (sym c.before.in_limits-2.ensures ∙ not-true c.before.in_limits-2.result c.if-not-in_limits-2.true-raw)
+    refused-right e1.args.a e1.args.b (left-in-limits e1)
+    (sym c.in_limits-2.ensures ∙ not-true c.in_limits-2.result c.if-not-in_limits-2.true-raw)
 
 stable_float_combine-r-requires : tie.Need-stable_float_combine-r-requires
 stable_float_combine-r-requires c κs =
     let e1 = c.before.before in
-    let s = e1.before.before in
-    (in-limits-small s.args.a (left-in-limits e1), in-limits-small s.args.b (right-in-limits c))
+    (in-limits-small e1.args.a (left-in-limits e1), in-limits-small e1.args.b (right-in-limits c))
 
 within_limit-requires : tie.Need-within_limit-requires
 within_limit-requires c κs = search rules
 
 -- the joined exponent is that of `combined`
 exponent : (c : tie.After-within_limit) (t : Bool) → c.within_limit.result ≡ t
-    → let s = c.before.before.before.before.before.before.before in within_limit (combined s.args.a s.args.b).e ≡ t
+    → within_limit (combined c.args.a c.args.b).e ≡ t
 exponent c t h =
-    let r = c.before.before.stable_float_combine-r in
-    let exact = to_z-of_z w64 r.result.e (record { sfits = c.before.struct_told-1.given.1.0.1 }) in
+    let r = c.stable_float_combine-r in
+    let exact = to_z-of_z w64 r.result.e (record { sfits = c.struct_told-1.given.1.0.1 }) in
     ap (λ (x : StableProductFloatAcc). within_limit x.e) (sym r.ensures) ∙ ap (λ (z : ℤ). within_limit z) (sym exact) ∙ sym c.within_limit.ensures ∙ h
 
 returns-then-within_limit : tie.Need-returns-then-within_limit
 returns-then-within_limit c =
     let e2 = c.before.before.before.before in
-    let s = e2.before.before.before.before in
-    ap (λ (x : StableProductFloatAcc). accumulator x.m x.e x.bad) c.before.before.before.stable_float_combine-r.ensures
-    ∙ accepted s.args.a s.args.b (left-in-limits e2.before.before) (right-in-limits e2) (exponent c.before true c.if-within_limit.true)
+    ap (λ (x : StableProductFloatAcc). accumulator x.m x.e x.bad) c.stable_float_combine-r.ensures
+    ∙ accepted e2.args.a e2.args.b (left-in-limits e2.before.before) (right-in-limits e2) (exponent c.before true c.if-within_limit.true)
 
 returns-else-within_limit : tie.Need-returns-else-within_limit
 returns-else-within_limit c =
     let e2 = c.before.before.before.before in
-    let s = e2.before.before.before.before in
-    refused-joined s.args.a s.args.b (left-in-limits e2.before.before) (right-in-limits e2) (exponent c.before false c.if-within_limit.false)
+    refused-joined e2.args.a e2.args.b (left-in-limits e2.before.before) (right-in-limits e2) (exponent c.before false c.if-within_limit.false)
 
 pub join_spec : {M : Type 1} → statement M
 join_spec = tie.close (tie.spec in_limits-requires returns-then-not-in_limits in_limits-requires-2 returns-then-not-in_limits-2 stable_float_combine-r-requires within_limit-requires returns-then-within_limit returns-else-within_limit)

@@ -11,14 +11,14 @@ overflow_sub-t-3 c = search rules
 
 returns-then-e : tie.Need-returns-then-e
 returns-then-e c =
-    let e = c.before.args.e in
-    let exact = to_z-of_z w64 e c.before.ranges.e in
+    let e = c.args.e in
+    let exact = to_z-of_z w64 e c.ranges.e in
     rw exact (limit-taken e (rw exact at c.if-e.true))
 
 returns-else-e : tie.Need-returns-else-e
 returns-else-e c =
-    let e = c.before.args.e in
-    let exact = to_z-of_z w64 e c.before.ranges.e in
+    let e = c.args.e in
+    let exact = to_z-of_z w64 e c.ranges.e in
     rw exact (limit-left e (rw exact at c.if-e.false))
 
 pub within_limit_spec : {M : Type 1} → statement M

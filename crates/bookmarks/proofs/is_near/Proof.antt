@@ -20,8 +20,8 @@ overflow_sub-t-3 c = search rules
 
 returns-then-e : tie.Need-returns-then-e
 returns-then-e c =
-    let e = c.before.args.e in
-    let exact = to_z-of_z w64 e c.before.ranges.e in
+    let e = c.args.e in
+    let exact = to_z-of_z w64 e c.ranges.e in
     rw exact (both e (rw exact at c.if-e.true))
 
 returns-else-e : tie.Need-returns-else-e

@@ -28,21 +28,20 @@ abbrev decreases-loop-c : tie.decreases-loop-c
 decreases-loop-c l base k end values stride acc₀ c₀ acc c = end - c.at
 
 begin-c-requires : tie.Need-begin-c-requires invariant-loop-c decreases-loop-c
-begin-c-requires c κs = let s = c.before.before in simp (to_z-of_z s.ranges.base) (s.requires.0, s.requires.1)
+begin-c-requires c κs = simp (to_z-of_z c.ranges.base) (c.requires.0, c.requires.1)
 
 loop-c-init : tie.Need-loop-c-init invariant-loop-c decreases-loop-c
 unfolding range_at
 loop-c-init c =
-    let s = c.before.before.before in
-    let began : c.begin-c.result ≡ range_at s.args.l s.args.base s.args.k = simp (to_z-of_z s.ranges.base) at c.begin-c.ensures in
-    let at : c.begin-c.result.at ≡ s.args.k = ap (λ (x : RangeCursor). x.at) began in
-    simp (to_z-of_z s.ranges.base)
+    let began : c.begin-c.result ≡ range_at c.args.l c.args.base c.args.k = simp (to_z-of_z c.ranges.base) at c.begin-c.ensures in
+    let at : c.begin-c.result.at ≡ c.args.k = ap (λ (x : RangeCursor). x.at) began in
+    simp (to_z-of_z c.ranges.base)
     (record {
-      upto = omega (arith, at, s.requires.2);
-      cursor_is = λ h. began ∙ ap (range_at s.args.l s.args.base) (sym at);
-      within = s.requires.6;
-      sound = s.requires.7;
-      rest = ap (λ (n : ℕ). joined_within s.args.acc (pieces_of s.args.l s.args.base s.args.values.now n s.args.end)) at;
+      upto = omega (arith, at, c.requires.2);
+      cursor_is = λ h. began ∙ ap (range_at c.args.l c.args.base) (sym at);
+      within = c.requires.6;
+      sound = c.requires.7;
+      rest = ap (λ (n : ℕ). joined_within c.args.acc (pieces_of c.args.l c.args.base c.args.values.now n c.args.end)) at;
     })
 
 -- ---- the loop
@@ -76,7 +75,7 @@ next-taken c =
     taken s.args.l s.requires.0 s.args.base s.requires.1 s.args.values.now s.requires.5 s.args.end s.requires.3 k.loop-c.c
     ((joining k).cursor_is t.loop-c-test.true) t.loop-c-test.true c.next_piece-p.result c.next_piece-p.ensures
 
-first_fits : (c : tie.After-struct_told-in-loop-c-1 invariant-loop-c decreases-loop-c) → SFits w64 c.before.next_piece-p.result.first
+first_fits : (c : tie.After-struct_told-in-loop-c-1 invariant-loop-c decreases-loop-c) → SFits w64 c.next_piece-p.result.first
 first_fits c = record { sfits = c.struct_told-in-loop-c-1.given.0.1 }
 
 stride-fits : (c : tie.At-loop-c invariant-loop-c decreases-loop-c) → SFits w64 (from-loop c).args.l.run_stride
@@ -90,7 +89,7 @@ reduce_piece-b-requires c κs =
     simp (to_z-of_z (first_fits c), to_z-of_z (stride-fits k)) (p.some_len, p.inside, omega (arith, p.ends, s.requires.3, s.requires.4))
 
 piece-worked : (c : tie.After-reduce_piece-b invariant-loop-c decreases-loop-c) → let s = from-loop c.before.before.before.before.before in
-    let p = c.before.before.next_piece-p.result in
+    let p = c.next_piece-p.result in
     c.reduce_piece-b.result ≡ worked (eq_z s.args.l.run_stride (pos 1)) (strided s.args.values.now p.first s.args.l.run_stride p.len)
 piece-worked c = simp (to_z-of_z (first_fits c.before), to_z-of_z (stride-fits c.before.before.before.before.before)) at c.reduce_piece-b.ensures
 
@@ -113,7 +112,7 @@ returns-in_default c =
     let s = from-loop k in
     let p = next-taken n in
     joining-refused s.args.l s.args.base s.args.values.now s.args.end k.loop-c.c n.next_piece-p.result p w.reduce_piece-b.result
-    (piece-worked w) (loop-told k).before.shared_slice_known-1.given (omega (arith, p.ends, s.requires.3, s.requires.4)) (whole k) k.loop-c.acc (joining k)
+    (piece-worked w) (loop-told k).shared_slice_known-1.given (omega (arith, p.ends, s.requires.3, s.requires.4)) (whole k) k.loop-c.acc (joining k)
     j.join-r.result j.join-r.ensures m.in-Acc.keys2
 
 abbrev at_join : tie.After-c-1 invariant-loop-c decreases-loop-c → tie.After-join-r invariant-loop-c decreases-loop-c
@@ -123,7 +122,7 @@ loop-c-smaller : tie.Need-loop-c-smaller invariant-loop-c decreases-loop-c
 loop-c-smaller c =
     let n = (at_join c).before.before.before in
     let p = next-taken n in
-    omega (arith, n.before.loop-c-test.taken, p.next_at, p.some_len)
+    omega (arith, n.loop-c-test.taken, p.next_at, p.some_len)
 
 loop-c-preserved : tie.Need-loop-c-preserved invariant-loop-c decreases-loop-c
 loop-c-preserved c =
@@ -133,11 +132,10 @@ loop-c-preserved c =
     let k = n.before.before.before in
     let s = from-loop k in
     let p = next-taken n in
-    let a = c.before.before in
     simp (to_z-of_z s.fits.base)
     (joining-more s.args.l s.args.base s.args.values.now s.args.end k.loop-c.c n.next_piece-p.result p w.reduce_piece-b.result
-    (piece-worked w) (loop-told k).before.shared_slice_known-1.given (omega (arith, p.ends, s.requires.3, s.requires.4)) (whole k) k.loop-c.acc (joining k)
-    j.join-r.result j.join-r.ensures a.r-1.given.0.0 a.r-1.given.1)
+    (piece-worked w) (loop-told k).shared_slice_known-1.given (omega (arith, p.ends, s.requires.3, s.requires.4)) (whole k) k.loop-c.acc (joining k)
+    j.join-r.result j.join-r.ensures c.r-1.given.0.0 c.r-1.given.1)
 
 returns : tie.Need-returns invariant-loop-c decreases-loop-c
 returns c =

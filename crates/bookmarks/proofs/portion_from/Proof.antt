@@ -25,25 +25,21 @@ overflow_add-left c = record { fits = omega (arith, left-few c.args.len c.args.e
 
 returns-then-left-n : tie.Need-returns-then-left-n
 returns-then-left-n c =
-    let s = c.before in
-    (sym (stop-all s.args.len s.args.end s.args.n s.args.k c.if-left-n.true), omega (arith, c.if-left-n.true))
+    (sym (stop-all c.args.len c.args.end c.args.n c.args.k c.if-left-n.true), omega (arith, c.if-left-n.true))
 
 overflow_add-result : tie.Need-overflow_add-result
 overflow_add-result c =
-    let s = c.before in
-    let u = run-upto s.args.len s.args.end s.args.k s.requires.0 s.requires.1 in
-    record { fits = omega (arith, u, left-few s.args.len s.args.end s.args.k s.requires.0 s.requires.1, div-le_self (s.args.end - 1) s.args.len, s.requires.2, c.if-left-n.false) }
+    let u = run-upto c.args.len c.args.end c.args.k c.requires.0 c.requires.1 in
+    record { fits = omega (arith, u, left-few c.args.len c.args.end c.args.k c.requires.0 c.requires.1, div-le_self (c.args.end - 1) c.args.len, c.requires.2, c.if-left-n.false) }
 
 overflow_mul-result : tie.Need-overflow_mul-result
 overflow_mul-result c =
-    let s = c.before in
-    let small = stop-small s.args.len s.args.end s.args.k s.requires.0 s.requires.1 s.args.n (omega (arith, c.if-left-n.false)) in
-    record { fits = omega (arith, small, s.requires.1, s.requires.2) }
+    let small = stop-small c.args.len c.args.end c.args.k c.requires.0 c.requires.1 c.args.n (omega (arith, c.if-left-n.false)) in
+    record { fits = omega (arith, small, c.requires.1, c.requires.2) }
 
 returns : tie.Need-returns
 returns c =
-    let s = c.before in
-    (sym (stop-part s.args.len s.args.end s.args.n s.args.k (omega (arith, c.if-left-n.false))), omega (arith, c.if-left-n.false))
+    (sym (stop-part c.args.len c.args.end c.args.n c.args.k (omega (arith, c.if-left-n.false))), omega (arith, c.if-left-n.false))
 
 pub portion_from_spec : {M : Type 1} → statement M
 portion_from_spec = tie.close (tie.spec nonzero_div-run overflow_sub-left nonzero_div-left overflow_sub-left-2 overflow_add-left returns-then-left-n overflow_add-result overflow_mul-result returns)

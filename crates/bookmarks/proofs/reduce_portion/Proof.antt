@@ -16,32 +16,28 @@ use Rattle.bookmarks.proofs.reduce_portion.Tie as tie
 
 reduce_full_range-r-requires : tie.Need-reduce_full_range-r-requires
 reduce_full_range-r-requires c κs =
-    let s = c.before.before in
-    simp (to_z-of_z s.ranges.base) (s.requires.0, s.requires.1, omega (arith, s.requires.2, c.if-next-start.true), s.requires.3, s.requires.4, s.requires.5)
+    simp (to_z-of_z c.ranges.base) (c.requires.0, c.requires.1, omega (arith, c.requires.2, c.if-next-start.true), c.requires.3, c.requires.4, c.requires.5)
 
 returns-then-next-start : tie.Need-returns-then-next-start
 returns-then-next-start c =
     let t = c.before in
-    let s = t.before.before in
-    let ps = pieces_of s.args.l s.args.base s.args.values.now s.args.mark.next s.args.stop in
+    let ps = pieces_of t.args.l t.args.base t.args.values.now t.args.mark.next t.args.stop in
     ap (λ (a : StableProductFloatAcc). answer_of (Acc a))
-    ((simp (to_z-of_z s.ranges.base) at c.reduce_full_range-r.ensures)
-    ∙ ap (λ (k : ℕ). joined_pieces (pieces_of s.args.l s.args.base s.args.values.now k s.args.stop)) (sym t.if-next-start.true))
-    ∙ ap (λ (b : Bool). portion_of b s.args.mark.acc ps) (sym (eq-eqb s.args.mark.next s.args.start t.if-next-start.true))
+    ((simp (to_z-of_z t.ranges.base) at c.reduce_full_range-r.ensures)
+    ∙ ap (λ (k : ℕ). joined_pieces (pieces_of t.args.l t.args.base t.args.values.now k t.args.stop)) (sym t.if-next-start.true))
+    ∙ ap (λ (b : Bool). portion_of b t.args.mark.acc ps) (sym (eq-eqb t.args.mark.next t.args.start t.if-next-start.true))
 
 join_portion-requires : tie.Need-join_portion-requires
 join_portion-requires c κs =
-    let s = c.before.before in
-    let w = s.requires.6 c.if-next-start.false in
-    simp (to_z-of_z s.ranges.base) (s.requires.0, s.requires.1, s.requires.2, s.requires.3, s.requires.4, s.requires.5, w)
+    let w = c.requires.6 c.if-next-start.false in
+    simp (to_z-of_z c.ranges.base) (c.requires.0, c.requires.1, c.requires.2, c.requires.3, c.requires.4, c.requires.5, w)
 
 returns : tie.Need-returns
 returns c =
     let t = c.before in
-    let s = t.before.before in
-    let ps = pieces_of s.args.l s.args.base s.args.values.now s.args.mark.next s.args.stop in
-    (simp (to_z-of_z s.ranges.base) at c.join_portion.ensures)
-    ∙ ap (λ (b : Bool). portion_of b s.args.mark.acc ps) (sym (ne_eqb s.args.mark.next s.args.start t.if-next-start.false))
+    let ps = pieces_of t.args.l t.args.base t.args.values.now t.args.mark.next t.args.stop in
+    (simp (to_z-of_z t.ranges.base) at c.join_portion.ensures)
+    ∙ ap (λ (b : Bool). portion_of b t.args.mark.acc ps) (sym (ne_eqb t.args.mark.next t.args.start t.if-next-start.false))
 
 pub reduce_portion_spec : {M : Type 1} → statement M
 reduce_portion_spec = tie.close (tie.spec reduce_full_range-r-requires returns-then-next-start join_portion-requires returns)

@@ -33,100 +33,87 @@ range_code-code-requires c κs =
     let e = c.compile-compiled.ensures in (ap (λ (r : Compiled). r.code) e, ap (λ (r : Compiled). r.traversal.total) e)
 
 -- the range's code, over the arguments themselves
-code_of : (c : tie.After-range_code-code) → let s = c.before.before.before.before in
-    c.range_code-code.result
-    ≡ range_code s.args.sizes.now s.args.strides.now s.args.base s.args.start s.args.end (length s.args.values.now)
-code_of c = simp (to_z-of_z c.before.before.before.before.ranges.base) at c.range_code-code.ensures
+code_of : (c : tie.After-range_code-code) → c.range_code-code.result
+    ≡ range_code c.args.sizes.now c.args.strides.now c.args.base c.args.start c.args.end (length c.args.values.now)
+code_of c = simp (to_z-of_z c.ranges.base) at c.range_code-code.ensures
 
 returns-then-code-ne0 : tie.Need-returns-then-code-ne0
 returns-then-code-ne0 c =
     let m = c.before in
-    let s = m.before.before.before.before in
     let e = code_of m in
-    step-refused s.args.sizes.now s.args.strides.now s.args.base s.args.start s.args.end s.args.values.now s.args.mark
-    s.args.n m.range_code-code.result
-    (e ∙ code-range s.args.sizes.now s.args.strides.now s.args.base s.args.start s.args.end s.args.values.now s.args.mark
-    s.args.n (λ z. c.if-code-ne0.true (e ∙ z))) c.if-code-ne0.true
+    step-refused m.args.sizes.now m.args.strides.now m.args.base m.args.start m.args.end m.args.values.now m.args.mark
+    m.args.n m.range_code-code.result
+    (e ∙ code-range m.args.sizes.now m.args.strides.now m.args.base m.args.start m.args.end m.args.values.now m.args.mark
+    m.args.n (λ z. c.if-code-ne0.true (e ∙ z))) c.if-code-ne0.true
 
 -- an accepted range
-accepted : (c : tie.Else-code-ne0) → let s = c.before.before.before.before.before in
-    Checked s.args.sizes.now s.args.strides.now s.args.base s.args.start s.args.end (length s.args.values.now)
-    c.before.before.compile-compiled.result.traversal
+accepted : (c : tie.Else-code-ne0) → Checked c.args.sizes.now c.args.strides.now c.args.base c.args.start c.args.end (length c.args.values.now)
+    c.compile-compiled.result.traversal
 accepted c =
     let m = c.before in
-    let k = m.before in
-    checked _ _ _ _ _ _ k.compile-compiled.result k.compile-compiled.ensures m.range_code-code.result (code_of m) c.if-code-ne0.false
+    checked _ _ _ _ _ _ m.compile-compiled.result m.compile-compiled.ensures m.range_code-code.result (code_of m) c.if-code-ne0.false
 
 step_code-fault-requires : tie.Need-step_code-fault-requires
-step_code-fault-requires c κs = run-some c.before.before.compile-compiled.result.traversal (accepted c).traversal
+step_code-fault-requires c κs = run-some c.compile-compiled.result.traversal (accepted c).traversal
 
 -- its bookmark's code
-fault-of : (c : tie.After-step_code-fault) → let s = c.before.before.before.before.before.before in
-    let len = (compile_of PLACES s.args.sizes.now s.args.strides.now).traversal.run_len in
-    c.step_code-fault.result ≡ first_of (step_refusals len s.args.start s.args.end s.args.mark s.args.n)
+fault-of : (c : tie.After-step_code-fault) → let len = (compile_of PLACES c.args.sizes.now c.args.strides.now).traversal.run_len in
+    c.step_code-fault.result ≡ first_of (step_refusals len c.args.start c.args.end c.args.mark c.args.n)
 fault-of c =
-    let s = c.before.before.before.before.before.before in
     c.step_code-fault.ensures
-    ∙ ap (λ (l : FullTraversal). first_of (step_refusals l.run_len s.args.start s.args.end s.args.mark s.args.n)) (accepted c.before).is
+    ∙ ap (λ (l : FullTraversal). first_of (step_refusals l.run_len c.args.start c.args.end c.args.mark c.args.n)) (accepted c.before).is
 
 returns-then-fault-ne0 : tie.Need-returns-then-fault-ne0
 returns-then-fault-ne0 c =
     let f = c.before in
-    let s = f.before.before.before.before.before.before in
-    step-refused s.args.sizes.now s.args.strides.now s.args.base s.args.start s.args.end s.args.values.now s.args.mark
-    s.args.n f.step_code-fault.result
+    step-refused f.args.sizes.now f.args.strides.now f.args.base f.args.start f.args.end f.args.values.now f.args.mark
+    f.args.n f.step_code-fault.result
     (fault-of f
-    ∙ code-faults s.args.sizes.now s.args.strides.now s.args.base s.args.start s.args.end s.args.values.now s.args.mark
-    s.args.n (accepted f.before).code) c.if-fault-ne0.true
+    ∙ code-faults f.args.sizes.now f.args.strides.now f.args.base f.args.start f.args.end f.args.values.now f.args.mark
+    f.args.n (accepted f.before).code) c.if-fault-ne0.true
 
 -- an accepted bookmark
-code-none : (c : tie.Else-fault-ne0) → let s = c.before.before.before.before.before.before.before in
-    step_code s.args.sizes.now s.args.strides.now s.args.base s.args.start s.args.end (length s.args.values.now) s.args.mark
-    s.args.n
+code-none : (c : tie.Else-fault-ne0) → step_code c.args.sizes.now c.args.strides.now c.args.base c.args.start c.args.end (length c.args.values.now) c.args.mark
+    c.args.n
     ≡ 0
 code-none c =
     let f = c.before in
-    let s = f.before.before.before.before.before.before in
-    sym (code-faults s.args.sizes.now s.args.strides.now s.args.base s.args.start s.args.end s.args.values.now s.args.mark
-    s.args.n (accepted f.before).code) ∙ sym (fault-of f) ∙ c.if-fault-ne0.false
+    sym (code-faults f.args.sizes.now f.args.strides.now f.args.base f.args.start f.args.end f.args.values.now f.args.mark
+    f.args.n (accepted f.before).code) ∙ sym (fault-of f) ∙ c.if-fault-ne0.false
 
-marked : (c : tie.Else-fault-ne0) → let s = c.before.before.before.before.before.before.before in
-    Allowed s.args.sizes.now s.args.strides.now s.args.base s.args.start s.args.end s.args.values.now s.args.mark s.args.n
+marked : (c : tie.Else-fault-ne0) → Allowed c.args.sizes.now c.args.strides.now c.args.base c.args.start c.args.end c.args.values.now c.args.mark c.args.n
 marked c =
-    let s = c.before.before.before.before.before.before.before in
-    allowed s.args.sizes.now s.args.strides.now s.args.base s.args.start s.args.end s.args.values.now s.args.mark s.args.n
+    allowed c.args.sizes.now c.args.strides.now c.args.base c.args.start c.args.end c.args.values.now c.args.mark c.args.n
     (code-none c)
 
-below : (c : tie.Else-fault-ne0) → let s = c.before.before.before.before.before.before.before in s.args.mark.next < s.args.end
+below : (c : tie.Else-fault-ne0) → c.args.mark.next < c.args.end
 below c =
-    let s = c.before.before.before.before.before.before.before in
-    (begins-inside _ s.args.start s.args.end s.args.mark.next (accepted c.before.before).forward (marked c).begins).1
+    (begins-inside _ c.args.start c.args.end c.args.mark.next (accepted c.before.before).forward (marked c).begins).1
 
 portion_from-p-requires : tie.Need-portion_from-p-requires
 portion_from-p-requires c κs =
     let a = accepted c.before.before in
-    (run-some c.before.before.before.before.compile-compiled.result.traversal a.traversal, below c, le_trans a.inside a.few)
+    (run-some c.compile-compiled.result.traversal a.traversal, below c, le_trans a.inside a.few)
 
 reduce_portion-answer-requires : tie.Need-reduce_portion-answer-requires
 reduce_portion-answer-requires c κs =
     let e = c.before in
     let f = e.before in
-    let s = f.before.before.before.before.before.before in
     let a = accepted f.before in
     let m = marked e in
-    let len = run-some f.before.before.before.compile-compiled.result.traversal a.traversal in
+    let len = run-some f.compile-compiled.result.traversal a.traversal in
     let stop = c.portion_from-p.ensures.0 in
-    let forward = stop-forward _ s.args.end s.args.mark.next len (below e) s.args.n m.some_piece in
-    let upto = stop-upto _ s.args.end s.args.mark.next len (below e) s.args.n in
-    simp (to_z-of_z s.ranges.base) (
+    let forward = stop-forward _ f.args.end f.args.mark.next len (below e) f.args.n m.some_piece in
+    let upto = stop-upto _ f.args.end f.args.mark.next len (below e) f.args.n in
+    simp (to_z-of_z f.ranges.base) (
       a.traversal,
       a.bounded,
       omega (arith, stop, forward),
       omega (arith, stop, upto, a.inside),
       a.few,
       a.within,
-      stands-within s.args.sizes.now s.args.strides.now s.args.base s.args.start s.args.end s.args.values.now s.args.mark
-          s.args.n m,
+      stands-within f.args.sizes.now f.args.strides.now f.args.base f.args.start f.args.end f.args.values.now f.args.mark
+          f.args.n m,
     )
 
 tell-requires : tie.Need-tell-requires
@@ -138,30 +125,29 @@ returns c =
     let p = r.before in
     let e = p.before in
     let f = e.before in
-    let s = f.before.before.before.before.before.before in
     let a = accepted f.before in
     let m = marked e in
-    let l = f.before.before.before.compile-compiled.result.traversal in
-    let at = s.args.mark.next in
-    let first = eqb at s.args.start in
-    let ps = pieces_from l s.args.base s.args.values.now s.args.end s.args.n at in
+    let l = f.compile-compiled.result.traversal in
+    let at = f.args.mark.next in
+    let first = eqb at f.args.start in
+    let ps = pieces_from l f.args.base f.args.values.now f.args.end f.args.n at in
     let stop = p.portion_from-p.ensures.0 in
-    let worked : answer_of r.reduce_portion-answer.result ≡ portion_of first s.args.mark.acc ps =
-    (simp (to_z-of_z s.ranges.base) at r.reduce_portion-answer.ensures)
-    ∙ ap (portion_of first s.args.mark.acc)
-    (ap (pieces_of l s.args.base s.args.values.now at) stop
-    ∙ sym (portion-pieces l a.traversal s.args.base a.bounded s.args.values.now s.args.end s.args.n at m.some_piece (below e))) in
+    let worked : answer_of r.reduce_portion-answer.result ≡ portion_of first f.args.mark.acc ps =
+    (simp (to_z-of_z f.ranges.base) at r.reduce_portion-answer.ensures)
+    ∙ ap (portion_of first f.args.mark.acc)
+    (ap (pieces_of l f.args.base f.args.values.now at) stop
+    ∙ sym (portion-pieces l a.traversal f.args.base a.bounded f.args.values.now f.args.end f.args.n at m.some_piece (below e))) in
     c.tell.ensures
-    ∙ ap (told s.args.end p.portion_from-p.result.stop p.portion_from-p.result.pieces) worked
-    ∙ ap (λ (k : ℕ). told s.args.end k p.portion_from-p.result.pieces (portion_of first s.args.mark.acc ps))
-    (stop ∙ sym (portion-stop l a.traversal s.args.base a.bounded s.args.values.now s.args.end s.args.n at m.some_piece (below e)))
-    ∙ ap (λ (k : ℕ). told s.args.end (at + length (rates_of ps)) k (portion_of first s.args.mark.acc ps))
+    ∙ ap (told f.args.end p.portion_from-p.result.stop p.portion_from-p.result.pieces) worked
+    ∙ ap (λ (k : ℕ). told f.args.end k p.portion_from-p.result.pieces (portion_of first f.args.mark.acc ps))
+    (stop ∙ sym (portion-stop l a.traversal f.args.base a.bounded f.args.values.now f.args.end f.args.n at m.some_piece (below e)))
+    ∙ ap (λ (k : ℕ). told f.args.end (at + length (rates_of ps)) k (portion_of first f.args.mark.acc ps))
     (p.portion_from-p.ensures.1
-    ∙ sym (portion-count l a.traversal s.args.base a.bounded s.args.values.now s.args.end s.args.n at m.some_piece (below e)))
-    ∙ ap (λ (l : FullTraversal). let ps = pieces_from l s.args.base s.args.values.now s.args.end s.args.n at in
-    told s.args.end (at + length (rates_of ps)) (length ps) (portion_of first s.args.mark.acc ps)) a.is
-    ∙ sym (step-tells s.args.sizes.now s.args.strides.now s.args.base s.args.start s.args.end s.args.values.now s.args.mark
-    s.args.n (code-none e) _ _ refl refl)
+    ∙ sym (portion-count l a.traversal f.args.base a.bounded f.args.values.now f.args.end f.args.n at m.some_piece (below e)))
+    ∙ ap (λ (l : FullTraversal). let ps = pieces_from l f.args.base f.args.values.now f.args.end f.args.n at in
+    told f.args.end (at + length (rates_of ps)) (length ps) (portion_of first f.args.mark.acc ps)) a.is
+    ∙ sym (step-tells f.args.sizes.now f.args.strides.now f.args.base f.args.start f.args.end f.args.values.now f.args.mark
+    f.args.n (code-none e) _ _ refl refl)
 
 pub reduce_step_spec : {M : Type 1} → statement M
 reduce_step_spec = tie.close (tie.spec compile-compiled-requires range_code-code-requires returns-then-code-ne0 step_code-fault-requires returns-then-fault-ne0 portion_from-p-requires reduce_portion-answer-requires tell-requires returns)

@@ -10,7 +10,7 @@ use Rattle.bookmarks.proofs.step_code.Tie as tie
 
 returns-then-n-eq0 : tie.Need-returns-then-n-eq0
 unfolding first_of step_refusals
-returns-then-n-eq0 c = rw (eq-eqb c.before.args.n 0 c.if-n-eq0.true)
+returns-then-n-eq0 c = rw (eq-eqb c.args.n 0 c.if-n-eq0.true)
 
 begins_piece-requires : tie.Need-begins_piece-requires
 begins_piece-requires c κs = search rules
@@ -19,19 +19,17 @@ returns-then-not-begins_piece : tie.Need-returns-then-not-begins_piece
 unfolding first_of step_refusals
 returns-then-not-begins_piece c =
     let b = c.before in
-    let s = b.before.before in
-    rw (ne_eqb s.args.n 0 b.before.if-n-eq0.false, sym b.begins_piece.ensures ∙ not-true b.begins_piece.result c.if-not-begins_piece.true-raw)
+    rw (ne_eqb b.args.n 0 b.if-n-eq0.false, sym b.begins_piece.ensures ∙ not-true b.begins_piece.result c.if-not-begins_piece.true-raw)
 
 -- past the second test
-begins : (c : tie.Else-not-begins_piece) → let s = c.before.before.before in begins_piece s.args.len s.args.start s.args.end s.args.mark.next ≡ true
-begins c = sym c.before.begins_piece.ensures ∙ not-false c.before.begins_piece.result c.if-not-begins_piece.false-raw
+begins : (c : tie.Else-not-begins_piece) → begins_piece c.args.len c.args.start c.args.end c.args.mark.next ≡ true
+begins c = sym c.begins_piece.ensures ∙ not-false c.begins_piece.result c.if-not-begins_piece.false-raw
 
 returns-then-at-start : tie.Need-returns-then-at-start
 unfolding first_of step_refusals
 returns-then-at-start c =
     let b = c.before in
-    let s = b.before.before.before in
-    rw (ne_eqb s.args.n 0 b.before.before.if-n-eq0.false, begins b, eq-eqb s.args.mark.next s.args.start c.if-at-start.true)
+    rw (ne_eqb b.args.n 0 b.if-n-eq0.false, begins b, eq-eqb b.args.mark.next b.args.start c.if-at-start.true)
 
 in_limits-requires : tie.Need-in_limits-requires
 in_limits-requires c κs = search rules
@@ -42,11 +40,10 @@ returns-then-in_limits c =
     let i = c.before in
     let e = i.before in
     let b = e.before in
-    let s = b.before.before.before in
     rw (
-      ne_eqb s.args.n 0 b.before.before.if-n-eq0.false,
+      ne_eqb b.args.n 0 b.if-n-eq0.false,
       begins b,
-      ne_eqb s.args.mark.next s.args.start e.if-at-start.false,
+      ne_eqb b.args.mark.next b.args.start e.if-at-start.false,
       sym i.in_limits.ensures ∙ c.if-in_limits.true,
     )
 
@@ -56,11 +53,10 @@ returns c =
     let i = c.before in
     let e = i.before in
     let b = e.before in
-    let s = b.before.before.before in
     rw (
-      ne_eqb s.args.n 0 b.before.before.if-n-eq0.false,
+      ne_eqb b.args.n 0 b.if-n-eq0.false,
       begins b,
-      ne_eqb s.args.mark.next s.args.start e.if-at-start.false,
+      ne_eqb b.args.mark.next b.args.start e.if-at-start.false,
       sym i.in_limits.ensures ∙ c.if-in_limits.false,
     )
 

@@ -31,50 +31,42 @@ range_code-code-requires c κs =
     let e = c.compile-compiled.ensures in (ap (λ (r : Compiled). r.code) e, ap (λ (r : Compiled). r.traversal.total) e)
 
 -- the range's code, over the arguments themselves
-code_of : (c : tie.After-range_code-code) → let s = c.before.before.before.before in
-    c.range_code-code.result
-    ≡ range_code s.args.sizes.now s.args.strides.now s.args.base s.args.start s.args.end (length s.args.values.now)
-code_of c = simp (to_z-of_z c.before.before.before.before.ranges.base) at c.range_code-code.ensures
+code_of : (c : tie.After-range_code-code) → c.range_code-code.result
+    ≡ range_code c.args.sizes.now c.args.strides.now c.args.base c.args.start c.args.end (length c.args.values.now)
+code_of c = simp (to_z-of_z c.ranges.base) at c.range_code-code.ensures
 
 -- an accepted range
-accepted : (c : tie.Else-code-ne0) → let s = c.before.before.before.before.before in
-    Checked s.args.sizes.now s.args.strides.now s.args.base s.args.start s.args.end (length s.args.values.now)
-    c.before.before.compile-compiled.result.traversal
+accepted : (c : tie.Else-code-ne0) → Checked c.args.sizes.now c.args.strides.now c.args.base c.args.start c.args.end (length c.args.values.now)
+    c.compile-compiled.result.traversal
 accepted c =
     let m = c.before in
-    let k = m.before in
-    checked _ _ _ _ _ _ k.compile-compiled.result k.compile-compiled.ensures m.range_code-code.result (code_of m) c.if-code-ne0.false
+    checked _ _ _ _ _ _ m.compile-compiled.result m.compile-compiled.ensures m.range_code-code.result (code_of m) c.if-code-ne0.false
 
 returns-then-code-ne0 : tie.Need-returns-then-code-ne0
 returns-then-code-ne0 c =
     let m = c.before in
-    let s = m.before.before.before.before in
     ap refusal (code_of m)
-    ∙ sym (figure-refused s.args.sizes.now s.args.strides.now s.args.base s.args.start s.args.end s.args.values.now
+    ∙ sym (figure-refused m.args.sizes.now m.args.strides.now m.args.base m.args.start m.args.end m.args.values.now
     (λ e. c.if-code-ne0.true (code_of m ∙ e)))
 
 reduce_full_range-acc-requires : tie.Need-reduce_full_range-acc-requires
 reduce_full_range-acc-requires c κs =
-    let s = c.before.before.before.before.before in
     let a = accepted c in
-    simp (to_z-of_z s.ranges.base) (a.traversal, a.bounded, a.forward, a.inside, a.few, a.within)
+    simp (to_z-of_z c.ranges.base) (a.traversal, a.bounded, a.forward, a.inside, a.few, a.within)
 
 -- the reduction's accumulator is the range's
-reduced : (c : tie.After-reduce_full_range-acc) → let s = c.before.before.before.before.before.before in
-    c.reduce_full_range-acc.result
-    ≡ range_product s.args.sizes.now s.args.strides.now s.args.base s.args.start s.args.end s.args.values.now
+reduced : (c : tie.After-reduce_full_range-acc) → c.reduce_full_range-acc.result
+    ≡ range_product c.args.sizes.now c.args.strides.now c.args.base c.args.start c.args.end c.args.values.now
 reduced c =
     let b = c.before in
-    let s = b.before.before.before.before.before in
-    simp (to_z-of_z s.ranges.base) at c.reduce_full_range-acc.ensures
-    ∙ ap (λ (l : FullTraversal). joined_pieces (pieces_of l s.args.base s.args.values.now s.args.start s.args.end)) (accepted b).is
+    simp (to_z-of_z b.ranges.base) at c.reduce_full_range-acc.ensures
+    ∙ ap (λ (l : FullTraversal). joined_pieces (pieces_of l b.args.base b.args.values.now b.args.start b.args.end)) (accepted b).is
 
 ordered_full_range-number-requires : tie.Need-ordered_full_range-number-requires
 ordered_full_range-number-requires c κs =
     let e = c.before.before in
-    let s = e.before.before.before.before.before in
     let a = accepted e in
-    simp (to_z-of_z s.ranges.base) (a.traversal, a.bounded, a.forward, a.inside, a.few, a.within)
+    simp (to_z-of_z e.ranges.base) (a.traversal, a.bounded, a.forward, a.inside, a.few, a.within)
 
 returns-then-acc : tie.Need-returns-then-acc
 returns-then-acc c =
@@ -83,13 +75,12 @@ returns-then-acc c =
     let b = r.before in
     let m = b.before.before in
     let k = m.before in
-    let s = k.before.before in
     let a = accepted b in
-    let made = simp (to_z-of_z s.ranges.base) at c.ordered_full_range-number.ensures in
+    let made = simp (to_z-of_z k.ranges.base) at c.ordered_full_range-number.ensures in
     ap value (made
-    ∙ ordered-accepted s.args.sizes.now s.args.strides.now s.args.base s.args.start s.args.end s.args.values.now
+    ∙ ordered-accepted k.args.sizes.now k.args.strides.now k.args.base k.args.start k.args.end k.args.values.now
     k.shared_slice_known-2-1.given m.compile-compiled.result.traversal a)
-    ∙ sym (figure-bad s.args.sizes.now s.args.strides.now s.args.base s.args.start s.args.end s.args.values.now a.code
+    ∙ sym (figure-bad k.args.sizes.now k.args.strides.now k.args.base k.args.start k.args.end k.args.values.now a.code
     (sym (ap (λ (x : StableProductFloatAcc). x.bad) (reduced r)) ∙ t.if-acc.true))
 
 finish-requires : tie.Need-finish-requires
@@ -101,11 +92,10 @@ returns c =
     let r = t.before in
     let b = r.before in
     let k = b.before.before.before in
-    let s = k.before.before in
     let a = accepted b in
-    let v = values-fit s.args.values.now k.shared_slice_known-2-1.given in
-    let d = rule-D3 s.args.sizes.now s.args.strides.now s.args.base s.args.start s.args.end s.args.values.now v a.code in
-    let o = rule-O4 s.args.sizes.now s.args.strides.now s.args.base s.args.start s.args.end s.args.values.now v a.code in
+    let v = values-fit k.args.values.now k.shared_slice_known-2-1.given in
+    let d = rule-D3 k.args.sizes.now k.args.strides.now k.args.base k.args.start k.args.end k.args.values.now v a.code in
+    let o = rule-O4 k.args.sizes.now k.args.strides.now k.args.base k.args.start k.args.end k.args.values.now v a.code in
     c.finish.ensures
     ∙ sym (o.finished (Acc r.reduce_full_range-acc.result) (ap (λ (x : StableProductFloatAcc). answer_of (Acc x)) (reduced r) ∙ sym d.answer)
     (sym d.mark ∙ sym (ap (λ (x : StableProductFloatAcc). x.bad) (reduced r)) ∙ t.if-acc.false))

@@ -55,7 +55,7 @@ float_from_bits-x c = search rules
 -- ---- the first loop
 overflow_sub-k : tie.Need-overflow_sub-k invariant-loop-k decreases-loop-k invariant-loop-k-2 decreases-loop-k-2
 overflow_sub-k c =
-    let l = c.before.loop-k in
+    let l = c.loop-k in
     let s = c.before.before in
     (scaling-fits s.args.m (e s) l.x (to_z w64 l.k) (limit s) l.invariant).0
 
@@ -64,30 +64,30 @@ is_infinite-requires c κs = search rules
 
 returns-then-is_infinite : tie.Need-returns-then-is_infinite invariant-loop-k decreases-loop-k invariant-loop-k-2 decreases-loop-k-2
 returns-then-is_infinite c =
-    let l = c.before.before.before.loop-k in
+    let l = c.loop-k in
     let s = c.before.before.before.before in
-    answer s _ (raised_all s.args.m (float s) s.requires.0 (e s) l.x (to_z w64 l.k) l.invariant c.before.before.loop-k-test.true
-    (sym c.before.is_infinite.ensures ∙ c.if-is_infinite.true))
+    answer s _ (raised_all s.args.m (float s) s.requires.0 (e s) l.x (to_z w64 l.k) l.invariant c.loop-k-test.true
+    (sym c.is_infinite.ensures ∙ c.if-is_infinite.true))
 
 loop-k-smaller : tie.Need-loop-k-smaller invariant-loop-k decreases-loop-k invariant-loop-k-2 decreases-loop-k-2
 loop-k-smaller c =
-    let l = c.before.before.before.loop-k in
+    let l = c.loop-k in
     let s = c.before.before.before.before in
     let k = to_z w64 l.k in
-    rw (to_z-of_z w64 (k -ℤ pos 1023) (scaling-fits s.args.m (e s) l.x k (limit s) l.invariant).0) (raised-less k c.before.before.loop-k-test.true)
+    rw (to_z-of_z w64 (k -ℤ pos 1023) (scaling-fits s.args.m (e s) l.x k (limit s) l.invariant).0) (raised-less k c.loop-k-test.true)
 
 loop-k-preserved : tie.Need-loop-k-preserved invariant-loop-k decreases-loop-k invariant-loop-k-2 decreases-loop-k-2
 loop-k-preserved c =
-    let l = c.before.before.before.loop-k in
+    let l = c.loop-k in
     let s = c.before.before.before.before in
     let k = to_z w64 l.k in
     rw (to_z-of_z w64 (k -ℤ pos 1023) (scaling-fits s.args.m (e s) l.x k (limit s) l.invariant).0)
-    (raised-more s.args.m (float s) s.requires.0 (e s) l.x k l.invariant c.before.before.loop-k-test.true
-    (sym c.before.is_infinite.ensures ∙ c.if-is_infinite.false))
+    (raised-more s.args.m (float s) s.requires.0 (e s) l.x k l.invariant c.loop-k-test.true
+    (sym c.is_infinite.ensures ∙ c.if-is_infinite.false))
 
 -- ---- the second loop
 loop-k-2-init : tie.Need-loop-k-2-init invariant-loop-k decreases-loop-k invariant-loop-k-2 decreases-loop-k-2
-loop-k-2-init c = (c.before.loop-k.invariant, c.loop-k-test.false)
+loop-k-2-init c = (c.loop-k.invariant, c.loop-k-test.false)
 
 float_from_bits-x-in-loop-k-2 : tie.Need-float_from_bits-x-in-loop-k-2 invariant-loop-k decreases-loop-k invariant-loop-k-2 decreases-loop-k-2
 unfolding nan_bits
@@ -95,43 +95,43 @@ float_from_bits-x-in-loop-k-2 c = search rules
 
 overflow_add-k : tie.Need-overflow_add-k invariant-loop-k decreases-loop-k invariant-loop-k-2 decreases-loop-k-2
 overflow_add-k c =
-    let l = c.before.loop-k-2 in
+    let l = c.loop-k-2 in
     let s = c.before.before.before.before in
     (scaling-fits s.args.m (e s) l.x (to_z w64 l.k) (limit s) l.invariant.0).1
 
 returns-then-x : tie.Need-returns-then-x invariant-loop-k decreases-loop-k invariant-loop-k-2 decreases-loop-k-2
 returns-then-x c =
-    let l = c.before.before.loop-k-2 in
+    let l = c.loop-k-2 in
     let s = c.before.before.before.before.before in
     let k = to_z w64 l.k in
-    answer s _ (lowered-all s.args.m (float s) s.requires.0 (e s) l.x k l.invariant.0 (under-taken k c.before.loop-k-2-test.true) c.if-x.true)
+    answer s _ (lowered-all s.args.m (float s) s.requires.0 (e s) l.x k l.invariant.0 (under-taken k c.loop-k-2-test.true) c.if-x.true)
 
 loop-k-2-smaller : tie.Need-loop-k-2-smaller invariant-loop-k decreases-loop-k invariant-loop-k-2 decreases-loop-k-2
 loop-k-2-smaller c =
-    let l = c.before.before.loop-k-2 in
+    let l = c.loop-k-2 in
     let s = c.before.before.before.before.before in
     let k = to_z w64 l.k in
     rw (to_z-of_z w64 (k +ℤ pos 1022) (scaling-fits s.args.m (e s) l.x k (limit s) l.invariant.0).1)
-    (lowered-less k (under-taken k c.before.loop-k-2-test.true))
+    (lowered-less k (under-taken k c.loop-k-2-test.true))
 
 loop-k-2-preserved : tie.Need-loop-k-2-preserved invariant-loop-k decreases-loop-k invariant-loop-k-2 decreases-loop-k-2
 loop-k-2-preserved c =
-    let l = c.before.before.loop-k-2 in
+    let l = c.loop-k-2 in
     let s = c.before.before.before.before.before in
     let k = to_z w64 l.k in
-    let h = under-taken k c.before.loop-k-2-test.true in
+    let h = under-taken k c.loop-k-2-test.true in
     rw (to_z-of_z w64 (k +ℤ pos 1022) (scaling-fits s.args.m (e s) l.x k (limit s) l.invariant.0).1)
     (lowered-more s.args.m (float s) s.requires.0 (e s) l.x k l.invariant.0 h c.if-x.false, lowered-below k h)
 
 -- ---- the last product
 power_of_two-requires : tie.Need-power_of_two-requires invariant-loop-k decreases-loop-k invariant-loop-k-2 decreases-loop-k-2
 power_of_two-requires c κs =
-    let l = c.before.loop-k-2 in
+    let l = c.loop-k-2 in
     (l.invariant.1, under_left (to_z w64 l.k) c.loop-k-2-test.false)
 
 returns : tie.Need-returns invariant-loop-k decreases-loop-k invariant-loop-k-2 decreases-loop-k-2
 returns c =
-    let l = c.before.before.loop-k-2 in
+    let l = c.loop-k-2 in
     let s = c.before.before.before.before.before in
     let k = to_z w64 l.k in
     rw c.power_of_two.ensures (answer s _ (last s.args.m (float s) s.requires.0 (e s) l.x k l.invariant.0))

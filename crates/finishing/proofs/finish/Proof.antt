@@ -26,44 +26,40 @@ code_of-n-requires c κs = search rules
 
 returns-in_default : tie.Need-returns-in_default
 returns-in_default c =
-    let k = c.before.before in
-    ap refusal c.code_of-n.ensures ∙ handed_out k.before.args.answer k.in-Acc.keys2
+    ap refusal c.code_of-n.ensures ∙ handed_out c.args.answer c.in-Acc.keys2
 
 in_limits-requires : tie.Need-in_limits-requires
 in_limits-requires c κs = search rules
 
 returns-then-not-in_limits : tie.Need-returns-then-not-in_limits
 returns-then-not-in_limits c =
-    let a = c.before.before.before in
-    let g = a.answer-1.given in
-    refused a.before.before.args.answer g.0.0 g.1 (sym c.before.in_limits.ensures ∙ not-true c.before.in_limits.result c.if-not-in_limits.true-raw)
+    let g = c.answer-1.given in
+    refused c.args.answer g.0.0 g.1 (sym c.in_limits.ensures ∙ not-true c.in_limits.result c.if-not-in_limits.true-raw)
 
 -- past the first test the accumulator stands
-stood : (c : tie.Else-not-in_limits) → in_limits c.before.before.before.answer-1.given.0.0 ≡ true
-stood c = sym c.before.in_limits.ensures ∙ not-false c.before.in_limits.result c.if-not-in_limits.false-raw
+stood : (c : tie.Else-not-in_limits) → in_limits c.answer-1.given.0.0 ≡ true
+stood c = sym c.in_limits.ensures ∙ not-false c.in_limits.result c.if-not-in_limits.false-raw
 
 returns-then-a : tie.Need-returns-then-a
 returns-then-a c =
-    let a = c.before.before.before.before in
-    let g = a.answer-1.given in
-    bad-nan a.before.before.args.answer g.0.0 g.1 (stood c.before) c.if-a.true
+    let g = c.answer-1.given in
+    bad-nan c.args.answer g.0.0 g.1 (stood c.before) c.if-a.true
 
 f64_ldexp-x-requires : tie.Need-f64_ldexp-x-requires
 f64_ldexp-x-requires c κs =
     let l = c.before.before in
-    let a = l.before.before.before.answer-1.given.0.0 in
+    let a = l.answer-1.given.0.0 in
     let held = to_z-of_z w64 a.e (record { sfits = c.struct_told-1.given.1.0.1 }) in
     (in-limits-unit a (stood l), ap (λ (z : ℤ). within_limit z) held ∙ in-limits-exponent a (stood l))
 
 returns : tie.Need-returns
 returns c =
     let l = c.before.before.before in
-    let k = l.before.before.before in
-    let g = k.answer-1.given in
+    let g = l.answer-1.given in
     let a = g.0.0 in
-    let held = to_z-of_z w64 a.e (record { sfits = c.before.struct_told-1.given.1.0.1 }) in
+    let held = to_z-of_z w64 a.e (record { sfits = c.struct_told-1.given.1.0.1 }) in
     ap value (c.f64_ldexp-x.ensures ∙ ap (λ (z : ℤ). rounded_once (factor_at 52 a.m z)) held)
-    ∙ good-value k.before.before.args.answer a g.1 (stood l) c.before.before.if-a.false
+    ∙ good-value l.args.answer a g.1 (stood l) c.if-a.false
 
 pub finish_spec : {M : Type 1} → statement M
 finish_spec =

@@ -10,10 +10,10 @@ unfolding nan_bits
 float_from_bits-infinity c = search rules
 
 returns-then-m-infinity : tie.Need-returns-then-m-infinity
-returns-then-m-infinity c = infinite-taken c.before.args.m c.if-m-infinity.true
+returns-then-m-infinity c = infinite-taken c.args.m c.if-m-infinity.true
 
 returns-else-m-infinity : tie.Need-returns-else-m-infinity
-returns-else-m-infinity c = infinite-left c.before.args.m c.if-m-infinity.false
+returns-else-m-infinity c = infinite-left c.args.m c.if-m-infinity.false
 
 pub is_infinite_spec : {M : Type 1} → statement M
 is_infinite_spec = tie.close (tie.spec float_from_bits-infinity returns-then-m-infinity returns-else-m-infinity)

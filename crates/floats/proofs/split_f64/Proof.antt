@@ -12,10 +12,10 @@ split_fields-requires : tie.Need-split_fields-requires
 split_fields-requires c κs = search rules
 
 returns-then-not-is_subnormal : tie.Need-returns-then-not-is_subnormal
-returns-then-not-is_subnormal c = c.split_fields.ensures (sym c.before.before.is_subnormal.ensures ∙ not-true _ c.before.if-not-is_subnormal.true-raw)
+returns-then-not-is_subnormal c = c.split_fields.ensures (sym c.is_subnormal.ensures ∙ not-true _ c.if-not-is_subnormal.true-raw)
 
 split_subnormal-requires : tie.Need-split_subnormal-requires
-split_subnormal-requires c κs = sym c.before.is_subnormal.ensures ∙ not-false _ c.if-not-is_subnormal.false-raw
+split_subnormal-requires c κs = sym c.is_subnormal.ensures ∙ not-false _ c.if-not-is_subnormal.false-raw
 
 returns : tie.Need-returns
 returns c = c.split_subnormal.ensures

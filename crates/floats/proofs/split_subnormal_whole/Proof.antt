@@ -31,16 +31,16 @@ overflow_sub-m c = let s = c.before.before in low-le (bits_of s.args.value) (sub
 
 float_to_bits-m : tie.Need-float_to_bits-m
 float_to_bits-m c =
-    let s = c.before.before.before in p-number s.args.value (held s) (sub s) c.before.split_ordinary-p.result c.before.split_ordinary-p.ensures
+    let s = c.before.before.before in p-number s.args.value (held s) (sub s) c.split_ordinary-p.result c.split_ordinary-p.ensures
 
 overflow_add-m : tie.Need-overflow_add-m
 overflow_add-m c =
     let s = c.before.before.before in
-    record { fits = whole-fits s.args.value (held s) (sub s) c.before.split_ordinary-p.result c.before.split_ordinary-p.ensures }
+    record { fits = whole-fits s.args.value (held s) (sub s) c.split_ordinary-p.result c.split_ordinary-p.ensures }
 
 float_from_bits-m : tie.Need-float_from_bits-m
 float_from_bits-m c =
-    let s = c.before.before.before in whole-number s.args.value (held s) (sub s) c.before.split_ordinary-p.result c.before.split_ordinary-p.ensures
+    let s = c.before.before.before in whole-number s.args.value (held s) (sub s) c.split_ordinary-p.result c.split_ordinary-p.ensures
 
 overflow_sub-result : tie.Need-overflow_sub-result
 overflow_sub-result c =

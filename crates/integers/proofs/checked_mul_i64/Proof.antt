@@ -12,11 +12,11 @@ use Rattle.integers.proofs.checked_mul_i64.Statement.{statement}
 use Rattle.integers.proofs.checked_mul_i64.Tie as tie
 
 -- p, where the magnitudes' product fits, is that product
-product : (c : tie.Then-m) → c.before.checked_mul_u64-m.result.value ≡ nat_abs c.before.before.before.args.a * c.before.before.before.args.n
+product : (c : tie.Then-m) → c.checked_mul_u64-m.result.value ≡ nat_abs c.args.a * c.args.n
 product c =
-    let f = c.before.before.before.ranges.a in
-    let m = simp (to_z-of_z f) at c.before.before.magnitude.ensures in
-    (narrow_u64-ok _ _ c.before.checked_mul_u64-m.ensures c.if-m.true).0 ∙ ap (λ (k : ℕ). k * c.before.before.before.args.n) m
+    let f = c.ranges.a in
+    let m = simp (to_z-of_z f) at c.magnitude.ensures in
+    (narrow_u64-ok _ _ c.checked_mul_u64-m.ensures c.if-m.true).0 ∙ ap (λ (k : ℕ). k * c.args.n) m
 
 magnitude-requires : tie.Need-magnitude-requires
 magnitude-requires c κs = search rules
@@ -29,55 +29,49 @@ overflow_cast-v c = search rules
 
 overflow_sub-result : tie.Need-overflow_sub-result
 overflow_sub-result c =
-    let p = c.before.before.before.checked_mul_u64-m.result.value in
+    let p = c.checked_mul_u64-m.result.value in
     rw (to_z-small p (omega arith)) (negated_fits p (omega arith))
 
 returns-then-a-lt0 : tie.Need-returns-then-a-lt0
 returns-then-a-lt0 c =
-    let s = c.before.before.before.before.before in
-    let f = s.ranges.a in
-    let h : c.before.before.before.checked_mul_u64-m.result.value < 2 ^ 63 = omega arith in
-    let p = c.before.before.before.checked_mul_u64-m.result.value in
+    let f = c.ranges.a in
+    let h : c.checked_mul_u64-m.result.value < 2 ^ 63 = omega arith in
+    let p = c.checked_mul_u64-m.result.value in
     simp (to_z-small p h, to_z-of_z (negated_fits p (omega arith)))
-    (sym (signed-neg s.args.a s.args.n p (product c.before.before) (simp (to_z-of_z f) at c.if-a-lt0.true) h))
+    (sym (signed-neg c.args.a c.args.n p (product c.before.before) (simp (to_z-of_z f) at c.if-a-lt0.true) h))
 
 returns-then-p-le-I64_MAX : tie.Need-returns-then-p-le-I64_MAX
 returns-then-p-le-I64_MAX c =
-    let s = c.before.before.before.before.before in
-    let f = s.ranges.a in
-    let h : c.before.before.before.checked_mul_u64-m.result.value < 2 ^ 63 = omega arith in
-    let p = c.before.before.before.checked_mul_u64-m.result.value in
+    let f = c.ranges.a in
+    let h : c.checked_mul_u64-m.result.value < 2 ^ 63 = omega arith in
+    let p = c.checked_mul_u64-m.result.value in
     simp (to_z-small p h)
-    (sym (signed-pos s.args.a s.args.n p (product c.before.before) (simp (to_z-of_z f) at c.if-a-lt0.false) h))
+    (sym (signed-pos c.args.a c.args.n p (product c.before.before) (simp (to_z-of_z f) at c.if-a-lt0.false) h))
 
 overflow_add-t-11 : tie.Need-overflow_add-t-11
 overflow_add-t-11 c = search rules
 
 returns-then-p : tie.Need-returns-then-p
 returns-then-p c =
-    let s = c.before.before.before.before.before.before in
-    let f = s.ranges.a in
-    sym (signed-least s.args.a s.args.n _ (product c.before.before.before) (simp (to_z-of_z f) at c.before.if-a-lt0-2.true) c.if-p.true)
+    let f = c.ranges.a in
+    sym (signed-least c.args.a c.args.n _ (product c.before.before.before) (simp (to_z-of_z f) at c.if-a-lt0-2.true) c.if-p.true)
 
 returns-else-p : tie.Need-returns-else-p
 returns-else-p c =
-    let s = c.before.before.before.before.before.before in
-    let f = s.ranges.a in
-    sym (signed-over s.args.a s.args.n _ (product c.before.before.before) (simp (to_z-of_z f) at c.before.if-a-lt0-2.true) (omega arith))
+    let f = c.ranges.a in
+    sym (signed-over c.args.a c.args.n _ (product c.before.before.before) (simp (to_z-of_z f) at c.if-a-lt0-2.true) (omega arith))
 
 returns-else-a-lt0-2 : tie.Need-returns-else-a-lt0-2
 returns-else-a-lt0-2 c =
-    let s = c.before.before.before.before.before in
-    let f = s.ranges.a in
-    sym (unsigned-over s.args.a s.args.n _ (product c.before.before) (simp (to_z-of_z f) at c.if-a-lt0-2.false) (omega arith))
+    let f = c.ranges.a in
+    sym (unsigned-over c.args.a c.args.n _ (product c.before.before) (simp (to_z-of_z f) at c.if-a-lt0-2.false) (omega arith))
 
 returns-else-m : tie.Need-returns-else-m
 returns-else-m c =
-    let s = c.before.before.before in
-    let f = s.ranges.a in
-    let m = simp (to_z-of_z f) at c.before.before.magnitude.ensures in
-    let k = narrow_u64-not-ok _ _ c.before.checked_mul_u64-m.ensures c.if-m.false in
-    sym (far-over s.args.a s.args.n _ (ap (λ (j : ℕ). j * s.args.n) m) k)
+    let f = c.ranges.a in
+    let m = simp (to_z-of_z f) at c.magnitude.ensures in
+    let k = narrow_u64-not-ok _ _ c.checked_mul_u64-m.ensures c.if-m.false in
+    sym (far-over c.args.a c.args.n _ (ap (λ (j : ℕ). j * c.args.n) m) k)
 
 pub checked_mul_i64_spec : {M : Type 1} → statement M
 checked_mul_i64_spec = tie.close (tie.spec magnitude-requires checked_mul_u64-m-requires overflow_cast-v overflow_sub-result returns-then-a-lt0 returns-then-p-le-I64_MAX overflow_add-t-11 returns-then-p returns-else-p returns-else-a-lt0-2 returns-else-m)

@@ -14,12 +14,11 @@ halves-fit : (a b : ℕ) → a ≤ 4294967295 → b ≤ 4294967295 → a * b < 2
 halves-fit a b h k = let m = mul-le-mul h k in omega arith
 
 overflow_mul-result : tie.Need-overflow_mul-result
-overflow_mul-result c = let s = c.before.before in record { fits = halves-fit s.args.a s.args.b c.before.if-a-le-HALF_MAX.true c.if-b-le-HALF_MAX.true }
+overflow_mul-result c = record { fits = halves-fit c.args.a c.args.b c.if-a-le-HALF_MAX.true c.if-b-le-HALF_MAX.true }
 
 returns-then-b-le-HALF_MAX : tie.Need-returns-then-b-le-HALF_MAX
 returns-then-b-le-HALF_MAX c =
-    let s = c.before.before in
-    sym (narrow_u64-yes _ (halves-fit s.args.a s.args.b c.before.if-a-le-HALF_MAX.true c.if-b-le-HALF_MAX.true))
+    sym (narrow_u64-yes _ (halves-fit c.args.a c.args.b c.if-a-le-HALF_MAX.true c.if-b-le-HALF_MAX.true))
 
 checked_mul_wide-requires : tie.Need-checked_mul_wide-requires
 checked_mul_wide-requires c κs = search rules

@@ -18,14 +18,14 @@ nonzero_div-b c = search rules
 
 returns-then-b-a : tie.Need-returns-then-b-a
 returns-then-b-a c =
-    sym (narrow_u64-no _ (product-over c.before.before.args.a c.before.before.args.b (omega arith) c.if-b-a.true))
+    sym (narrow_u64-no _ (product-over c.args.a c.args.b (omega arith) c.if-b-a.true))
 
 overflow_mul-result : tie.Need-overflow_mul-result
-overflow_mul-result c = omega (arith, product-fits-u64 c.before.before.args.a c.before.before.args.b (omega arith) c.if-b-a.false)
+overflow_mul-result c = omega (arith, product-fits-u64 c.args.a c.args.b (omega arith) c.if-b-a.false)
 
 returns : tie.Need-returns
 returns c =
-    sym (narrow_u64-yes _ (product-fits-u64 c.before.before.args.a c.before.before.args.b (omega arith) c.if-b-a.false))
+    sym (narrow_u64-yes _ (product-fits-u64 c.args.a c.args.b (omega arith) c.if-b-a.false))
 
 pub checked_mul_wide_spec : {M : Type 1} → statement M
 checked_mul_wide_spec = tie.close (tie.spec returns-then-b-eq0 nonzero_div-b returns-then-b-a overflow_mul-result returns)

@@ -16,23 +16,23 @@ overflow_add-t-3 c = search rules
 
 returns-then-magnitude : tie.Need-returns-then-magnitude
 returns-then-magnitude c =
-    let x = c.before.before.args.x in
-    let f = c.before.before.ranges.x in
-    let m = simp (to_z-of_z f) at c.before.magnitude.ensures in
+    let x = c.args.x in
+    let f = c.ranges.x in
+    let m = simp (to_z-of_z f) at c.magnitude.ensures in
     sym (rw (← (+ℤ_idl (neg_ℤ x))) (narrow_i64-no (pos 0 -ℤ x) (least-only x f (sym m ∙ c.if-magnitude.true))))
 
 overflow_sub-result : tie.Need-overflow_sub-result
 overflow_sub-result c =
-    let x = c.before.before.args.x in
-    let f = c.before.before.ranges.x in
-    let m = simp (to_z-of_z f) at c.before.magnitude.ensures in
+    let x = c.args.x in
+    let f = c.ranges.x in
+    let m = simp (to_z-of_z f) at c.magnitude.ensures in
     simp (to_z-of_z f) (opposite-fits x f (λ e. c.if-magnitude.false (m ∙ e)))
 
 returns : tie.Need-returns
 returns c =
-    let x = c.before.before.args.x in
-    let f = c.before.before.ranges.x in
-    let m = simp (to_z-of_z f) at c.before.magnitude.ensures in
+    let x = c.args.x in
+    let f = c.ranges.x in
+    let m = simp (to_z-of_z f) at c.magnitude.ensures in
     let g = opposite-fits x f (λ e. c.if-magnitude.false (m ∙ e)) in
     simp (to_z-of_z f, to_z-of_z g) (simp +ℤ_idl (sym (narrow_i64-yes (neg_ℤ x) (rw +ℤ_idl at g))))
 

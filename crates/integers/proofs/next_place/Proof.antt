@@ -24,7 +24,7 @@ returns-then-left-gt0 c =
     )
 
 returns : tie.Need-returns
-returns c = let s = c.before in (λ l. absurd (omega arith), λ e. to_z-of_z s.ranges.at)
+returns c = (λ l. absurd (omega arith), λ e. to_z-of_z c.ranges.at)
 
 pub next_place_spec : {M : Type 1} → statement M
 next_place_spec = tie.close (tie.spec overflow_add-result returns-then-left-gt0 returns)

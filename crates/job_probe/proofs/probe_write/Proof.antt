@@ -22,7 +22,7 @@ job_of s = record { sizes = s.args.sizes.now; strides = s.args.strides.now; base
 answered : (c : tie.After-write_job-written) → let s = c.before.before.before.before in
     (c.write_job-written.result ≡ write_of (job_of s) (length s.args.out.now))
     × (c.write_job-written.new.1.1.1.1.1.0 ≡ write_buffer (job_of s) s.args.out.now)
-answered c = simp (to_z-of_z c.before.before.before.before.ranges.base) at c.write_job-written.ensures
+answered c = simp (to_z-of_z c.ranges.base) at c.write_job-written.ensures
 
 write_job-written-requires : tie.Need-write_job-written-requires
 write_job-written-requires c κs = search rules
@@ -34,9 +34,8 @@ returns-then-written-ne0 : tie.Need-returns-then-written-ne0
 unfolding count_given
 returns-then-written-ne0 c =
     let a = c.before.before.before.before in
-    let s = a.before.before.before.before in
     let e = (answered a).0 in
-    (ap code e, ((answered a).1, kept code (λ w. w.count) e s.args.count.now c.if-written-ne0.true))
+    (ap code e, ((answered a).1, kept code (λ w. w.count) e a.args.count.now c.if-written-ne0.true))
 
 shape_of-out : tie.Need-shape_of-out
 shape_of-out c = search rules
@@ -45,10 +44,9 @@ returns : tie.Need-returns
 unfolding count_given
 returns c =
     let a = c.before.before.before.before in
-    let s = a.before.before.before.before in
     let e = (answered a).0 in
     let z = c.if-written-ne0.false in
-    (sym z ∙ ap code e, ((answered a).1, handed code (λ w. w.count) e s.args.count.now z))
+    (sym z ∙ ap code e, ((answered a).1, handed code (λ w. w.count) e a.args.count.now z))
 
 pub probe_write_spec : {M : Type 1} → statement M
 probe_write_spec = tie.close (tie.spec write_job-written-requires shape_of-out-then-written-ne0 returns-then-written-ne0 shape_of-out returns)

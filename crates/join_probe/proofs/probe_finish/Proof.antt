@@ -18,23 +18,22 @@ enum_known-answer-in-Refused-1 : tie.Need-enum_known-answer-in-Refused-1
 enum_known-answer-in-Refused-1 c = search rules
 
 -- the answer, over the arguments themselves
-told : (c : tie.After-finish-answer) → let s = c.before in
-    final_answer_of c.finish-answer.result ≡ finished_of (Acc (handed_in s.args.m s.args.e s.args.bad))
-told c = simp (to_z-of_z c.before.ranges.e) at c.finish-answer.ensures
+told : (c : tie.After-finish-answer) → final_answer_of c.finish-answer.result ≡ finished_of (Acc (handed_in c.args.m c.args.e c.args.bad))
+told c = simp (to_z-of_z c.ranges.e) at c.finish-answer.ensures
 
 returns-in-Number : tie.Need-returns-in-Number
 unfolding number_code number_given
 returns-in-Number c =
     let a = c.before in
     let t = sym (ap final_answer_of a.answer-1.given.1) ∙ told a.before.before in
-    (ap number_code t, ap (number_given a.before.before.before.args.number.now) t)
+    (ap number_code t, ap (number_given a.args.number.now) t)
 
 returns-in-Refused : tie.Need-returns-in-Refused
 unfolding number_code number_given
 returns-in-Refused c =
     let a = c.before in
     let t = sym (ap final_answer_of a.answer-in-Refused-1.given.1) ∙ told a.before.before in
-    (ap number_code t, ap (number_given a.before.before.before.args.number.now) t)
+    (ap number_code t, ap (number_given a.args.number.now) t)
 
 pub probe_finish_spec : {M : Type 1} → statement M
 probe_finish_spec = tie.close (tie.spec finish-answer-requires enum_known-answer enum_known-answer-in-Refused-1 returns-in-Number returns-in-Refused)

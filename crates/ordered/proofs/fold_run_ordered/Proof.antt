@@ -62,7 +62,7 @@ done t = (entry t).args.len - t.loop-left.left
 
 -- the place of the next value
 here : (c : tie.In-loop-left invariant-loop-left decreases-loop-left) → let t = c.before in to_z w64 t.loop-left.at-bits ≡ first (entry t) +ℤ stride (entry t) *ℤ pos (done t)
-here c = c.before.loop-left.invariant.1 (omega (arith, c.loop-left-test.true))
+here c = c.loop-left.invariant.1 (omega (arith, c.loop-left-test.true))
 
 here-index : (c : tie.In-loop-left invariant-loop-left decreases-loop-left) → let t = c.before in Index (length (values (entry t))) (to_z w64 t.loop-left.at-bits)
 here-index c =
@@ -83,7 +83,7 @@ overflow_sub-left c = omega arith
 
 -- one more value is in
 more : (c : tie.In-loop-left invariant-loop-left decreases-loop-left) → let t = c.before in done t + 1 ≡ (entry t).args.len - (t.loop-left.left - 1)
-more c = let t = c.before in omega (arith, t.loop-left.invariant.0, c.loop-left-test.true)
+more c = omega (arith, c.loop-left.invariant.0, c.loop-left-test.true)
 
 product : (c : tie.In-loop-left invariant-loop-left decreases-loop-left) → let t = c.before in let s = entry t in
     mul binary64 t.loop-left.product (value_at (values s) (to_z w64 t.loop-left.at-bits)) ≡ folded s (s.args.len - (t.loop-left.left - 1))
@@ -119,7 +119,7 @@ loop-left-smaller : tie.Need-loop-left-smaller invariant-loop-left decreases-loo
 loop-left-smaller c = omega arith
 
 loop-left-preserved : tie.Need-loop-left-preserved invariant-loop-left decreases-loop-left
-loop-left-preserved c = let i = c.before.before in (omega (arith, i.before.loop-left.invariant.0), next c, product i)
+loop-left-preserved c = let i = c.before.before in (omega (arith, i.loop-left.invariant.0), next c, product i)
 
 returns : tie.Need-returns invariant-loop-left decreases-loop-left
 returns c =

@@ -75,7 +75,7 @@ more c =
     let t = c.before.before in
     let s = t.before.before in
     c.fold_run_ordered-product.ensures
-    ∙ ap (λ (z : ℤ). run s t.loop-j.product z) (t.loop-j.invariant.1 c.before.loop-j-test.true)
+    ∙ ap (λ (z : ℤ). run s t.loop-j.product z) (t.loop-j.invariant.1 c.loop-j-test.true)
     ∙ ap (λ (x : Float). run s x (first s +ℤ step s *ℤ pos t.loop-j.j)) t.loop-j.invariant.2
     ∙ fold_more (run s) s.args.acc (first s) (step s) t.loop-j.j
 
@@ -85,7 +85,7 @@ next : (c : tie.Then-j-count invariant-loop-j decreases-loop-j) → let t = c.be
 next c =
     let t = c.before.before.before in
     let s = t.before.before in
-    ap (λ (z : ℤ). z +ℤ step s) (t.loop-j.invariant.1 c.before.before.loop-j-test.true) ∙ place-next (first s) (step s) t.loop-j.j
+    ap (λ (z : ℤ). z +ℤ step s) (t.loop-j.invariant.1 c.loop-j-test.true) ∙ place-next (first s) (step s) t.loop-j.j
 
 overflow_add-j : tie.Need-overflow_add-j invariant-loop-j decreases-loop-j
 overflow_add-j c = omega arith

@@ -9,7 +9,7 @@ use Rattle.ordered.proofs.one_nan.Tie as tie
 
 returns-then-x : tie.Need-returns-then-x
 unfolding div of_bits
-returns-then-x c = sym (differs_from_itself c.before.args.x (subst T (sym c.if-x.true) tt))
+returns-then-x c = sym (differs_from_itself c.args.x (subst T (sym c.if-x.true) tt))
 
 returns : tie.Need-returns
 returns c = search rules

@@ -64,10 +64,10 @@ here c =
     let k = t.before.before in
     c.next_strip-s.ensures (from-loop k).args.base (from-loop k).requires.1 ((folding k).cursor_is t.loop-c-test.true)
 
-first_fits : (c : tie.After-struct_told-in-loop-c-1 invariant-loop-c decreases-loop-c) → SFits w64 c.before.next_strip-s.result.first
+first_fits : (c : tie.After-struct_told-in-loop-c-1 invariant-loop-c decreases-loop-c) → SFits w64 c.next_strip-s.result.first
 first_fits c = record { sfits = c.struct_told-in-loop-c-1.given.0.1 }
 
-step_fits : (c : tie.After-struct_told-in-loop-c-1 invariant-loop-c decreases-loop-c) → SFits w64 c.before.next_strip-s.result.step
+step_fits : (c : tie.After-struct_told-in-loop-c-1 invariant-loop-c decreases-loop-c) → SFits w64 c.next_strip-s.result.step
 step_fits c = record { sfits = c.struct_told-in-loop-c-1.given.1.0.1 }
 
 stride-fits : (c : tie.After-struct_told-1 invariant-loop-c decreases-loop-c) → SFits w64 (from_told c).args.l.run_stride
@@ -91,7 +91,7 @@ loop-c-smaller c =
     let p = here n in
     let s = n.next_strip-s.result in
     let m : 1 * s.len ≤ s.count * s.len = mul-le-mul_right s.len p.some_run in
-    omega (arith, n.before.loop-c-test.true, p.next_at, p.some_len)
+    omega (arith, n.loop-c-test.true, p.next_at, p.some_len)
 
 loop-c-preserved : tie.Need-loop-c-preserved invariant-loop-c decreases-loop-c
 loop-c-preserved c =

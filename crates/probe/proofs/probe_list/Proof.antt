@@ -14,7 +14,7 @@ shape_of-out : tie.Need-shape_of-out
 shape_of-out c = search rules
 
 returns : tie.Need-returns
-returns c = let s = c.before.before.before.before in simp (to_z-of_z s.ranges.base) at c.before.offset_list.ensures
+returns c = simp (to_z-of_z c.ranges.base) at c.offset_list.ensures
 
 pub probe_list_spec : {M : Type 1} → statement M
 probe_list_spec = tie.close (tie.spec offset_list-requires shape_of-out returns)

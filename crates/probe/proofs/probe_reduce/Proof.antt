@@ -14,9 +14,8 @@ use Rattle.probe.proofs.probe_reduce.Lts as lts
 use Rattle.reduction.proofs.full.reduce.Reads as reduce-reads
 
 -- the reduction's answer, over the arguments themselves
-answered : (c : tie.After-reduce-answer) → let s = c.before.before.before in
-    answer_of c.reduce-answer.result ≡ reduce_of s.args.sizes.now s.args.strides.now s.args.base s.args.start s.args.end s.args.values.now
-answered c = simp (to_z-of_z c.before.before.before.ranges.base) at c.reduce-answer.ensures
+answered : (c : tie.After-reduce-answer) → answer_of c.reduce-answer.result ≡ reduce_of c.args.sizes.now c.args.strides.now c.args.base c.args.start c.args.end c.args.values.now
+answered c = simp (to_z-of_z c.ranges.base) at c.reduce-answer.ensures
 
 reduce-answer-requires : tie.Need-reduce-answer-requires
 reduce-answer-requires c κs = search rules
@@ -31,18 +30,16 @@ returns-in-Acc : tie.Need-returns-in-Acc
 unfolding code_given m_given e_given bad_given
 returns-in-Acc c =
     let a = c.before.before in
-    let s = a.before.before.before.before.before in
     let t = sym (ap answer_of a.answer-1.given.1) ∙ answered a.before.before in
     let fits : SFits w64 a.answer-1.given.0.0.e = record { sfits = c.struct_told-1.given.1.0.1 } in
-    (ap code_given t, (ap (m_given s.args.m.now) t, (to_z-of_z fits ∙ ap (e_given s.args.e.now) t, ap (bad_given s.args.bad.now) t)))
+    (ap code_given t, (ap (m_given a.args.m.now) t, (to_z-of_z fits ∙ ap (e_given a.args.e.now) t, ap (bad_given a.args.bad.now) t)))
 
 returns-in-Refused : tie.Need-returns-in-Refused
 unfolding code_given m_given e_given bad_given
 returns-in-Refused c =
     let a = c.before in
-    let s = a.before.before.before.before.before in
     let t = sym (ap answer_of a.answer-in-Refused-1.given.1) ∙ answered a.before.before in
-    (ap code_given t, (ap (m_given s.args.m.now) t, (ap (e_given s.args.e.now) t, ap (bad_given s.args.bad.now) t)))
+    (ap code_given t, (ap (m_given a.args.m.now) t, (ap (e_given a.args.e.now) t, ap (bad_given a.args.bad.now) t)))
 
 pub probe_reduce_spec : {M : Type 1} → statement M
 probe_reduce_spec = tie.close (tie.spec reduce-answer-requires enum_known-answer enum_known-answer-in-Refused-1 returns-in-Acc returns-in-Refused)

@@ -30,7 +30,7 @@ abbrev entry : tie.At-loop-i invariant-loop-i decreases-loop-i → tie.Start inv
 entry k = k.before.before.before
 
 -- the place lies in the starts, whose bytes are numbered
-below : (c : tie.In-loop-i invariant-loop-i decreases-loop-i) → c.before.loop-i.i < length (entry c.before).args.starts.now
+below : (c : tie.In-loop-i invariant-loop-i decreases-loop-i) → c.loop-i.i < length (entry c.before).args.starts.now
 below c = c.loop-i-test.true
 
 offset_bounds-starts-i : tie.Need-offset_bounds-starts-i invariant-loop-i decreases-loop-i

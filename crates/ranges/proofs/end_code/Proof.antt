@@ -5,17 +5,15 @@ use Rattle.ranges.proofs.end_code.Statement.{statement}
 use Rattle.ranges.proofs.end_code.Tie as tie
 
 returns-then-end-start : tie.Need-returns-then-end-start
-returns-then-end-start c = let s = c.before in sym (ends-5 s.args.total s.args.start s.args.end c.if-end-start.taken)
+returns-then-end-start c = sym (ends-5 c.args.total c.args.start c.args.end c.if-end-start.taken)
 
 returns-then-total-end : tie.Need-returns-then-total-end
 returns-then-total-end c =
-    let s = c.before.before in
-    sym (ends-6 s.args.total s.args.start s.args.end c.before.if-end-start.left c.if-total-end.taken)
+    sym (ends-6 c.args.total c.args.start c.args.end c.if-end-start.left c.if-total-end.taken)
 
 returns : tie.Need-returns
 returns c =
-    let s = c.before.before in
-    sym (ends-0 s.args.total s.args.start s.args.end c.before.if-end-start.left c.if-total-end.left)
+    sym (ends-0 c.args.total c.args.start c.args.end c.if-end-start.left c.if-total-end.left)
 
 pub end_code_spec : {M : Type 1} → statement M
 end_code_spec = tie.close (tie.spec returns-then-end-start returns-then-total-end returns)

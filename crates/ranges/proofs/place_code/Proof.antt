@@ -16,14 +16,13 @@ use Rattle.ranges.proofs.place_code.Tie as tie
 
 returns-then-total-eq0 : tie.Need-returns-then-total-eq0
 returns-then-total-eq0 c =
-    let s = c.before.before in
-    sym (place-empty s.args.sizes.now s.args.strides.now s.args.base s.args.length (sym s.requires.1 ∙ c.if-total-eq0.taken))
+    sym (place-empty c.args.sizes.now c.args.strides.now c.args.base c.args.length (sym c.requires.1 ∙ c.if-total-eq0.taken))
 
 cleared : (s : tie.Start) → Clear s.args.sizes.now s.args.strides.now
 cleared s = clear s.args.sizes.now s.args.strides.now s.requires.0
 
-some-element : (c : tie.Else-total-eq0) → let s = c.before.before in 0 < (compile_of PLACES s.args.sizes.now s.args.strides.now).traversal.total
-some-element c = let s = c.before.before in let n = c.if-total-eq0.left in omega (arith, s.requires.1, n)
+some-element : (c : tie.Else-total-eq0) → 0 < (compile_of PLACES c.args.sizes.now c.args.strides.now).traversal.total
+some-element c = let n = c.if-total-eq0.left in omega (arith, c.requires.1, n)
 
 inside-requires : tie.Need-inside-requires
 inside-requires c κs =
@@ -33,11 +32,10 @@ inside-requires c κs =
     )
 
 -- what the test said, of the base itself
-told : (c : tie.After-inside) → let s = c.before.before.before in
-    all_inside (axes_in s.args.sizes.now s.args.strides.now) (elements (axes_in s.args.sizes.now s.args.strides.now)) s.args.base
-    s.args.length
+told : (c : tie.After-inside) → all_inside (axes_in c.args.sizes.now c.args.strides.now) (elements (axes_in c.args.sizes.now c.args.strides.now)) c.args.base
+    c.args.length
     ≡ c.inside.result
-told c = sym (simp (to_z-of_z c.before.before.before.fits.base) at c.inside.ensures)
+told c = sym (simp (to_z-of_z c.fits.base) at c.inside.ensures)
 
 returns-then-inside : tie.Need-returns-then-inside
 unfolding first_of

@@ -19,11 +19,10 @@ entry c = c.before.before.before.before
 -- ---- 1 to 4
 returns-then-refusal-ne0 : tie.Need-returns-then-refusal-ne0
 returns-then-refusal-ne0 c =
-    let s = c.before.before.before.before in
-    let e = s.requires.0 in
+    let e = c.requires.0 in
     e
-    ∙ code-compile s.args.sizes.now s.args.strides.now s.args.base s.args.starts.now s.args.ends.now s.args.len
-    (not s.args.fit)
+    ∙ code-compile c.args.sizes.now c.args.strides.now c.args.base c.args.starts.now c.args.ends.now c.args.len
+    (not c.args.fit)
     (λ z. c.if-refusal-ne0.taken (e ∙ z))
 
 compiled : (c : tie.Else-refusal-ne0) → let s = entry c in (compile_of PLACES s.args.sizes.now s.args.strides.now).code ≡ 0

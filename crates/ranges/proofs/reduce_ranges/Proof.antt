@@ -40,7 +40,7 @@ entry c = c.before.before.before.before.before.before.before
 
 ranges_code-code-requires : tie.Need-ranges_code-code-requires invariant-loop-i decreases-loop-i
 ranges_code-code-requires c κs =
-    let e = c.before.compile-compiled.ensures in (
+    let e = c.compile-compiled.ensures in (
       ap (λ (r : Compiled). r.code) e,
       ap (λ (r : Compiled). r.traversal.total) e,
       λ t. (fit _ _ _ _ _ (sym c.lists_fit-fit.ensures ∙ ap not t)).same,
@@ -59,7 +59,7 @@ code_is c =
     (simp (to_z-of_z s.fits.base) at c.ranges_code-code.ensures)
     ∙ code-many s.args.sizes.now s.args.strides.now s.args.base s.args.starts.now s.args.ends.now s.args.values.now
     s.args.ms.now s.args.es.now s.args.bads.now _
-    c.before.lists_fit-fit.ensures
+    c.lists_fit-fit.ensures
 
 returns-then-code-ne0 : tie.Need-returns-then-code-ne0 invariant-loop-i decreases-loop-i
 returns-then-code-ne0 c =
@@ -80,8 +80,8 @@ allowed c =
     (sym (code_is c.before) ∙ c.if-code-ne0.false)
 
 layout_is : (c : tie.Else-code-ne0 invariant-loop-i decreases-loop-i) → let s = from-code c.before in
-    c.before.before.before.compile-compiled.result.traversal ≡ (compile_of PLACES s.args.sizes.now s.args.strides.now).traversal
-layout_is c = ap (λ (r : Compiled). r.traversal) c.before.before.before.compile-compiled.ensures
+    c.compile-compiled.result.traversal ≡ (compile_of PLACES s.args.sizes.now s.args.strides.now).traversal
+layout_is c = ap (λ (r : Compiled). r.traversal) c.compile-compiled.ensures
 
 loop-i-init : tie.Need-loop-i-init invariant-loop-i decreases-loop-i
 loop-i-init c = (omega arith, refl, refl, refl)
@@ -90,10 +90,10 @@ abbrev from-loop : tie.At-loop-i invariant-loop-i decreases-loop-i → tie.Start
 from-loop k = from-code k.before.before
 
 -- the place lies in both lists, and their bytes are numbered
-below : (c : tie.In-loop-i invariant-loop-i decreases-loop-i) → c.before.loop-i.i < length (from-loop c.before).args.starts.now
+below : (c : tie.In-loop-i invariant-loop-i decreases-loop-i) → c.loop-i.i < length (from-loop c.before).args.starts.now
 below c = omega (arith, (allowed c.before.before).fits.same, c.loop-i-test.true)
 
-numbered : (c : tie.In-loop-i invariant-loop-i decreases-loop-i) → c.before.loop-i.i * 8 + 8 ≤ 2 ^ 63
+numbered : (c : tie.In-loop-i invariant-loop-i decreases-loop-i) → c.loop-i.i * 8 + 8 ≤ 2 ^ 63
 numbered c = omega (arith, c.loop-i-test.true, (from-loop c.before).well_formed.0.1)
 
 offset_bounds-starts-i : tie.Need-offset_bounds-starts-i invariant-loop-i decreases-loop-i
@@ -106,11 +106,11 @@ offset_bounds-ends-i : tie.Need-offset_bounds-ends-i invariant-loop-i decreases-
 offset_bounds-ends-i c = omega (arith, numbered c.before)
 
 bounds-ends-i : tie.Need-bounds-ends-i invariant-loop-i decreases-loop-i
-bounds-ends-i c = c.before.before.loop-i-test.true
+bounds-ends-i c = c.loop-i-test.true
 
 -- what the reduction of the range asks
 ready-here : (c : tie.In-loop-i invariant-loop-i decreases-loop-i) → let k = c.before in let s = from-loop k in
-    Ready k.before.before.before.before.compile-compiled.result.traversal s.args.base (length s.args.values.now)
+    Ready k.compile-compiled.result.traversal s.args.base (length s.args.values.now)
     (get_or s.args.starts.now k.loop-i.i 0) (get_or s.args.ends.now k.loop-i.i 0)
 ready-here c =
     let k = c.before in
@@ -180,8 +180,8 @@ loop-i-preserved c =
     let k = i.before in
     let s = from-loop k in
     let f = (allowed k.before).fits in
-    let p = t.before.reduce_full_range-acc.ensures in
-    let fits : SFits w64 t.before.reduce_full_range-acc.result.e = record { sfits = t.struct_told-1.given.1.0.1 } in (
+    let p = t.reduce_full_range-acc.ensures in
+    let fits : SFits w64 t.reduce_full_range-acc.result.e = record { sfits = t.struct_told-1.given.1.0.1 } in (
       omega (arith, below i),
       wrote-more _ _ _ _ _ acc-m s.args.ms.now f.same f.room-m k.loop-i.i (below i) _ k.loop-i.invariant.1 _ (ap acc-m p),
       wrote-more _ _ _ _ _ acc-e s.args.es.now f.same f.room-e k.loop-i.i (below i) _ k.loop-i.invariant.2 _ (to_z-of_z fits ∙ ap acc-e p),
@@ -209,7 +209,7 @@ returns c =
     let b = wrote-all _ _ _ _ _ acc-byte s.args.bads.now f.same f.room-bad k.loop-i.i all _ k.loop-i.invariant.3 in
     told-accepted s.args.sizes.now s.args.strides.now s.args.base s.args.starts.now s.args.ends.now s.args.values.now
     s.args.ms.now s.args.es.now s.args.bads.now _
-    (layout_is k.before) (sym k.before.if-code-ne0.false ∙ code_is k.before.before) _ _ _ (simp (to_z-of_z s.fits.base) at m)
+    (layout_is k.before) (sym k.if-code-ne0.false ∙ code_is k.before.before) _ _ _ (simp (to_z-of_z s.fits.base) at m)
     (simp (to_z-of_z s.fits.base) at e) (simp (to_z-of_z s.fits.base) at b)
 
 pub reduce_ranges_spec : {M : Type 1} → statement M

@@ -19,8 +19,7 @@ shape_of-bads c = search rules
 returns : tie.Need-returns
 returns c =
     let r = c.before.before.before.before.before in
-    let s = r.before.before.before.before.before.before.before.before.before.before in
-    simp (to_z-of_z s.ranges.base) at r.reduce_ranges.ensures
+    simp (to_z-of_z r.ranges.base) at r.reduce_ranges.ensures
 
 pub probe_ranges_spec : {M : Type 1} → statement M
 probe_ranges_spec = tie.close (tie.spec reduce_ranges-requires shape_of-ms shape_of-es shape_of-bads returns)

@@ -21,20 +21,19 @@ none_bad-requires c κs = search rules
 returns-then-passes : tie.Need-returns-then-passes
 returns-then-passes c =
     let t = c.before in
-    let s = t.before.before.before in
-    let good = simp (to_z-of_z s.ranges.first, to_z-of_z s.ranges.stride) at (t.before.passes.ensures t.if-passes.true) in
+    let good = simp (to_z-of_z t.ranges.first, to_z-of_z t.ranges.stride) at (t.passes.ensures t.if-passes.true) in
     c.none_bad.ensures
-    ∙ sym (all-good s.args.values.now s.args.element (steps s.args.first s.args.stride (8 * s.args.vectors))
-    (ap (some is_bad) (sym (strided-steps s.args.values.now s.args.first s.args.stride (8 * s.args.vectors))) ∙ good))
+    ∙ sym (all-good t.args.values.now t.args.element (steps t.args.first t.args.stride (8 * t.args.vectors))
+    (ap (some is_bad) (sym (strided-steps t.args.values.now t.args.first t.args.stride (8 * t.args.vectors))) ∙ good))
 
 overflow_mul-vectors : tie.Need-overflow_mul-vectors
-overflow_mul-vectors c = let s = c.before.before.before in omega (arith, s.requires.0)
+overflow_mul-vectors c = omega (arith, c.requires.0)
 
 look_closer-requires : tie.Need-look_closer-requires
 look_closer-requires c κs = search rules
 
 returns : tie.Need-returns
-returns c = let s = c.before.before.before.before in simp (to_z-of_z s.ranges.first, to_z-of_z s.ranges.stride) at c.look_closer.ensures
+returns c = simp (to_z-of_z c.ranges.first, to_z-of_z c.ranges.stride) at c.look_closer.ensures
 
 pub first_in_chunk_spec : {M : Type 1} → statement M
 first_in_chunk_spec = tie.close (tie.spec passes-requires none_bad-requires returns-then-passes overflow_mul-vectors look_closer-requires returns)

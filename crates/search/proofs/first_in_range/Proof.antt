@@ -65,10 +65,10 @@ here c =
     let k = t.before.before in
     c.next_strip-s.ensures (from-loop k).args.base (from-loop k).requires.1 ((walked k).cursor_is t.loop-c-test.true)
 
-first_fits : (c : tie.After-struct_told-in-loop-c-1 invariant-loop-c decreases-loop-c) → SFits w64 c.before.next_strip-s.result.first
+first_fits : (c : tie.After-struct_told-in-loop-c-1 invariant-loop-c decreases-loop-c) → SFits w64 c.next_strip-s.result.first
 first_fits c = record { sfits = c.struct_told-in-loop-c-1.given.0.1 }
 
-step_fits : (c : tie.After-struct_told-in-loop-c-1 invariant-loop-c decreases-loop-c) → SFits w64 c.before.next_strip-s.result.step
+step_fits : (c : tie.After-struct_told-in-loop-c-1 invariant-loop-c decreases-loop-c) → SFits w64 c.next_strip-s.result.step
 step_fits c = record { sfits = c.struct_told-in-loop-c-1.given.1.0.1 }
 
 stride-fits : (c : tie.After-struct_told-1 invariant-loop-c decreases-loop-c) → SFits w64 (from_told c).args.l.run_stride
@@ -127,7 +127,7 @@ loop-c-smaller : tie.Need-loop-c-smaller invariant-loop-c decreases-loop-c
 loop-c-smaller c =
     let n = c.before.before.before.before.before in
     let p = here n in
-    omega (arith, n.before.loop-c-test.true, p.next_at, p.some_len, one-run n)
+    omega (arith, n.loop-c-test.true, p.next_at, p.some_len, one-run n)
 
 loop-c-preserved : tie.Need-loop-c-preserved invariant-loop-c decreases-loop-c
 loop-c-preserved c =
@@ -137,7 +137,7 @@ loop-c-preserved c =
     let s = from-loop k in
     simp (to_z-of_z s.fits.base)
     (walked_more s.args.l s.args.base s.args.values.now s.args.start s.args.end k.loop-c.c (walked k) n.next_strip-s.result (here n)
-    r.first_in_strip-r.result (told r) c.before.if-r.false)
+    r.first_in_strip-r.result (told r) c.if-r.false)
 
 none_bad-requires : tie.Need-none_bad-requires invariant-loop-c decreases-loop-c
 none_bad-requires c κs = search rules

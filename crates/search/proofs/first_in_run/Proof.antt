@@ -75,7 +75,7 @@ returns-then-len-eq0 c =
     simp (to_z-of_z s.ranges.first, to_z-of_z s.ranges.stride) at e
 
 overflow_mul-done : tie.Need-overflow_mul-done
-overflow_mul-done c = let s = c.before.before.before.before.before in omega (arith, s.requires.0)
+overflow_mul-done c = omega (arith, c.requires.0)
 
 -- some values are left
 some_left : (c : tie.Else-len-eq0) → let s = c.before.before.before.before.before in done s < s.args.len
@@ -107,7 +107,7 @@ at-is : (c : tie.After-far_stride) → let s = c.before.before.before.before.bef
 at-is c = to_z-of_z (overflow_add-at c) ∙ next c
 
 overflow_add-element : tie.Need-overflow_add-element
-overflow_add-element c = let s = c.before.before.before.before.before.before in omega (arith, s.requires.1)
+overflow_add-element c = omega (arith, c.requires.1)
 
 look_closer-q-requires : tie.Need-look_closer-q-requires
 look_closer-q-requires c κs =

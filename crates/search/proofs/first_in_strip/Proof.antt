@@ -160,7 +160,7 @@ returns c =
     let s = t.before.before in
     let e = c.none_bad.ensures
     ∙ sym (runs-over (values s) t.loop-j.from (first s +ℤ step s *ℤ pos t.loop-j.j) (step s) (stride s) s.args.len s.args.count t.loop-j.j
-    (let h = c.before.loop-j-test.false in omega arith))
+    (let h = c.loop-j-test.false in omega arith))
     ∙ t.loop-j.invariant.3 in
     simp (to_z-of_z s.ranges.first, to_z-of_z s.ranges.step, to_z-of_z s.ranges.stride) at e
 

@@ -60,7 +60,7 @@ overflow_mul-far_stride : tie.Need-overflow_mul-far_stride invariant-loop-i decr
 overflow_mul-far_stride c = omega arith
 
 overflow_mul-vectors : tie.Need-overflow_mul-vectors invariant-loop-i decreases-loop-i
-overflow_mul-vectors c = omega (arith, c.before.requires.0)
+overflow_mul-vectors c = omega (arith, c.requires.0)
 
 far_stride-apart-requires : tie.Need-far_stride-apart-requires invariant-loop-i decreases-loop-i
 far_stride-apart-requires c κs =
@@ -96,16 +96,16 @@ module _ (c : tie.After-min_usize-n invariant-loop-i decreases-loop-i) where
   n-is = c.min_usize-n.ensures
 
   some : 1 ≤ n
-  some = let h = c.before.loop-i-test.true in omega (arith, n-is)
+  some = let h = c.loop-i-test.true in omega (arith, n-is)
 
   ends : i + n ≤ s.args.vectors
-  ends = let h = c.before.loop-i-test.true in omega (arith, n-is)
+  ends = let h = c.loop-i-test.true in omega (arith, n-is)
 
   whole : i + n < s.args.vectors → n ≡ 256
   whole h = omega (arith, n-is)
 
   at-is : to_z w64 t.loop-i.at-bits ≡ first s +ℤ stride s *ℤ pos (8 * i)
-  at-is = t.loop-i.invariant.1 c.before.loop-i-test.true
+  at-is = t.loop-i.invariant.1 c.loop-i-test.true
 
   -- the places that are left: the chunk's, and those after it
   rest : List ℤ
@@ -173,11 +173,11 @@ left c =
 
 -- from chunk to chunk, as the code holds it
 apart : (c : tie.Then-i-vectors invariant-loop-i decreases-loop-i) → let m = c.before.before.before in
-    to_z w64 (of_z w64 (t m).before.far_stride-apart.result) ≡ stride (s m) *ℤ pos 2048
+    to_z w64 (of_z w64 (t m).far_stride-apart.result) ≡ stride (s m) *ℤ pos 2048
 apart c =
     let m = c.before.before.before in
     let long : 2048 < all (s m) = (let h = whole m c.if-i-vectors.true in let z = c.if-i-vectors.true in omega arith) in
-    to_z-of_z (record { sfits = (t m).before.far_stride-apart.type_inv }) ∙ (t m).before.far_stride-apart.ensures long
+    to_z-of_z (record { sfits = (t m).far_stride-apart.type_inv }) ∙ (t m).far_stride-apart.ensures long
 
 -- the place of the next chunk, which holds a value
 next : (c : tie.Then-i-vectors invariant-loop-i decreases-loop-i) → let m = c.before.before.before in
@@ -191,7 +191,7 @@ next c =
 
 -- the same, of what the code holds
 next-held : (c : tie.Then-i-vectors invariant-loop-i decreases-loop-i) → let m = c.before.before.before in
-    to_z w64 (t m).loop-i.at-bits +ℤ to_z w64 (of_z w64 (t m).before.far_stride-apart.result) ≡ first (s m) +ℤ stride (s m) *ℤ pos (8 * (i m + n m))
+    to_z w64 (t m).loop-i.at-bits +ℤ to_z w64 (of_z w64 (t m).far_stride-apart.result) ≡ first (s m) +ℤ stride (s m) *ℤ pos (8 * (i m + n m))
 next-held c = let m = c.before.before.before in ap (λ (z : ℤ). to_z w64 (t m).loop-i.at-bits +ℤ z) (apart c) ∙ next c
 
 overflow_add-at : tie.Need-overflow_add-at invariant-loop-i decreases-loop-i
@@ -222,7 +222,7 @@ returns : tie.Need-returns invariant-loop-i decreases-loop-i
 returns c =
     let t = c.before.before in
     let s = entry t in
-    let h = c.before.loop-i-test.false in
+    let h = c.loop-i-test.false in
     let e = c.none_bad.ensures
     ∙ sym (run-over (values s) (s.args.element + 8 * t.loop-i.i) (first s +ℤ stride s *ℤ pos (8 * t.loop-i.i)) (stride s) (all s) (8 * t.loop-i.i)
     (omega arith))

@@ -53,16 +53,15 @@ inside t = let s = entry t in simp (to_z-of_z s.fits.first, to_z-of_z s.fits.str
 
 loop-i-init : tie.Need-loop-i-init invariant-loop-i decreases-loop-i
 loop-i-init c =
-    let s = c.before in
-    let z = to_z w64 (of_z w64 s.args.first) in
-    let d = to_z w64 (of_z w64 s.args.stride) in
-    (omega arith, λ h. place-first z d, run-whole s.args.values.now s.args.element z d s.args.len)
+    let z = to_z w64 (of_z w64 c.args.first) in
+    let d = to_z w64 (of_z w64 c.args.stride) in
+    (omega arith, λ h. place-first z d, run-whole c.args.values.now c.args.element z d c.args.len)
 
 -- the place of the next value
 here : (c : tie.In-loop-i invariant-loop-i decreases-loop-i) → let t = c.before in to_z w64 t.loop-i.at-bits ≡ first t +ℤ apart t *ℤ pos t.loop-i.i
-here c = c.before.loop-i.invariant.1 c.loop-i-test.true
+here c = c.loop-i.invariant.1 c.loop-i-test.true
 
-below : (c : tie.In-loop-i invariant-loop-i decreases-loop-i) → nat_abs (to_z w64 c.before.loop-i.at-bits) < length (values c.before)
+below : (c : tie.In-loop-i invariant-loop-i decreases-loop-i) → nat_abs (to_z w64 c.loop-i.at-bits) < length (values c.before)
 below c =
     let t = c.before in
     subst (λ (z : ℤ). nat_abs z < length (values t)) (sym (here c))
@@ -158,7 +157,7 @@ returns c =
     let s = entry t in
     let e = c.none_bad.ensures
     ∙ sym (run-over (values t) (s.args.element + t.loop-i.i) (first t +ℤ apart t *ℤ pos t.loop-i.i) (apart t) s.args.len t.loop-i.i
-    (let h = c.before.loop-i-test.false in omega arith))
+    (let h = c.loop-i-test.false in omega arith))
     ∙ t.loop-i.invariant.2 in
     simp (to_z-of_z s.fits.first, to_z-of_z s.fits.stride) at e
 

@@ -21,7 +21,7 @@ use Rattle.search.proofs.passes.Tie as tie
 
 wait_vectors-r-requires : tie.Need-wait_vectors-r-requires
 wait_vectors-r-requires c κs =
-    let s = c.before in simp (to_z-of_z s.ranges.first, to_z-of_z s.ranges.stride, to_z-of_z s.ranges.eight) (refl, refl, s.requires.0, s.requires.1)
+    simp (to_z-of_z c.ranges.first, to_z-of_z c.ranges.stride, to_z-of_z c.ranges.eight) (refl, refl, c.requires.0, c.requires.1)
 
 -- the values, and the lanes after them
 abbrev tested : tie.Start → List Float
@@ -33,16 +33,16 @@ began = record { m = replicate 8 (fin false 0 (pos 0)); least = replicate 8 one 
 
 waited : (c : tie.After-wait_vectors-r) → let s = c.before.before in c.wait_vectors-r.result.lanes ≡ feed (wait_step s.args.signs) 0 began (tested s)
 unfolding of_bits
-waited c = let s = c.before.before in simp (to_z-of_z s.ranges.first, to_z-of_z s.ranges.stride) at c.wait_vectors-r.ensures.0
+waited c = simp (to_z-of_z c.ranges.first, to_z-of_z c.ranges.stride) at c.wait_vectors-r.ensures.0
 
 least_of-least-requires : tie.Need-least_of-least-requires
 least_of-least-requires c κs = (lit≤ tt, lit≤ tt)
 
 none_below-requires : tie.Need-none_below-requires
-none_below-requires c κs = ap (λ (w : Waiting). length w.least) c.before.before.before.wait_vectors-r.ensures.0 ∙ wait-least-long _ 0 _ _
+none_below-requires c κs = ap (λ (w : Waiting). length w.least) c.wait_vectors-r.ensures.0 ∙ wait-least-long _ 0 _ _
 
 none_past-requires : tie.Need-none_past-requires
-none_past-requires c κs = ap (λ (w : Waiting). length w.m) c.before.before.before.before.wait_vectors-r.ensures.0 ∙ wait-m-long _ 0 _ _
+none_past-requires c κs = ap (λ (w : Waiting). length w.m) c.wait_vectors-r.ensures.0 ∙ wait-m-long _ 0 _ _
 
 returns : tie.Need-returns
 returns c h =
@@ -53,7 +53,7 @@ returns c h =
     let signs = s.args.signs in
     let both = and_both _ _ h in
     passed-good signs began refl refl (tested s)
-    (strided-values s.args.values.now w.before.shared_slice_known-1.given s.args.first s.args.stride (8 * s.args.vectors))
+    (strided-values s.args.values.now w.shared_slice_known-1.given s.args.first s.args.stride (8 * s.args.vectors))
     (ap (λ (u : Waiting). every (not_below (least_of signs 511)) u.least) (sym (waited w))
     ∙ ap (λ (z : Float). every (not_below z) w.wait_vectors-r.result.lanes.least) (sym l.least_of-least.ensures)
     ∙ sym b.none_below.ensures

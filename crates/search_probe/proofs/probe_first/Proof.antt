@@ -10,10 +10,9 @@ use Rattle.search_probe.proofs.probe_first.Statement.{statement}
 use Rattle.search_probe.proofs.probe_first.Tie as tie
 
 -- the search's answer, over the arguments themselves
-answered : (c : tie.After-first_bad_rate-answer) → let s = c.before.before.before in
-    search_answer_of c.first_bad_rate-answer.result
-    ≡ search_of s.args.sizes.now s.args.strides.now s.args.base s.args.start s.args.end s.args.values.now
-answered c = simp (to_z-of_z c.before.before.before.ranges.base) at c.first_bad_rate-answer.ensures
+answered : (c : tie.After-first_bad_rate-answer) → search_answer_of c.first_bad_rate-answer.result
+    ≡ search_of c.args.sizes.now c.args.strides.now c.args.base c.args.start c.args.end c.args.values.now
+answered c = simp (to_z-of_z c.ranges.base) at c.first_bad_rate-answer.ensures
 
 first_bad_rate-answer-requires : tie.Need-first_bad_rate-answer-requires
 first_bad_rate-answer-requires c κs = search rules
@@ -31,28 +30,25 @@ returns-in-Found : tie.Need-returns-in-Found
 unfolding search_code found_given element_given offset_given
 returns-in-Found c =
     let a = c.before.before in
-    let s = a.before.before.before.before.before in
     let t = sym (ap search_answer_of a.answer-1.given.1) ∙ answered a.before.before in
     let fits : SFits w64 a.answer-1.given.0.0.offset = record { sfits = c.struct_told-1.given.1.0.1 } in (
       ap search_code t,
-      (ap (found_given s.args.found.now) t, (ap (element_given s.args.element.now) t, to_z-of_z fits ∙ ap (offset_given s.args.offset.now) t)),
+      (ap (found_given a.args.found.now) t, (ap (element_given a.args.element.now) t, to_z-of_z fits ∙ ap (offset_given a.args.offset.now) t)),
     )
 
 returns-in-NoneBad : tie.Need-returns-in-NoneBad
 unfolding search_code found_given element_given offset_given
 returns-in-NoneBad c =
     let a = c.before.before in
-    let s = a.before.before.before in
     let t = sym (ap search_answer_of c.enum_told-1.given.1) ∙ answered a in
-    (ap search_code t, (ap (found_given s.args.found.now) t, (ap (element_given s.args.element.now) t, ap (offset_given s.args.offset.now) t)))
+    (ap search_code t, (ap (found_given a.args.found.now) t, (ap (element_given a.args.element.now) t, ap (offset_given a.args.offset.now) t)))
 
 returns-in-Refused : tie.Need-returns-in-Refused
 unfolding search_code found_given element_given offset_given
 returns-in-Refused c =
     let a = c.before in
-    let s = a.before.before.before.before.before in
     let t = sym (ap search_answer_of a.answer-in-Refused-1.given.1) ∙ answered a.before.before in
-    (ap search_code t, (ap (found_given s.args.found.now) t, (ap (element_given s.args.element.now) t, ap (offset_given s.args.offset.now) t)))
+    (ap search_code t, (ap (found_given a.args.found.now) t, (ap (element_given a.args.element.now) t, ap (offset_given a.args.offset.now) t)))
 
 pub probe_first_spec : {M : Type 1} → statement M
 probe_first_spec = tie.close (tie.spec first_bad_rate-answer-requires enum_known-answer enum_told-1 enum_known-answer-in-Refused-1 returns-in-Found returns-in-NoneBad returns-in-Refused)

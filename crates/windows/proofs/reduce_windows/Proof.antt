@@ -52,7 +52,7 @@ returns-then-code-ne0 c =
 -- ---- an accepted call
 allowed : (c : tie.Else-code-ne0 invariant-loop-i decreases-loop-i) → let s = from-code c.before in
     Accepted (length s.args.values.now) s.args.w (length s.args.ms.now) (length s.args.es.now) (length s.args.bads.now)
-allowed c = accepted _ _ _ _ _ (sym c.before.windows_code-code.ensures ∙ c.if-code-ne0.false)
+allowed c = accepted _ _ _ _ _ (sym c.windows_code-code.ensures ∙ c.if-code-ne0.false)
 
 overflow_sub-count : tie.Need-overflow_sub-count invariant-loop-i decreases-loop-i
 overflow_sub-count c = (allowed c).ranges
@@ -67,13 +67,13 @@ abbrev from-loop : tie.At-loop-i invariant-loop-i decreases-loop-i → tie.Start
 from-loop k = from-code k.before.before
 
 -- there is a window at i, and its place is numbered
-below : (c : tie.In-loop-i invariant-loop-i decreases-loop-i) → let s = from-loop c.before in c.before.loop-i.i < window_count (length s.args.values.now) s.args.w
+below : (c : tie.In-loop-i invariant-loop-i decreases-loop-i) → let s = from-loop c.before in c.loop-i.i < window_count (length s.args.values.now) s.args.w
 below c = omega (arith, c.loop-i-test.true)
 
-ends : (c : tie.In-loop-i invariant-loop-i decreases-loop-i) → let s = from-loop c.before in c.before.loop-i.i + s.args.w ≤ length s.args.values.now
+ends : (c : tie.In-loop-i invariant-loop-i decreases-loop-i) → let s = from-loop c.before in c.loop-i.i + s.args.w ≤ length s.args.values.now
 ends c = omega (arith, c.loop-i-test.true, (allowed c.before.before).fits)
 
-numbered : (c : tie.In-loop-i invariant-loop-i decreases-loop-i) → c.before.loop-i.i * 8 + 8 ≤ 2 ^ 63
+numbered : (c : tie.In-loop-i invariant-loop-i decreases-loop-i) → c.loop-i.i * 8 + 8 ≤ 2 ^ 63
 numbered c = let s = from-loop c.before in omega (arith, ends c, (allowed c.before.before).some, s.well_formed.0.1)
 
 eight_at-eight-requires : tie.Need-eight_at-eight-requires invariant-loop-i decreases-loop-i
@@ -153,10 +153,10 @@ loop-i-preserved c =
     let k = i.before in
     let s = from-loop k in
     let a = allowed k.before in
-    let p = t.before.window_at-acc.ensures in
+    let p = t.window_at-acc.ensures in
     let vs = s.args.values.now in
     let w = s.args.w in
-    let fits : SFits w64 t.before.window_at-acc.result.e = record { sfits = t.struct_told-1.given.1.0.1 } in (
+    let fits : SFits w64 t.window_at-acc.result.e = record { sfits = t.struct_told-1.given.1.0.1 } in (
       omega (arith, below i),
       wrote-more acc-m vs w s.args.ms.now a.room-m k.loop-i.i (below i) _ k.loop-i.invariant.1 _ (ap acc-m p),
       wrote-more acc-e vs w s.args.es.now a.room-e k.loop-i.i (below i) _ k.loop-i.invariant.2 _ (to_z-of_z fits ∙ ap acc-e p),
@@ -181,7 +181,7 @@ returns c =
     let vs = s.args.values.now in
     let w = s.args.w in
     let all : k.loop-i.i ≡ window_count (length vs) w = omega (arith, k.loop-i.invariant.0, c.loop-i-test.false) in
-    told-accepted vs w s.args.ms.now s.args.es.now s.args.bads.now (sym k.before.if-code-ne0.false ∙ code_is k.before.before) _ _ _
+    told-accepted vs w s.args.ms.now s.args.es.now s.args.bads.now (sym k.if-code-ne0.false ∙ code_is k.before.before) _ _ _
     (wrote-all acc-m vs w s.args.ms.now a.room-m k.loop-i.i all _ k.loop-i.invariant.1)
     (wrote-all acc-e vs w s.args.es.now a.room-e k.loop-i.i all _ k.loop-i.invariant.2)
     (wrote-all acc-byte vs w s.args.bads.now a.room-bad k.loop-i.i all _ k.loop-i.invariant.3)

@@ -27,13 +27,12 @@ split_f64-q-requires c κs = search rules
 returns-then-eight : tie.Need-returns-then-eight
 returns-then-eight c =
     let q = c.before in
-    let s = q.before.before.before.before in
-    let i = s.args.i in
+    let i = q.args.i in
     let fits : SFits w64 q.split_f64-q.result.e = record { sfits = c.struct_told-1.given.1.0.1 } in
     ap (λ (z : ℤ). record { m = q.split_f64-q.result.m; e = z; bad = false }) (to_z-of_z w64 q.split_f64-q.result.e fits)
     ∙ ap (λ (p : Split). record { m = p.m; e = p.e; bad = false }) q.split_f64-q.ensures
-    ∙ s.requires.3 q.before.before.if-eight.true (i % 8) (omega arith)
-    ∙ ap (λ (k : ℕ). contiguous (window s.args.values.now k s.args.w)) (let e : i - i % 8 + i % 8 ≡ i = omega arith in e)
+    ∙ q.requires.3 q.if-eight.true (i % 8) (omega arith)
+    ∙ ap (λ (k : ℕ). contiguous (window q.args.values.now k q.args.w)) (let e : i - i % 8 + i % 8 ≡ i = omega arith in e)
 
 overflow_add-i : tie.Need-overflow_add-i
 overflow_add-i c = search rules
@@ -55,9 +54,8 @@ stable_float_contiguous-requires c κs = search rules
 
 returns : tie.Need-returns
 returns c =
-    let s = c.before.before.before.before in
     c.stable_float_contiguous.ensures
-    ∙ ap (λ (n : ℕ). contiguous (take n (drop s.args.i s.args.values.now))) (let e : s.args.i + s.args.w - s.args.i ≡ s.args.w = omega arith in e)
+    ∙ ap (λ (n : ℕ). contiguous (take n (drop c.args.i c.args.values.now))) (let e : c.args.i + c.args.w - c.args.i ≡ c.args.w = omega arith in e)
 
 pub window_at_spec : {M : Type 1} → statement M
 window_at_spec = tie.close (tie.spec offset_bounds-eight-i bounds-eight-i split_f64-q-requires returns-then-eight overflow_add-i offset_bounds-values-i slice_bounds-stable_float_contiguous-count slice_bounds-stable_float_contiguous-start slice_bounds-stable_float_contiguous-end stable_float_contiguous-requires returns)

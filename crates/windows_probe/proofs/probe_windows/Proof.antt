@@ -16,7 +16,7 @@ shape_of-bads : tie.Need-shape_of-bads
 shape_of-bads c = search rules
 
 returns : tie.Need-returns
-returns c = c.before.before.before.before.before.reduce_windows.ensures
+returns c = c.reduce_windows.ensures
 
 pub probe_windows_spec : {M : Type 1} → statement M
 probe_windows_spec = tie.close (tie.spec reduce_windows-requires shape_of-ms shape_of-es shape_of-bads returns)

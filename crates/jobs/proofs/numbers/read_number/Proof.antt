@@ -18,10 +18,9 @@ refused-requires c κs = search rules
 returns-then-w-kind : tie.Need-returns-then-w-kind
 unfolding number_told
 returns-then-w-kind c =
-    let s = c.before.before.before.before in
     let r = c.refused.ensures in (
-      ap (number_told s.args.bytes.now) r
-          ∙ number-none s.args.bytes.now s.args.at _ c.before.before.word_at-w.ensures s.args.kind c.before.if-w-kind.true,
+      ap (number_told c.args.bytes.now) r
+          ∙ number-none c.args.bytes.now c.args.at _ c.word_at-w.ensures c.args.kind c.if-w-kind.true,
       omega (arith, ap (λ (x : Number). x.next) r),
     )
 
@@ -29,19 +28,17 @@ overflow_add-at : tie.Need-overflow_add-at
 overflow_add-at c = search rules
 
 second_word-requires : tie.Need-second_word-requires
-second_word-requires c κs =
-    let s = c.before.before.before in (
-      whole s.args.bytes.now s.args.at _ c.before.word_at-w.ensures s.args.kind s.requires.1 s.requires.0 c.if-w-kind.false,
-      omega arith,
-    )
+second_word-requires c κs = (
+  whole c.args.bytes.now c.args.at _ c.word_at-w.ensures c.args.kind c.requires.1 c.requires.0 c.if-w-kind.false,
+  omega arith,
+)
 
 returns : tie.Need-returns
-returns c =
-    let s = c.before.before.before.before in (
-      c.second_word.ensures.0
-          ∙ number-begins s.args.bytes.now s.args.at _ c.before.before.word_at-w.ensures s.args.kind c.before.if-w-kind.false,
-      c.second_word.ensures.1,
-    )
+returns c = (
+  c.second_word.ensures.0
+      ∙ number-begins c.args.bytes.now c.args.at _ c.word_at-w.ensures c.args.kind c.if-w-kind.false,
+  c.second_word.ensures.1,
+)
 
 pub read_number_spec : {M : Type 1} → statement M
 read_number_spec = tie.close (tie.spec word_at-w-requires refused-requires returns-then-w-kind overflow_add-at second_word-requires returns)

@@ -19,12 +19,11 @@ read-requires c κs = search rules
 returns-then-w-ne-MORE : tie.Need-returns-then-w-ne-MORE
 unfolding number_told
 returns-then-w-ne-MORE c =
-    let s = c.before.before.before.before in
     let r = c.read.ensures in (
-      ap (number_told s.args.bytes.now) r
-          ∙ further-ends s.args.bytes.now s.args.at _ c.before.before.word_at-w.ensures (2 ^ 29) s.args.low 2
-          c.before.if-w-ne-MORE.true,
-      omega (arith, ap (λ (x : Number). x.next) r, s.requires.0),
+      ap (number_told c.args.bytes.now) r
+          ∙ further-ends c.args.bytes.now c.args.at _ c.word_at-w.ensures (2 ^ 29) c.args.low 2
+          c.if-w-ne-MORE.true,
+      omega (arith, ap (λ (x : Number). x.next) r, c.requires.0),
     )
 
 overflow_add-at : tie.Need-overflow_add-at
@@ -37,20 +36,18 @@ overflow_add-low : tie.Need-overflow_add-low
 overflow_add-low c = search rules
 
 third_word-requires : tie.Need-third_word-requires
-third_word-requires c κs =
-    let s = c.before.before.before in (
-      whole s.args.bytes.now s.args.at _ c.before.word_at-w.ensures 0 (omega arith) s.requires.0 c.if-w-ne-MORE.false,
-      omega (arith, s.requires.1),
-    )
+third_word-requires c κs = (
+  whole c.args.bytes.now c.args.at _ c.word_at-w.ensures 0 (omega arith) c.requires.0 c.if-w-ne-MORE.false,
+  omega (arith, c.requires.1),
+)
 
 returns : tie.Need-returns
-returns c =
-    let s = c.before.before.before.before in (
-      c.third_word.ensures.0
-          ∙ further-goes-on s.args.bytes.now s.args.at _ c.before.before.word_at-w.ensures (2 ^ 29) s.args.low 1
-          c.before.if-w-ne-MORE.false (omega (arith, s.requires.1)),
-      c.third_word.ensures.1,
-    )
+returns c = (
+  c.third_word.ensures.0
+      ∙ further-goes-on c.args.bytes.now c.args.at _ c.word_at-w.ensures (2 ^ 29) c.args.low 1
+      c.if-w-ne-MORE.false (omega (arith, c.requires.1)),
+  c.third_word.ensures.1,
+)
 
 pub second_word_spec : {M : Type 1} → statement M
 second_word_spec = tie.close (tie.spec word_at-w-requires read-requires returns-then-w-ne-MORE overflow_add-at overflow_mul-w overflow_add-low third_word-requires returns)

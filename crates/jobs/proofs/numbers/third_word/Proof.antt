@@ -21,12 +21,11 @@ read-requires c κs = search rules
 returns-then-w-ne-MORE : tie.Need-returns-then-w-ne-MORE
 unfolding number_told
 returns-then-w-ne-MORE c =
-    let s = c.before.before.before.before in
     let r = c.read.ensures in (
-      ap (number_told s.args.bytes.now) r
-          ∙ further-ends s.args.bytes.now s.args.at _ c.before.before.word_at-w.ensures (2 ^ 58) s.args.low 1
-          c.before.if-w-ne-MORE.true,
-      omega (arith, ap (λ (x : Number). x.next) r, s.requires.0),
+      ap (number_told c.args.bytes.now) r
+          ∙ further-ends c.args.bytes.now c.args.at _ c.word_at-w.ensures (2 ^ 58) c.args.low 1
+          c.if-w-ne-MORE.true,
+      omega (arith, ap (λ (x : Number). x.next) r, c.requires.0),
     )
 
 refused-requires : tie.Need-refused-requires
@@ -35,12 +34,10 @@ refused-requires c κs = search rules
 returns-then-w-ge-TOP_PAYLOADS : tie.Need-returns-then-w-ge-TOP_PAYLOADS
 unfolding number_told
 returns-then-w-ge-TOP_PAYLOADS c =
-    let s = c.before.before.before.before.before in
-    let w = c.before.before.before in
     let r = c.refused.ensures in (
-      ap (number_told s.args.bytes.now) r
-          ∙ further-too-long s.args.bytes.now s.args.at _ w.word_at-w.ensures (2 ^ 58) s.args.low 0 c.before.before.if-w-ne-MORE.false
-          (omega (arith, c.before.if-w-ge-TOP_PAYLOADS.true)),
+      ap (number_told c.args.bytes.now) r
+          ∙ further-too-long c.args.bytes.now c.args.at _ c.word_at-w.ensures (2 ^ 58) c.args.low 0 c.if-w-ne-MORE.false
+          (omega (arith, c.if-w-ge-TOP_PAYLOADS.true)),
       omega (arith, ap (λ (x : Number). x.next) r),
     )
 
@@ -48,19 +45,15 @@ overflow_add-next : tie.Need-overflow_add-next
 overflow_add-next c = search rules
 
 -- the number with the second word behind the first
-with-word : (c : tie.After-word_at-v) → let s = c.before.before.before.before.before in let w = c.before.before.before in
-    further 0 (2 ^ 87) (s.args.low + 2 ^ 58 * (w.word_at-w.result % 2 ^ 29)) (drop (s.args.at + 4) s.args.bytes.now)
-    ≡ further 1 (2 ^ 58) s.args.low (drop s.args.at s.args.bytes.now)
+with-word : (c : tie.After-word_at-v) → further 0 (2 ^ 87) (c.args.low + 2 ^ 58 * (c.word_at-w.result % 2 ^ 29)) (drop (c.args.at + 4) c.args.bytes.now)
+    ≡ further 1 (2 ^ 58) c.args.low (drop c.args.at c.args.bytes.now)
 with-word c =
-    let s = c.before.before.before.before.before in
-    let w = c.before.before.before in
-    further-goes-on s.args.bytes.now s.args.at _ w.word_at-w.ensures (2 ^ 58) s.args.low 0 c.before.before.if-w-ne-MORE.false
-    (omega (arith, c.before.if-w-ge-TOP_PAYLOADS.false, s.requires.1))
+    further-goes-on c.args.bytes.now c.args.at _ c.word_at-w.ensures (2 ^ 58) c.args.low 0 c.if-w-ne-MORE.false
+    (omega (arith, c.if-w-ge-TOP_PAYLOADS.false, c.requires.1))
 
 word_at-v-requires : tie.Need-word_at-v-requires
 word_at-v-requires c κs =
-    let s = c.before.before.before.before in
-    whole s.args.bytes.now s.args.at _ c.before.before.word_at-w.ensures 0 (omega arith) s.requires.0 c.before.if-w-ne-MORE.false
+    whole c.args.bytes.now c.args.at _ c.word_at-w.ensures 0 (omega arith) c.requires.0 c.if-w-ne-MORE.false
 
 refused-requires-then-v-eq-MORE : tie.Need-refused-requires-then-v-eq-MORE
 refused-requires-then-v-eq-MORE c κs = search rules
@@ -69,10 +62,9 @@ returns-then-v-eq-MORE : tie.Need-returns-then-v-eq-MORE
 unfolding number_told
 returns-then-v-eq-MORE c =
     let v = c.before.before in
-    let s = v.before.before.before.before.before in
     let r = c.refused-then-v-eq-MORE.ensures in (
-      ap (number_told s.args.bytes.now) r
-          ∙ further-none-allowed s.args.bytes.now (s.args.at + 4) _ v.word_at-v.ensures (2 ^ 87) _ c.before.if-v-eq-MORE.true
+      ap (number_told v.args.bytes.now) r
+          ∙ further-none-allowed v.args.bytes.now (v.args.at + 4) _ v.word_at-v.ensures (2 ^ 87) _ c.if-v-eq-MORE.true
           ∙ with-word v,
       omega (arith, ap (λ (x : Number). x.next) r),
     )
@@ -90,12 +82,10 @@ returns : tie.Need-returns
 unfolding number_told
 returns c =
     let v = c.before.before in
-    let s = v.before.before.before.before.before in
-    let w = v.before.before.before in
     let r = c.read-2.ensures in
-    let n = whole s.args.bytes.now s.args.at _ w.word_at-w.ensures 0 (omega arith) s.requires.0 v.before.before.if-w-ne-MORE.false in (
-      ap (number_told s.args.bytes.now) r
-          ∙ further-ends s.args.bytes.now (s.args.at + 4) _ v.word_at-v.ensures (2 ^ 87) _ 0 c.before.if-v-eq-MORE.false
+    let n = whole v.args.bytes.now v.args.at _ v.word_at-w.ensures 0 (omega arith) v.requires.0 v.if-w-ne-MORE.false in (
+      ap (number_told v.args.bytes.now) r
+          ∙ further-ends v.args.bytes.now (v.args.at + 4) _ v.word_at-v.ensures (2 ^ 87) _ 0 c.if-v-eq-MORE.false
           ∙ with-word v,
       omega (arith, ap (λ (x : Number). x.next) r),
     )

@@ -31,9 +31,9 @@ unfolding range_from
 returns-then-base-ne0 c ns ss =
     let n = c.before.before.before in
     let s = n.before.before in
-    no-range-told ns ss _ c.before.if-base-ne0.true _ c.no_range.ensures
+    no-range-told ns ss _ c.if-base-ne0.true _ c.no_range.ensures
     ∙ sym (stops_at s.args.bytes.now (from s s.args.at) BASE n.read_number-base.result n.read_number-base.ensures.0
-    (λ b bytes₁. from_start ns ss (signed_of b) bytes₁) c.before.if-base-ne0.true)
+    (λ b bytes₁. from_start ns ss (signed_of b) bytes₁) c.if-base-ne0.true)
 
 -- behind the base
 behind-base : (c : tie.Else-base-ne0) (ns : List ℕ) (ss : List ℤ) → let n = c.before.before in let s = n.before.before in
@@ -57,10 +57,10 @@ returns-then-start-ne0 c ns ss =
     let i = m.before in
     let n = i.before.before in
     let s = n.before.before in
-    no-range-told ns ss _ c.before.if-start-ne0.true _ c.no_range-then-start-ne0.ensures
+    no-range-told ns ss _ c.if-start-ne0.true _ c.no_range-then-start-ne0.ensures
     ∙ sym (behind-base i ns ss
     ∙ stops_at s.args.bytes.now (from s n.read_number-base.result.next) START m.read_number-start.result m.read_number-start.ensures.0
-    (λ b bytes₂. from_end ns ss (signed_of n.read_number-base.result.value) b bytes₂) c.before.if-start-ne0.true)
+    (λ b bytes₂. from_end ns ss (signed_of n.read_number-base.result.value) b bytes₂) c.if-start-ne0.true)
 
 -- behind the start
 behind-start : (c : tie.Else-start-ne0) (ns : List ℕ) (ss : List ℤ) → let m = c.before.before in let n = m.before.before.before in let s = n.before.before in
@@ -85,8 +85,7 @@ no_range-requires-then-end-ne0 c κs = search rules
 abbrev job_at : tie.After-read_number-end → List ℕ → List ℤ → ℕ → Job
 job_at c ns ss e =
     let m = c.before.before.before in
-    let n = m.before.before.before in
-    record { sizes = ns; strides = ss; base = signed_of n.read_number-base.result.value; start = m.read_number-start.result.value; end = e }
+    record { sizes = ns; strides = ss; base = signed_of m.read_number-base.result.value; start = m.read_number-start.result.value; end = e }
 
 returns-then-end-ne0 : tie.Need-returns-then-end-ne0
 returns-then-end-ne0 c ns ss =
@@ -94,10 +93,10 @@ returns-then-end-ne0 c ns ss =
     let i = k.before in
     let m = i.before.before in
     let s = m.before.before.before.before.before in
-    no-range-told ns ss _ c.before.if-end-ne0.true _ c.no_range-then-end-ne0.ensures
+    no-range-told ns ss _ c.if-end-ne0.true _ c.no_range-then-end-ne0.ensures
     ∙ sym (behind-start i ns ss
     ∙ stops_at s.args.bytes.now (from s m.read_number-start.result.next) END k.read_number-end.result k.read_number-end.ensures.0
-    (λ e bytes₃. finish_from (job_at k ns ss e) bytes₃) c.before.if-end-ne0.true)
+    (λ e bytes₃. finish_from (job_at k ns ss e) bytes₃) c.if-end-ne0.true)
 
 -- behind the end
 behind-end : (c : tie.Else-end-ne0) (ns : List ℕ) (ss : List ℤ) → let k = c.before.before in
@@ -126,11 +125,10 @@ returns-then-word_at c ns ss =
     let w = c.before.before in
     let i = w.before in
     let k = i.before.before in
-    let s = k.before.before.before.before.before.before.before.before in
     no-range-told ns ss _ (λ z. absurd (omega arith)) _ c.no_range-then-word_at.ensures
     ∙ sym (behind-end i ns ss
-    ∙ finish-other (job_at k ns ss k.read_number-end.result.value) s.args.bytes.now k.read_number-end.result.next _ w.word_at.ensures
-    c.before.if-word_at.true)
+    ∙ finish-other (job_at k ns ss k.read_number-end.result.value) k.args.bytes.now k.read_number-end.result.next _ w.word_at.ensures
+    c.if-word_at.true)
 
 overflow_sub-bytes : tie.Need-overflow_sub-bytes
 overflow_sub-bytes c = search rules
@@ -143,11 +141,10 @@ returns-then-bytes-last-ne-WORD_BYTES c ns ss =
     let w = c.before.before.before in
     let i = w.before in
     let k = i.before.before in
-    let s = k.before.before.before.before.before.before.before.before in
     no-range-told ns ss _ (λ z. absurd (omega arith)) _ c.no_range-then-bytes-last-ne-WORD_BYTES.ensures
     ∙ sym (behind-end i ns ss
-    ∙ finish-more (job_at k ns ss k.read_number-end.result.value) s.args.bytes.now k.read_number-end.result.next _ w.word_at.ensures
-    c.before.before.if-word_at.false c.before.if-bytes-last-ne-WORD_BYTES.true)
+    ∙ finish-more (job_at k ns ss k.read_number-end.result.value) k.args.bytes.now k.read_number-end.result.next _ w.word_at.ensures
+    c.if-word_at.false c.if-bytes-last-ne-WORD_BYTES.true)
 
 signed-requires : tie.Need-signed-requires
 signed-requires c κs = search rules
@@ -158,13 +155,11 @@ returns c ns ss =
     let w = c.before.before.before in
     let i = w.before in
     let k = i.before.before in
-    let m = k.before.before.before in
-    let s = k.before.before.before.before.before.before.before.before in
-    ap (λ (b : ℤ). job (record { sizes = ns; strides = ss; base = b; start = m.read_number-start.result.value; end = k.read_number-end.result.value }))
+    ap (λ (b : ℤ). job (record { sizes = ns; strides = ss; base = b; start = k.read_number-start.result.value; end = k.read_number-end.result.value }))
     (to_z-of_z (record { sfits = c.signed.type_inv }) ∙ c.signed.ensures)
     ∙ sym (behind-end i ns ss
-    ∙ finishes (job_at k ns ss k.read_number-end.result.value) s.args.bytes.now k.read_number-end.result.next _ w.word_at.ensures
-    c.before.before.if-word_at.false c.before.if-bytes-last-ne-WORD_BYTES.false)
+    ∙ finishes (job_at k ns ss k.read_number-end.result.value) k.args.bytes.now k.read_number-end.result.next _ w.word_at.ensures
+    c.if-word_at.false c.if-bytes-last-ne-WORD_BYTES.false)
 
 pub read_range_spec : {M : Type 1} → statement M
 read_range_spec = tie.close (tie.spec read_number-base-requires no_range-requires returns-then-base-ne0 read_number-start-requires no_range-requires-then-start-ne0 returns-then-start-ne0 read_number-end-requires no_range-requires-then-end-ne0 returns-then-end-ne0 word_at-requires overflow_mul-t-9 no_range-requires-then-word_at returns-then-word_at overflow_sub-bytes no_range-requires-then-bytes-last-ne-WORD_BYTES returns-then-bytes-last-ne-WORD_BYTES signed-requires returns)

@@ -19,7 +19,7 @@ shape_of-out c = search rules
 
 returns : tie.Need-returns
 unfolding word_of
-returns c = c.before.before.put_bytes.ensures
+returns c = c.put_bytes.ensures
 
 pub put_word_spec : {M : Type 1} → statement M
 put_word_spec = tie.close (tie.spec overflow_mul-kind overflow_add-kind put_bytes-requires shape_of-out returns)

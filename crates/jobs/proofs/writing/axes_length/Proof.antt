@@ -26,19 +26,19 @@ loop-i-init : tie.Need-loop-i-init invariant-loop-i decreases-loop-i
 loop-i-init c = (omega arith, omega arith, omega arith)
 
 offset_bounds-sizes-i : tie.Need-offset_bounds-sizes-i invariant-loop-i decreases-loop-i
-offset_bounds-sizes-i c = let s = c.before.before.before in omega (arith, s.requires.1, c.loop-i-test.true)
+offset_bounds-sizes-i c = omega (arith, c.requires.1, c.loop-i-test.true)
 
 bounds-sizes-i : tie.Need-bounds-sizes-i invariant-loop-i decreases-loop-i
-bounds-sizes-i c = c.before.loop-i-test.true
+bounds-sizes-i c = c.loop-i-test.true
 
 bytes_of-size-requires : tie.Need-bytes_of-size-requires invariant-loop-i decreases-loop-i
 bytes_of-size-requires c κs = search rules
 
 offset_bounds-strides-i : tie.Need-offset_bounds-strides-i invariant-loop-i decreases-loop-i
-offset_bounds-strides-i c = let i = c.before.before in let s = i.before.before.before in omega (arith, s.requires.1, i.loop-i-test.true)
+offset_bounds-strides-i c = let i = c.before.before in omega (arith, i.requires.1, i.loop-i-test.true)
 
 bounds-strides-i : tie.Need-bounds-strides-i invariant-loop-i decreases-loop-i
-bounds-strides-i c = let i = c.before.before in let s = i.before.before.before in omega (arith, s.requires.0, i.loop-i-test.true)
+bounds-strides-i c = let i = c.before.before in omega (arith, i.requires.0, i.loop-i-test.true)
 
 sent-requires : tie.Need-sent-requires invariant-loop-i decreases-loop-i
 sent-requires c κs = search rules
@@ -47,23 +47,19 @@ bytes_of-stride-requires : tie.Need-bytes_of-stride-requires invariant-loop-i de
 bytes_of-stride-requires c κs = search rules
 
 -- what the size and the stride take, and that each takes at most three words
-size_is : (c : tie.After-bytes_of-stride invariant-loop-i decreases-loop-i) → let k = c.before.before.before.before.before.before in
-    c.before.before.before.bytes_of-size.result ≡ 4 * length (payloads_of (get_or k.before.before.args.sizes.now k.loop-i.i 0))
-size_is c = c.before.before.before.bytes_of-size.ensures
+size_is : (c : tie.After-bytes_of-stride invariant-loop-i decreases-loop-i) → c.bytes_of-size.result ≡ 4 * length (payloads_of (get_or c.args.sizes.now c.loop-i.i 0))
+size_is c = c.bytes_of-size.ensures
 
-stride-is : (c : tie.After-bytes_of-stride invariant-loop-i decreases-loop-i) → let k = c.before.before.before.before.before.before in
-    c.bytes_of-stride.result ≡ 4 * length (payloads_of (sent_of (get_or k.before.before.args.strides.now k.loop-i.i (pos 0))))
+stride-is : (c : tie.After-bytes_of-stride invariant-loop-i decreases-loop-i) → c.bytes_of-stride.result ≡ 4 * length (payloads_of (sent_of (get_or c.args.strides.now c.loop-i.i (pos 0))))
 stride-is c =
-    let k = c.before.before.before.before.before.before in
-    let f : SFits w64 (get_or k.before.before.args.strides.now k.loop-i.i (pos 0)) = record { sfits = c.before.before.sent-arg-1.given } in
-    c.bytes_of-stride.ensures ∙ ap (λ (n : ℕ). 4 * length (payloads_of n)) (simp (to_z-of_z f) at c.before.sent.ensures)
+    let f : SFits w64 (get_or c.args.strides.now c.loop-i.i (pos 0)) = record { sfits = c.sent-arg-1.given } in
+    c.bytes_of-stride.ensures ∙ ap (λ (n : ℕ). 4 * length (payloads_of n)) (simp (to_z-of_z f) at c.sent.ensures)
 
-few : (c : tie.After-bytes_of-stride invariant-loop-i decreases-loop-i) → c.before.before.before.bytes_of-size.result + c.bytes_of-stride.result ≤ 24
+few : (c : tie.After-bytes_of-stride invariant-loop-i decreases-loop-i) → c.bytes_of-size.result + c.bytes_of-stride.result ≤ 24
 few c =
     let k = c.before.before.before.before.before.before in
-    let s = k.before.before in
-    let h = few-payloads 2 (get_or s.args.sizes.now k.loop-i.i 0) in
-    let g = few-payloads 2 (sent_of (get_or s.args.strides.now k.loop-i.i (pos 0))) in
+    let h = few-payloads 2 (get_or k.args.sizes.now k.loop-i.i 0) in
+    let g = few-payloads 2 (sent_of (get_or k.args.strides.now k.loop-i.i (pos 0))) in
     omega (arith, size_is c, stride-is c)
 
 overflow_add-total : tie.Need-overflow_add-total invariant-loop-i decreases-loop-i
@@ -72,33 +68,29 @@ overflow_add-total c = omega (arith, few c)
 overflow_add-total-in-loop-i : tie.Need-overflow_add-total-in-loop-i invariant-loop-i decreases-loop-i
 overflow_add-total-in-loop-i c =
     let i = c.before.before.before.before.before in
-    let k = i.before in
-    omega (arith, few c, k.loop-i.invariant.1, k.before.before.requires.1, i.loop-i-test.true)
+    omega (arith, few c, i.loop-i.invariant.1, i.requires.1, i.loop-i-test.true)
 
 overflow_add-i : tie.Need-overflow_add-i invariant-loop-i decreases-loop-i
 overflow_add-i c =
-    let i = c.before.before.before.before.before in
-    omega (arith, i.before.before.before.requires.1, i.loop-i-test.true)
+    omega (arith, c.requires.1, c.loop-i-test.true)
 
 loop-i-smaller : tie.Need-loop-i-smaller invariant-loop-i decreases-loop-i
-loop-i-smaller c = omega (arith, c.before.before.before.before.before.loop-i-test.true)
+loop-i-smaller c = omega (arith, c.loop-i-test.true)
 
 loop-i-preserved : tie.Need-loop-i-preserved invariant-loop-i decreases-loop-i
 loop-i-preserved c =
     let i = c.before.before.before.before.before in
     let k = i.before in
-    let s = k.before.before in
-    let e = split-lengths s.args.sizes.now s.args.strides.now s.requires.0 k.loop-i.i i.loop-i-test.true in
-    let a = length-number SIZE (payloads_of (get_or s.args.sizes.now k.loop-i.i 0)) in
-    let b = length-number STRIDE (payloads_of (sent_of (get_or s.args.strides.now k.loop-i.i (pos 0)))) in
+    let e = split-lengths k.args.sizes.now k.args.strides.now k.requires.0 k.loop-i.i i.loop-i-test.true in
+    let a = length-number SIZE (payloads_of (get_or k.args.sizes.now k.loop-i.i 0)) in
+    let b = length-number STRIDE (payloads_of (sent_of (get_or k.args.strides.now k.loop-i.i (pos 0)))) in
     (omega (arith, i.loop-i-test.true), omega (arith, few c, k.loop-i.invariant.1), omega (arith, e, a, b, size_is c, stride-is c, k.loop-i.invariant.2))
 
 returns : tie.Need-returns invariant-loop-i decreases-loop-i
 returns c =
     let k = c.before in
-    let s = k.before.before in
-    let e = ap length (axes-over s.args.sizes.now s.args.strides.now s.requires.0 k.loop-i.i c.loop-i-test.false) in
-    (omega (arith, e, k.loop-i.invariant.2), omega (arith, k.loop-i.invariant.0, k.loop-i.invariant.1, s.requires.1))
+    let e = ap length (axes-over k.args.sizes.now k.args.strides.now k.requires.0 k.loop-i.i c.loop-i-test.false) in
+    (omega (arith, e, k.loop-i.invariant.2), omega (arith, k.loop-i.invariant.0, k.loop-i.invariant.1, k.requires.1))
 
 pub axes_length_spec : {M : Type 1} → statement M
 axes_length_spec = tie.close (tie.spec invariant-loop-i decreases-loop-i loop-i-init offset_bounds-sizes-i bounds-sizes-i bytes_of-size-requires offset_bounds-strides-i bounds-strides-i sent-requires bytes_of-stride-requires overflow_add-total overflow_add-total-in-loop-i overflow_add-i loop-i-smaller loop-i-preserved returns)

@@ -27,21 +27,18 @@ bytes_of-start-requires c κs = search rules
 bytes_of-end-requires : tie.Need-bytes_of-end-requires
 bytes_of-end-requires c κs = search rules
 
-base-is : (c : tie.After-bytes_of-base) → c.bytes_of-base.result ≡ 4 * length (payloads_of (sent_of c.before.before.before.before.args.base))
+base-is : (c : tie.After-bytes_of-base) → c.bytes_of-base.result ≡ 4 * length (payloads_of (sent_of c.args.base))
 base-is c =
-    let s = c.before.before.before.before in
-    c.bytes_of-base.ensures ∙ ap (λ (n : ℕ). 4 * length (payloads_of n)) (simp (to_z-of_z s.ranges.base) at c.before.sent.ensures)
+    c.bytes_of-base.ensures ∙ ap (λ (n : ℕ). 4 * length (payloads_of n)) (simp (to_z-of_z c.ranges.base) at c.sent.ensures)
 
 -- a number takes at most three words
-few : (c : tie.After-bytes_of-end) → let b = c.before.before in
-    b.before.before.axes_length-axes.result + b.bytes_of-base.result + c.before.bytes_of-start.result + c.bytes_of-end.result ≤ 420
+few : (c : tie.After-bytes_of-end) → c.axes_length-axes.result + c.bytes_of-base.result + c.bytes_of-start.result + c.bytes_of-end.result ≤ 420
 few c =
     let b = c.before.before in
-    let s = b.before.before.before.before in
-    let h = few-payloads 2 (sent_of s.args.base) in
-    let g = few-payloads 2 s.args.start in
-    let f = few-payloads 2 s.args.end in
-    omega (arith, base-is b, c.before.bytes_of-start.ensures, c.bytes_of-end.ensures, b.before.before.axes_length-axes.ensures.1)
+    let h = few-payloads 2 (sent_of b.args.base) in
+    let g = few-payloads 2 b.args.start in
+    let f = few-payloads 2 b.args.end in
+    omega (arith, base-is b, c.bytes_of-start.ensures, c.bytes_of-end.ensures, b.axes_length-axes.ensures.1)
 
 overflow_add-result : tie.Need-overflow_add-result
 overflow_add-result c = omega (arith, few c)
@@ -58,10 +55,9 @@ overflow_add-result-4 c = omega (arith, few c)
 returns : tie.Need-returns
 returns c =
     let b = c.before.before in
-    let s = b.before.before.before.before in
-    let a = s.args in
+    let a = b.args in
     let e = job-length (record { sizes = a.sizes.now; strides = a.strides.now; base = a.base; start = a.start; end = a.end }) in
-    omega (arith, e, base-is b, c.before.bytes_of-start.ensures, c.bytes_of-end.ensures, b.before.before.axes_length-axes.ensures.0)
+    omega (arith, e, base-is b, c.bytes_of-start.ensures, c.bytes_of-end.ensures, b.axes_length-axes.ensures.0)
 
 pub job_length_spec : {M : Type 1} → statement M
 job_length_spec = tie.close (tie.spec axes_length-axes-requires sent-requires bytes_of-base-requires bytes_of-start-requires bytes_of-end-requires overflow_add-result overflow_add-result-2 overflow_add-result-3 overflow_add-result-4 returns)

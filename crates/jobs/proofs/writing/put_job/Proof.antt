@@ -50,8 +50,8 @@ laid-axes : (c : tie.After-put_axes-at) → let s = c.before.before.before.befor
 laid-axes c = record { holds = c.put_axes-at.ensures.1; place = c.put_axes-at.ensures.0 }
 
 -- the base as it is sent
-sent_is : (c : tie.After-put_axes-at) → c.before.before.sent-sent.result ≡ sent_of c.before.before.before.before.before.args.base
-sent_is c = simp (to_z-of_z c.before.before.before.before.before.ranges.base) at c.before.before.sent-sent.ensures
+sent_is : (c : tie.After-put_axes-at) → c.sent-sent.result ≡ sent_of c.args.base
+sent_is c = simp (to_z-of_z c.ranges.base) at c.sent-sent.ensures
 
 put_number-at-requires : tie.Need-put_number-at-requires
 put_number-at-requires c κs =

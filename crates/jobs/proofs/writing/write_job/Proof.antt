@@ -18,7 +18,7 @@ refused-requires : tie.Need-refused-requires
 refused-requires c κs = search rules
 
 returns-then-sizes-strides : tie.Need-returns-then-sizes-strides
-returns-then-sizes-strides c = let s = c.before.before.before.before in mismatched (job_of s) s.args.out.now _ c.before.if-sizes-strides.true c.refused.ensures
+returns-then-sizes-strides c = let s = c.before.before.before.before in mismatched (job_of s) s.args.out.now _ c.if-sizes-strides.true c.refused.ensures
 
 refused-requires-then-sizes-gt-PLACES : tie.Need-refused-requires-then-sizes-gt-PLACES
 refused-requires-then-sizes-gt-PLACES c κs = search rules
@@ -26,7 +26,7 @@ refused-requires-then-sizes-gt-PLACES c κs = search rules
 returns-then-sizes-gt-PLACES : tie.Need-returns-then-sizes-gt-PLACES
 returns-then-sizes-gt-PLACES c =
     let s = c.before.before.before.before.before in
-    too_many (job_of s) s.args.out.now _ c.before.before.if-sizes-strides.false c.before.if-sizes-gt-PLACES.true c.refused-then-sizes-gt-PLACES.ensures
+    too_many (job_of s) s.args.out.now _ c.if-sizes-strides.false c.if-sizes-gt-PLACES.true c.refused-then-sizes-gt-PLACES.ensures
 
 job_length-count-requires : tie.Need-job_length-count-requires
 job_length-count-requires c κs = search rules
@@ -36,14 +36,13 @@ refused-requires-then-out-count c κs = search rules
 
 -- the length, over the arguments themselves
 length-is : (l : tie.After-job_length-count) → l.job_length-count.result ≡ length (job_bytes (job_of l.before.before.before.before.before))
-length-is l = simp (to_z-of_z l.before.before.before.before.before.ranges.base) at l.job_length-count.ensures
+length-is l = simp (to_z-of_z l.ranges.base) at l.job_length-count.ensures
 
 returns-then-out-count : tie.Need-returns-then-out-count
 returns-then-out-count c =
     let l = c.before.before in
-    let i = l.before in
     let s = c.before.before.before.before.before.before.before in
-    too_short (job_of s) s.args.out.now _ i.before.if-sizes-strides.false i.if-sizes-gt-PLACES.false (omega (arith, length-is l, c.before.if-out-count.true))
+    too_short (job_of s) s.args.out.now _ l.if-sizes-strides.false l.if-sizes-gt-PLACES.false (omega (arith, length-is l, c.if-out-count.true))
     c.refused-then-out-count.ensures
 
 put_job-requires : tie.Need-put_job-requires
@@ -59,7 +58,7 @@ returns c =
     let l = e.before in
     let i = l.before in
     let s = i.before.before.before.before in
-    accepted (job_of s) s.args.out.now _ i.before.if-sizes-strides.false i.if-sizes-gt-PLACES.false (omega (arith, length-is l, e.if-out-count.false))
+    accepted (job_of s) s.args.out.now _ i.if-sizes-strides.false i.if-sizes-gt-PLACES.false (omega (arith, length-is l, e.if-out-count.false))
     (ap (λ (n : ℕ). record { code = 0; count = n }) (length-is l)) _ (simp (to_z-of_z s.ranges.base) at p.put_job.ensures)
 
 pub write_job_spec : {M : Type 1} → statement M

@@ -24,8 +24,7 @@ bounds-t-lane-3 c = search rules
 
 overflow_add-t : tie.Need-overflow_add-t
 overflow_add-t c =
-    let s = c.before.before.before.before.before in
-    added-fits s.args.s s.requires.1 s.args.p s.requires.2 s.args.lane
+    added-fits c.args.s c.requires.1 c.args.p c.requires.2 c.args.lane
 
 offset_bounds-t-lane-4 : tie.Need-offset_bounds-t-lane-4
 offset_bounds-t-lane-4 c = search rules
@@ -35,8 +34,7 @@ bounds-t-lane-4 c = search rules
 
 returns : tie.Need-returns
 returns c =
-    let s = c.before.before.before.before.before.before in
-    split-into s.args.s s.requires.1 s.args.p s.requires.2 s.args.lane
+    split-into c.args.s c.requires.1 c.args.p c.requires.2 c.args.lane
 
 pub put_split_spec : {M : Type 1} → statement M
 put_split_spec = tie.close (tie.spec offset_bounds-t-lane bounds-t-lane offset_bounds-t-lane-2 bounds-t-lane-2 offset_bounds-t-lane-3 bounds-t-lane-3 overflow_add-t offset_bounds-t-lane-4 bounds-t-lane-4 returns)

@@ -29,8 +29,7 @@ bounds-t-k-3 c = search rules
 overflow_add-t : tie.Need-overflow_add-t
 overflow_add-t c =
     let p = c.before.before.before in
-    let s = p.before.before in
-    added-fits s.args.s s.requires.1 p.split_fields-p.result (split-near (m_of s.args.s s.args.k) p.split_fields-p.result (p.split_fields-p.ensures s.requires.2)) s.args.k
+    added-fits p.args.s p.requires.1 p.split_fields-p.result (split-near (m_of p.args.s p.args.k) p.split_fields-p.result (p.split_fields-p.ensures p.requires.2)) p.args.k
 
 mul-t15 : tie.Need-overflow-mul-t15
 mul-t15 c = search rules
@@ -41,8 +40,7 @@ bounds-t-k-4 c = search rules
 returns : tie.Need-returns
 returns c =
     let p = c.before.before.before in
-    let s = p.before.before in
-    renorm-one s.args.s s.requires.1 s.args.k p.split_fields-p.result (p.split_fields-p.ensures s.requires.2)
+    renorm-one p.args.s p.requires.1 p.args.k p.split_fields-p.result (p.split_fields-p.ensures p.requires.2)
 
 pub renorm_lane_spec : {M : Type 1} → statement M
 renorm_lane_spec = tie.close (tie.spec offset_bounds-t-k bounds-t-k split_fields-p-requires offset_bounds-t-k-2 bounds-t-k-2 offset_bounds-t-k-3 bounds-t-k-3 overflow_add-t offset_bounds-t-k-4 bounds-t-k-4 returns)

@@ -14,14 +14,12 @@ split_f64-requires c κs = search rules
 
 put_split-requires : tie.Need-put_split-requires
 put_split-requires c κs =
-    let s = c.before in
-    (lane-lt s.args.i, lanes-le (2 ^ 60) (2 ^ 61) s.args.s (lit≤ tt) s.requires, split-near s.args.value c.split_f64.result c.split_f64.ensures)
+    (lane-lt c.args.i, lanes-le (2 ^ 60) (2 ^ 61) c.args.s (lit≤ tt) c.requires, split-near c.args.value c.split_f64.result c.split_f64.ensures)
 
 returns : tie.Need-returns
 returns c =
-    let p = c.before in
-    let s = p.before.args in
-    c.put_split.ensures ∙ split-lane s.i s.s s.value p.split_f64.result p.split_f64.ensures
+    let s = c.args in
+    c.put_split.ensures ∙ split-lane s.i s.s s.value c.split_f64.result c.split_f64.ensures
 
 pub split_step_spec : {M : Type 1} → statement M
 split_step_spec = tie.close (tie.spec split_f64-requires put_split-requires returns)

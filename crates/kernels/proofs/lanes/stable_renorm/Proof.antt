@@ -26,14 +26,13 @@ loop-k-init c = worked-none refl
 
 renorm_lane-t-requires : tie.Need-renorm_lane-t-requires invariant-loop-k decreases-loop-k
 renorm_lane-t-requires c κs =
-    let t = c.before in
-    let s = t.before in (
+    let t = c.before in (
       c.loop-k-test.true,
       subst (SmallLanes (2 ^ 61)) (sym t.loop-k.invariant.is)
-          (lanes-le (2 ^ 60 + farthest * t.loop-k.k) (2 ^ 61) (in_order renorm_lane t.loop-k.k s.args.s) (omega arith)
-          (renormed-small (2 ^ 60) t.loop-k.k s.args.s s.requires.0)),
+          (lanes-le (2 ^ 60 + farthest * t.loop-k.k) (2 ^ 61) (in_order renorm_lane t.loop-k.k t.args.s) (omega arith)
+          (renormed-small (2 ^ 60) t.loop-k.k t.args.s t.requires.0)),
       subst (λ (u : Lanes). is_subnormal (m_of u t.loop-k.k) ≡ false) (sym t.loop-k.invariant.is)
-          (ap is_subnormal (renormed-left t.loop-k.k t.loop-k.k s.args.s (le_refl t.loop-k.k)) ∙ s.requires.1 t.loop-k.k c.loop-k-test.true),
+          (ap is_subnormal (renormed-left t.loop-k.k t.loop-k.k t.args.s (le_refl t.loop-k.k)) ∙ t.requires.1 t.loop-k.k c.loop-k-test.true),
     )
 
 overflow_add-k : tie.Need-overflow_add-k invariant-loop-k decreases-loop-k
@@ -44,12 +43,11 @@ loop-k-smaller c = omega arith
 
 loop-k-preserved : tie.Need-loop-k-preserved invariant-loop-k decreases-loop-k
 loop-k-preserved c =
-    let t = c.before.before in
-    worked-more t.loop-k.invariant c.before.loop-k-test.true c.renorm_lane-t.ensures
+    worked-more c.loop-k.invariant c.loop-k-test.true c.renorm_lane-t.ensures
 
 returns : tie.Need-returns invariant-loop-k decreases-loop-k
 unfolding renorm
-returns c = worked-all c.before.loop-k.invariant c.loop-k-test.false
+returns c = worked-all c.loop-k.invariant c.loop-k-test.false
 
 pub stable_renorm_spec : {M : Type 1} → statement M
 stable_renorm_spec = tie.close (tie.spec invariant-loop-k decreases-loop-k loop-k-init renorm_lane-t-requires overflow_add-k loop-k-smaller loop-k-preserved returns)

@@ -20,9 +20,8 @@ last_of-last-requires c κs = search rules
 
 returns-then-last-gt-I64_MAX : tie.Need-returns-then-last-gt-I64_MAX
 returns-then-last-gt-I64_MAX c =
-    let s = c.before.before in
-    sym (ap (λ (b : Bool). keep_i b (neg_ℤ (span s.args.extent s.args.step)))
-    (reset-large s.args.extent s.args.step (omega (arith, c.before.last_of-last.ensures))))
+    sym (ap (λ (b : Bool). keep_i b (neg_ℤ (span c.args.extent c.args.step)))
+    (reset-large c.args.extent c.args.step (omega (arith, c.last_of-last.ensures))))
 
 checked_mul_i64-span-requires : tie.Need-checked_mul_i64-span-requires
 checked_mul_i64-span-requires c κs = search rules
@@ -31,29 +30,25 @@ checked_neg_i64-requires : tie.Need-checked_neg_i64-requires
 checked_neg_i64-requires c κs = search rules
 
 -- what the product is
-spanned : (c : tie.After-checked_mul_i64-span) → let s = c.before.before.before in
-    c.checked_mul_i64-span.result ≡ narrow_i64 (s.args.step *ℤ pos (s.args.extent - 1))
+spanned : (c : tie.After-checked_mul_i64-span) → c.checked_mul_i64-span.result ≡ narrow_i64 (c.args.step *ℤ pos (c.args.extent - 1))
 spanned c =
-    let s = c.before.before.before in
-    simp (to_z-of_z s.ranges.step) at c.checked_mul_i64-span.ensures
-    ∙ ap (λ (k : ℕ). narrow_i64 (s.args.step *ℤ pos k)) c.before.before.last_of-last.ensures
+    simp (to_z-of_z c.ranges.step) at c.checked_mul_i64-span.ensures
+    ∙ ap (λ (k : ℕ). narrow_i64 (c.args.step *ℤ pos k)) c.last_of-last.ensures
 
 returns-then-span : tie.Need-returns-then-span
 returns-then-span c =
     let t = c.before.before.before.before.before in
-    let s = t.before in
     let h = t.last_of-last.ensures in
-    let r = c.before.before.before.checked_mul_i64-span.result in
-    let f : SFits w64 r.value = record { sfits = c.before.struct_told-1.given.1.0.1 } in
+    let r = c.checked_mul_i64-span.result in
+    let f : SFits w64 r.value = record { sfits = c.struct_told-1.given.1.0.1 } in
     simp (to_z-of_z f) at c.checked_neg_i64.ensures
-    ∙ reset-span s.args.extent s.args.step (omega arith) r (spanned c.before.before.before) c.before.before.if-span.true
+    ∙ reset-span t.args.extent t.args.step (omega arith) r (spanned c.before.before.before) c.if-span.true
 
 returns : tie.Need-returns
 returns c =
-    let s = c.before.before.before.before in
-    let h = c.before.before.before.last_of-last.ensures in
-    sym (ap (λ (b : Bool). keep_i b (neg_ℤ (span s.args.extent s.args.step)))
-    (reset-no-span s.args.extent s.args.step (omega arith) c.before.checked_mul_i64-span.result (spanned c.before) c.if-span.false))
+    let h = c.last_of-last.ensures in
+    sym (ap (λ (b : Bool). keep_i b (neg_ℤ (span c.args.extent c.args.step)))
+    (reset-no-span c.args.extent c.args.step (omega arith) c.checked_mul_i64-span.result (spanned c.before) c.if-span.false))
 
 pub checked_reduce_reset_spec : {M : Type 1} → statement M
 checked_reduce_reset_spec = tie.close (tie.spec last_of-last-requires returns-then-last-gt-I64_MAX checked_mul_i64-span-requires checked_neg_i64-requires returns-then-span returns)

@@ -16,35 +16,32 @@ last_of-last-requires : tie.Need-last_of-last-requires
 last_of-last-requires c κs = search rules
 
 overflow_cast-span : tie.Need-overflow_cast-span
-overflow_cast-span c = let s = c.before in rw c.last_of-last.ensures (last_fits s.args.extent s.args.step s.requires)
+overflow_cast-span c = rw c.last_of-last.ensures (last_fits c.args.extent c.args.step c.requires)
 
 overflow_mul-span : tie.Need-overflow_mul-span
 overflow_mul-span c =
-    let s = c.before in
-    let n = s.args.extent in
-    let d = s.args.step in
-    simp (to_z-of_z s.ranges.step, c.last_of-last.ensures, to_z-small (n - 1) (last_fits n d s.requires).sfits) (span_fits n d s.requires)
+    let n = c.args.extent in
+    let d = c.args.step in
+    simp (to_z-of_z c.ranges.step, c.last_of-last.ensures, to_z-small (n - 1) (last_fits n d c.requires).sfits) (span_fits n d c.requires)
 
 overflow_sub-result : tie.Need-overflow_sub-result
 overflow_sub-result c =
-    let s = c.before in
-    let n = s.args.extent in
-    let d = s.args.step in
-    simp (to_z-of_z s.ranges.step, c.last_of-last.ensures, to_z-small (n - 1) (last_fits n d s.requires).sfits, to_z-of_z (span_fits n d s.requires))
-    (turned-span-fits n d s.requires)
+    let n = c.args.extent in
+    let d = c.args.step in
+    simp (to_z-of_z c.ranges.step, c.last_of-last.ensures, to_z-small (n - 1) (last_fits n d c.requires).sfits, to_z-of_z (span_fits n d c.requires))
+    (turned-span-fits n d c.requires)
 
 returns : tie.Need-returns
 unfolding axis_of span
 returns c =
-    let s = c.before in
-    let n = s.args.extent in
-    let d = s.args.step in
+    let n = c.args.extent in
+    let d = c.args.step in
     simp (
-      to_z-of_z s.ranges.step,
+      to_z-of_z c.ranges.step,
       c.last_of-last.ensures,
-      to_z-small (n - 1) (last_fits n d s.requires).sfits,
-      to_z-of_z (span_fits n d s.requires),
-      to_z-of_z (turned-span-fits n d s.requires),
+      to_z-small (n - 1) (last_fits n d c.requires).sfits,
+      to_z-of_z (span_fits n d c.requires),
+      to_z-of_z (turned-span-fits n d c.requires),
     )
     (ap (λ (z : ℤ). record { extent = n; source_step = d; source_reset = z }) (+ℤ_idl (neg_ℤ (d *ℤ pos (n - 1)))))
 

@@ -32,7 +32,7 @@ decreases-loop-i extents₀ steps₀ count f₀ i₀ extents steps f i = count -
 
 -- the entry, from the loop
 abbrev from-loop : tie.At-loop-i invariant-loop-i decreases-loop-i → tie.Start invariant-loop-i decreases-loop-i
-from-loop c = c.before.before.before.before.before
+from-loop c = c.before.before.before
 
 -- the tables after the step
 next : (c : tie.Else-not-f invariant-loop-i decreases-loop-i) → let g = c.before.before in let k = g.before.before.before.before.before in let s = from-loop k in
@@ -44,16 +44,16 @@ next c =
     let k = g.before.before.before.before.before in
     let s = from-loop k in
     fused-more s.args.extents.now s.args.steps.now s.args.count k.loop-i.extents k.loop-i.steps k.loop-i.f k.loop-i.i
-    g.before.before.before.before.loop-i-test.true (omega (arith, s.requires.0, s.requires.1.0)) (omega (arith, s.requires.0, s.requires.1.1)) k.loop-i.invariant.1
-    g.before.axis_at-b.result g.before.axis_at-b.ensures g.fuse_next-f.result g.fuse_next-f.ensures (not-false _ c.if-not-f.false)
+    g.loop-i-test.true (omega (arith, s.requires.0, s.requires.1.0)) (omega (arith, s.requires.0, s.requires.1.1)) k.loop-i.invariant.1
+    g.axis_at-b.result g.axis_at-b.ensures g.fuse_next-f.result g.fuse_next-f.ensures (not-false _ c.if-not-f.false)
     (omega (arith, s.requires.0, k.loop-i.invariant.0.0)) (omega (arith, s.requires.0, k.loop-i.invariant.0.1))
 
-room : (c : tie.After-struct_told-1 invariant-loop-i decreases-loop-i) → c.before.before.before.before.fuse_next-f.result.done < PLACES
+room : (c : tie.After-struct_told-1 invariant-loop-i decreases-loop-i) → c.fuse_next-f.result.done < PLACES
 room c =
     let e = c.before.before in
     let g = e.before.before in
     let k = g.before.before.before.before.before in
-    omega (arith, (next e).few, g.before.before.before.before.loop-i-test.true, (from-loop k).requires.0)
+    omega (arith, (next e).few, g.loop-i-test.true, (from-loop k).requires.0)
 
 nothing : (es : List ℕ) (ts : List ℤ) (n : ℕ) → n ≡ 0 → fuse (held n es ts) ≡ held_if true n es ts
 unfolding fuse held_if held axes_in
@@ -61,28 +61,26 @@ nothing es ts n z = ap (λ (k : ℕ). fuse (held k es ts)) z ∙ ap (λ (k : ℕ
 
 returns-then-count-eq0 : tie.Need-returns-then-count-eq0 invariant-loop-i decreases-loop-i
 returns-then-count-eq0 c =
-    let s = c.before in
-    let z : s.args.count ≡ 0 = c.if-count-eq0.true in
-    (s.requires.1, (nothing s.args.extents.now s.args.steps.now s.args.count z, s.requires.0))
+    let z : c.args.count ≡ 0 = c.if-count-eq0.true in
+    (c.requires.1, (nothing c.args.extents.now c.args.steps.now c.args.count z, c.requires.0))
 
 axis_at-first-requires : tie.Need-axis_at-first-requires invariant-loop-i decreases-loop-i
 axis_at-first-requires c κs = search rules
 
 loop-i-init : tie.Need-loop-i-init invariant-loop-i decreases-loop-i
-loop-i-init c =
-    let s = c.before.before.before.before in (
-      s.requires.1,
-      fused-first s.args.extents.now s.args.steps.now s.args.count _ (omega arith) (omega (arith, s.requires.0, s.requires.1.0))
-          (omega (arith, s.requires.0, s.requires.1.1)) refl c.axis_at-first.ensures,
-    )
+loop-i-init c = (
+  c.requires.1,
+  fused-first c.args.extents.now c.args.steps.now c.args.count _ (omega arith) (omega (arith, c.requires.0, c.requires.1.0))
+      (omega (arith, c.requires.0, c.requires.1.1)) refl c.axis_at-first.ensures,
+)
 
 axis_at-b-requires : tie.Need-axis_at-b-requires invariant-loop-i decreases-loop-i
-axis_at-b-requires c κs = let k = c.before.before.before in omega (arith, c.before.before.loop-i-test.true, (from-loop k).requires.0)
+axis_at-b-requires c κs = let k = c.before.before.before in omega (arith, c.loop-i-test.true, (from-loop k).requires.0)
 
 fuse_next-f-requires : tie.Need-fuse_next-f-requires invariant-loop-i decreases-loop-i
 fuse_next-f-requires c κs =
     let k = c.before.before.before.before in
-    omega (arith, k.loop-i.invariant.1.few, c.before.before.before.loop-i-test.true, (from-loop k).requires.0)
+    omega (arith, k.loop-i.invariant.1.few, c.loop-i-test.true, (from-loop k).requires.0)
 
 returns-then-not-f : tie.Need-returns-then-not-f invariant-loop-i decreases-loop-i
 unfolding held_if
@@ -93,8 +91,8 @@ returns-then-not-f c =
       k.loop-i.invariant.0,
       (
         fused-stop s.args.extents.now s.args.steps.now s.args.count k.loop-i.extents k.loop-i.steps k.loop-i.f k.loop-i.i
-            g.before.before.before.before.loop-i-test.true (omega (arith, s.requires.0, s.requires.1.0)) (omega (arith, s.requires.0, s.requires.1.1))
-            k.loop-i.invariant.1 g.before.axis_at-b.result g.before.axis_at-b.ensures
+            g.loop-i-test.true (omega (arith, s.requires.0, s.requires.1.0)) (omega (arith, s.requires.0, s.requires.1.1))
+            k.loop-i.invariant.1 g.axis_at-b.result g.axis_at-b.ensures
             g.fuse_next-f.result g.fuse_next-f.ensures (not-true _ c.if-not-f.true),
         omega arith,
       ),
@@ -122,10 +120,9 @@ loop-i-preserved : tie.Need-loop-i-preserved invariant-loop-i decreases-loop-i
 loop-i-preserved c =
     let e = c.before.before in
     let g = e.before.before in
-    let k = g.before.before.before.before.before in
     let f : SFits w64 g.fuse_next-f.result.last.source_step = record { sfits = c.struct_told-1.given.1.0.1 } in
     simp (to_z-of_z f) (
-      (length-set k.loop-i.extents _ _ ∙ k.loop-i.invariant.0.0, length-set k.loop-i.steps _ _ ∙ k.loop-i.invariant.0.1),
+      (length-set g.loop-i.extents _ _ ∙ g.loop-i.invariant.0.0, length-set g.loop-i.steps _ _ ∙ g.loop-i.invariant.0.1),
       next e,
     )
 
@@ -141,7 +138,7 @@ returns c =
       k.loop-i.invariant.0,
       (
         fused-all s.args.extents.now s.args.steps.now s.args.count k.loop-i.extents k.loop-i.steps k.loop-i.f k.loop-i.i
-            c.before.loop-i-test.false p
+            c.loop-i-test.false p
             (omega (arith, s.requires.0, k.loop-i.invariant.0.0)) (omega (arith, s.requires.0, k.loop-i.invariant.0.1)),
         omega (arith, p.few, p.within, s.requires.0),
       ),

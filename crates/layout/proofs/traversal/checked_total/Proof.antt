@@ -40,11 +40,10 @@ unfolding checked_or
 returns-then-not-t c =
     let m = c.before.before in
     let l = m.before.before.before in
-    let s = l.before.before in
-    let k = narrow_u64-not-ok _ (l.loop-i.total * get_or s.args.sizes.now l.loop-i.i 0) m.checked_mul_u64-t.ensures (not-true _ c.if-not-t.true) in
+    let k = narrow_u64-not-ok _ (l.loop-i.total * get_or l.args.sizes.now l.loop-i.i 0) m.checked_mul_u64-t.ensures (not-true _ c.if-not-t.true) in
     m.checked_mul_u64-t.ensures
     ∙ narrow_u64-no _ k
-    ∙ ap checked_or (sym (sym l.loop-i.invariant.1 ∙ total-over s.args.sizes.now l.loop-i.total l.loop-i.i m.before.before.loop-i-test.true k))
+    ∙ ap checked_or (sym (sym l.loop-i.invariant.1 ∙ total-over l.args.sizes.now l.loop-i.total l.loop-i.i m.loop-i-test.true k))
 
 overflow_add-i : tie.Need-overflow_add-i invariant-loop-i decreases-loop-i
 overflow_add-i c = omega arith
@@ -56,19 +55,17 @@ loop-i-preserved : tie.Need-loop-i-preserved invariant-loop-i decreases-loop-i
 loop-i-preserved c =
     let m = c.before.before in
     let l = m.before.before.before in
-    let s = l.before.before in
-    let k = narrow_u64-ok _ (l.loop-i.total * get_or s.args.sizes.now l.loop-i.i 0) m.checked_mul_u64-t.ensures (not-false _ c.if-not-t.false) in (
+    let k = narrow_u64-ok _ (l.loop-i.total * get_or l.args.sizes.now l.loop-i.i 0) m.checked_mul_u64-t.ensures (not-false _ c.if-not-t.false) in (
       omega arith,
-      ap (λ (t : ℕ). total_from t (drop (l.loop-i.i + 1) s.args.sizes.now)) k.0
-          ∙ sym (total-more s.args.sizes.now l.loop-i.total l.loop-i.i m.before.before.loop-i-test.true k.1)
+      ap (λ (t : ℕ). total_from t (drop (l.loop-i.i + 1) l.args.sizes.now)) k.0
+          ∙ sym (total-more l.args.sizes.now l.loop-i.total l.loop-i.i m.loop-i-test.true k.1)
           ∙ l.loop-i.invariant.1,
     )
 
 returns : tie.Need-returns invariant-loop-i decreases-loop-i
 unfolding checked_or
 returns c =
-    let l = c.before in
-    ap checked_or (sym (total-all l.before.before.args.sizes.now l.loop-i.total l.loop-i.i c.loop-i-test.false) ∙ l.loop-i.invariant.1)
+    ap checked_or (sym (total-all c.args.sizes.now c.loop-i.total c.loop-i.i c.loop-i-test.false) ∙ c.loop-i.invariant.1)
 
 pub checked_total_spec : {M : Type 1} → statement M
 checked_total_spec = tie.close (tie.spec invariant-loop-i decreases-loop-i loop-i-init offset_bounds-sizes-i bounds-sizes-i checked_mul_u64-t-requires returns-then-not-t overflow_add-i loop-i-smaller loop-i-preserved returns)

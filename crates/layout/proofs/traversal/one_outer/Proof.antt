@@ -19,8 +19,7 @@ bounds-places-0 c = search rules
 returns : tie.Need-returns
 unfolding layout_of axis_of places_of
 returns c =
-    let s = c.before.before in
-    rw (to_z-of_z s.ranges.stride, c.before.no_axis-z.ensures, simp (to_z-of_z s.ranges.step) at c.with_reset-a.ensures)
+    rw (to_z-of_z c.ranges.stride, c.no_axis-z.ensures, simp (to_z-of_z c.ranges.step) at c.with_reset-a.ensures)
 
 pub one_outer_spec : {M : Type 1} → statement M
 one_outer_spec = tie.close (tie.spec no_axis-z-requires with_reset-a-requires bounds-places-0 returns)

@@ -12,7 +12,7 @@ no_axis-z-requires c κs = search rules
 
 returns : tie.Need-returns
 unfolding layout_of axis_of places_of
-returns c = rw (to_z-of_z c.before.ranges.stride, c.no_axis-z.ensures)
+returns c = rw (to_z-of_z c.ranges.stride, c.no_axis-z.ensures)
 
 pub one_run_spec : {M : Type 1} → statement M
 one_run_spec = tie.close (tie.spec no_axis-z-requires returns)

@@ -32,8 +32,7 @@ no_axis-z-requires c κs = search rules
 
 loop-i-init : tie.Need-loop-i-init invariant-loop-i decreases-loop-i
 loop-i-init c =
-    let s = c.before in
-    (omega arith, omega arith, no_outer s.args.extents.now s.args.steps.now s.requires.1 c.no_axis-z.result c.no_axis-z.ensures)
+    (omega arith, omega arith, no_outer c.args.extents.now c.args.steps.now c.requires.1 c.no_axis-z.result c.no_axis-z.ensures)
 
 offset_bounds-extents-i : tie.Need-offset_bounds-extents-i invariant-loop-i decreases-loop-i
 offset_bounds-extents-i c = omega arith
@@ -50,11 +49,10 @@ bounds-steps-i c = omega arith
 with_reset-a-requires : tie.Need-with_reset-a-requires invariant-loop-i decreases-loop-i
 with_reset-a-requires c κs =
     let k = c.before.before.before in
-    let s = k.before.before in
-    let f : SFits w64 (get_or s.args.steps.now k.loop-i.i (pos 0)) = record { sfits = c.with_reset-arg-in-loop-i-1.given } in
+    let f : SFits w64 (get_or k.args.steps.now k.loop-i.i (pos 0)) = record { sfits = c.with_reset-arg-in-loop-i-1.given } in
     simp (to_z-of_z f)
-    (resets-at s.args.extents.now s.args.steps.now s.requires.1 s.args.count k.loop-i.i c.before.before.loop-i-test.true s.requires.0
-    s.requires.2)
+    (resets-at k.args.extents.now k.args.steps.now k.requires.1 k.args.count k.loop-i.i c.loop-i-test.true k.requires.0
+    k.requires.2)
 
 overflow_sub-places : tie.Need-overflow_sub-places invariant-loop-i decreases-loop-i
 overflow_sub-places c = omega arith
@@ -74,24 +72,22 @@ loop-i-smaller c = omega arith
 loop-i-preserved : tie.Need-loop-i-preserved invariant-loop-i decreases-loop-i
 loop-i-preserved c =
     let k = c.before.before.before.before in
-    let s = k.before.before in
-    let n = get_or s.args.extents.now k.loop-i.i 0 in
-    let d = get_or s.args.steps.now k.loop-i.i (pos 0) in
-    let f : SFits w64 d = record { sfits = c.before.with_reset-arg-in-loop-i-1.given } in (
+    let n = get_or k.args.extents.now k.loop-i.i 0 in
+    let d = get_or k.args.steps.now k.loop-i.i (pos 0) in
+    let f : SFits w64 d = record { sfits = c.with_reset-arg-in-loop-i-1.given } in (
       omega arith,
       omega arith,
       ap (set k.loop-i.places (k.loop-i.i - 1)) (simp (to_z-of_z f) at c.with_reset-a.ensures)
           ∙ ap (λ (l : List ReduceOuterAxis). set l (k.loop-i.i - 1) (axis_of n d)) k.loop-i.invariant.2
-          ∙ outer-more s.args.extents.now s.args.steps.now s.requires.1 k.loop-i.i k.loop-i.invariant.0 (omega arith),
+          ∙ outer-more k.args.extents.now k.args.steps.now k.requires.1 k.loop-i.i k.loop-i.invariant.0 (omega arith),
     )
 
 returns : tie.Need-returns invariant-loop-i decreases-loop-i
 returns c =
     let k = c.before in
-    let s = k.before.before in
     k.loop-i.invariant.2
     ∙ ap (places_of PLACES)
-    (outer-all s.args.extents.now s.args.steps.now s.requires.1 s.args.count k.loop-i.i k.loop-i.invariant.0 k.loop-i.invariant.1
+    (outer-all k.args.extents.now k.args.steps.now k.requires.1 k.args.count k.loop-i.i k.loop-i.invariant.0 k.loop-i.invariant.1
     c.loop-i-test.false)
 
 pub outer_places_spec : {M : Type 1} → statement M

@@ -17,9 +17,8 @@ outer_places-places-requires c κs = search rules
 
 returns-then-count-eq0 : tie.Need-returns-then-count-eq0
 returns-then-count-eq0 c =
-    let s = c.before.before in
-    run_none s.args.extents.now s.args.steps.now s.requires.1 s.args.total s.args.count c.before.outer_places-places.result c.if-count-eq0.true
-    c.before.outer_places-places.ensures
+    run_none c.args.extents.now c.args.steps.now c.requires.1 c.args.total c.args.count c.outer_places-places.result c.if-count-eq0.true
+    c.outer_places-places.ensures
 
 axis_at-run-requires : tie.Need-axis_at-run-requires
 axis_at-run-requires c κs = search rules
@@ -30,19 +29,18 @@ overflow_sub-result c = search rules
 returns : tie.Need-returns
 returns c =
     let e = c.before.before in
-    let s = e.before.before in
-    let f : SFits w64 c.before.axis_at-run.result.source_step = record { sfits = c.struct_told-1.given.1.0.1 } in
+    let f : SFits w64 c.axis_at-run.result.source_step = record { sfits = c.struct_told-1.given.1.0.1 } in
     simp (to_z-of_z f)
     (ap (λ (a : ReduceOuterAxis). record {
-      total = s.args.total;
+      total = e.args.total;
       run_len = a.extent;
       run_stride = a.source_step;
-      axis_count = s.args.count - 1;
-      run_axes = e.before.outer_places-places.result;
+      axis_count = e.args.count - 1;
+      run_axes = e.outer_places-places.result;
     })
-    c.before.axis_at-run.ensures
-    ∙ run-first s.args.extents.now s.args.steps.now s.requires.1 s.args.total s.args.count e.before.outer_places-places.result e.if-count-eq0.false
-    s.requires.0 e.before.outer_places-places.ensures)
+    c.axis_at-run.ensures
+    ∙ run-first e.args.extents.now e.args.steps.now e.requires.1 e.args.total e.args.count e.outer_places-places.result e.if-count-eq0.false
+    e.requires.0 e.outer_places-places.ensures)
 
 pub with_run_spec : {M : Type 1} → statement M
 with_run_spec = tie.close (tie.spec outer_places-places-requires returns-then-count-eq0 axis_at-run-requires overflow_sub-result returns)

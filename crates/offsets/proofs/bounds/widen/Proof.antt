@@ -12,8 +12,8 @@ use Rattle.offsets.proofs.bounds.widen.Lts as lts
 use Rattle.integers.proofs.magnitude.Reads as magnitude-reads
 use Rattle.offsets.proofs.bounds.outside.Reads as outside-reads
 
-size : (c : tie.After-magnitude-p) → c.magnitude-p.result ≡ nat_abs c.before.args.reset
-size c = simp (to_z-of_z c.before.ranges.reset) at c.magnitude-p.ensures
+size : (c : tie.After-magnitude-p) → c.magnitude-p.result ≡ nat_abs c.args.reset
+size c = simp (to_z-of_z c.ranges.reset) at c.magnitude-p.ensures
 
 magnitude-p-requires : tie.Need-magnitude-p-requires
 magnitude-p-requires c κs = search rules
@@ -24,17 +24,15 @@ outside-requires c κs = search rules
 returns-then-s-p : tie.Need-returns-then-s-p
 returns-then-s-p c =
     let u = c.before.before.before.before in
-    let s = u.before in
     c.outside.ensures
-    ∙ sym (back-nowhere s.args.s s.args.reset s.args.last u.magnitude-p.result (size u)
-    (simp (to_z-of_z s.ranges.reset) at c.before.before.before.if-reset-gt0.true) c.before.if-s-p.true)
+    ∙ sym (back-nowhere u.args.s u.args.reset u.args.last u.magnitude-p.result (size u)
+    (simp (to_z-of_z u.ranges.reset) at c.if-reset-gt0.true) c.if-s-p.true)
 
 returns-then-reset-gt0 : tie.Need-returns-then-reset-gt0
 returns-then-reset-gt0 c =
     let u = c.before.before.before.before in
-    let s = u.before in
-    sym (back-widened s.args.s s.args.reset s.args.last u.magnitude-p.result (size u)
-    (simp (to_z-of_z s.ranges.reset) at c.before.before.before.if-reset-gt0.true) c.before.if-s-p.false)
+    sym (back-widened u.args.s u.args.reset u.args.last u.magnitude-p.result (size u)
+    (simp (to_z-of_z u.ranges.reset) at c.if-reset-gt0.true) c.if-s-p.false)
 
 overflow_sub-last : tie.Need-overflow_sub-last
 overflow_sub-last c = search rules
@@ -45,10 +43,9 @@ outside-requires-then-last-s c κs = search rules
 returns-then-last-s : tie.Need-returns-then-last-s
 returns-then-last-s c =
     let u = c.before.before.before.before in
-    let s = u.before in
     c.outside-then-last-s.ensures
-    ∙ sym (forth-nowhere s.args.s s.args.reset s.args.last u.magnitude-p.result (size u)
-    (simp (to_z-of_z s.ranges.reset) at c.before.before.before.if-reset-gt0.false) c.before.if-last-s.true)
+    ∙ sym (forth-nowhere u.args.s u.args.reset u.args.last u.magnitude-p.result (size u)
+    (simp (to_z-of_z u.ranges.reset) at c.if-reset-gt0.false) c.if-last-s.true)
 
 overflow_add-result : tie.Need-overflow_add-result
 overflow_add-result c = search rules
@@ -56,9 +53,8 @@ overflow_add-result c = search rules
 returns : tie.Need-returns
 returns c =
     let u = c.before.before.before.before in
-    let s = u.before in
-    sym (forth-widened s.args.s s.args.reset s.args.last u.magnitude-p.result (size u)
-    (simp (to_z-of_z s.ranges.reset) at c.before.before.before.if-reset-gt0.false) c.before.if-last-s.false)
+    sym (forth-widened u.args.s u.args.reset u.args.last u.magnitude-p.result (size u)
+    (simp (to_z-of_z u.ranges.reset) at c.if-reset-gt0.false) c.if-last-s.false)
 
 pub widen_spec : {M : Type 1} → statement M
 widen_spec =

@@ -29,30 +29,26 @@ range_code-code-requires c κs =
     let e = c.compile-compiled.ensures in (ap (λ (r : Compiled). r.code) e, ap (λ (r : Compiled). r.traversal.total) e)
 
 -- the range's code, over the arguments themselves
-code_of : (c : tie.After-range_code-code) → let s = c.before.before.before in
-    c.range_code-code.result ≡ range_code s.args.sizes.now s.args.strides.now s.args.base s.args.start s.args.end s.args.length
-code_of c = simp (to_z-of_z c.before.before.before.ranges.base) at c.range_code-code.ensures
+code_of : (c : tie.After-range_code-code) → c.range_code-code.result ≡ range_code c.args.sizes.now c.args.strides.now c.args.base c.args.start c.args.end c.args.length
+code_of c = simp (to_z-of_z c.ranges.base) at c.range_code-code.ensures
 
 -- an accepted range
-accepted : (c : tie.Else-code-ne0) → let s = c.before.before.before.before in
-    Checked s.args.sizes.now s.args.strides.now s.args.base s.args.start s.args.end s.args.length
-    c.before.before.compile-compiled.result.traversal
+accepted : (c : tie.Else-code-ne0) → Checked c.args.sizes.now c.args.strides.now c.args.base c.args.start c.args.end c.args.length
+    c.compile-compiled.result.traversal
 accepted c =
     let m = c.before in
-    let k = m.before in
-    checked _ _ _ _ _ _ k.compile-compiled.result k.compile-compiled.ensures m.range_code-code.result (code_of m) c.if-code-ne0.false
+    checked _ _ _ _ _ _ m.compile-compiled.result m.compile-compiled.ensures m.range_code-code.result (code_of m) c.if-code-ne0.false
 
 returns-then-code-ne0 : tie.Need-returns-then-code-ne0
 returns-then-code-ne0 c =
     let m = c.before in
-    let s = m.before.before.before in
-    let n : range_code s.args.sizes.now s.args.strides.now s.args.base s.args.start s.args.end s.args.length ≡ 0 → ⊥ = λ e.
+    let n : range_code m.args.sizes.now m.args.strides.now m.args.base m.args.start m.args.end m.args.length ≡ 0 → ⊥ = λ e.
     c.if-code-ne0.true
     (code_of m ∙ e) in
-    let k = list-refused s.args.sizes.now s.args.strides.now s.args.base s.args.start s.args.end s.args.length
-    (length s.args.out.now) n in (
+    let k = list-refused m.args.sizes.now m.args.strides.now m.args.base m.args.start m.args.end m.args.length
+    (length m.args.out.now) n in (
       code_of m ∙ sym k,
-      list-kept s.args.sizes.now s.args.strides.now s.args.base s.args.start s.args.end s.args.length s.args.out.now
+      list-kept m.args.sizes.now m.args.strides.now m.args.base m.args.start m.args.end m.args.length m.args.out.now
           (λ e. n (sym k ∙ e)),
     )
 
@@ -65,11 +61,10 @@ no e = omega arith
 returns-then-out-end : tie.Need-returns-then-out-end
 returns-then-out-end c =
     let e = c.before in
-    let s = e.before.before.before.before in
-    let k = list-8 s.args.sizes.now s.args.strides.now s.args.base s.args.start s.args.end s.args.length (accepted e).ranged
-    (length s.args.out.now) c.if-out-end.true in (
+    let k = list-8 e.args.sizes.now e.args.strides.now e.args.base e.args.start e.args.end e.args.length (accepted e).ranged
+    (length e.args.out.now) c.if-out-end.true in (
       sym k,
-      list-kept s.args.sizes.now s.args.strides.now s.args.base s.args.start s.args.end s.args.length s.args.out.now
+      list-kept e.args.sizes.now e.args.strides.now e.args.base e.args.start e.args.end e.args.length e.args.out.now
           (λ q. no (sym k ∙ q)),
     )
 
@@ -77,36 +72,32 @@ write_offsets-requires : tie.Need-write_offsets-requires
 write_offsets-requires c κs =
     let t = c.before in
     let e = t.before in
-    let s = e.before.before.before.before in
     let a = accepted e in
-    simp (to_z-of_z s.ranges.base) (a.traversal, a.bounded, a.forward, a.inside, t.if-out-end.false)
+    simp (to_z-of_z e.ranges.base) (a.traversal, a.bounded, a.forward, a.inside, t.if-out-end.false)
 
 shape_of-out : tie.Need-shape_of-out
 shape_of-out c = search rules
 
 -- what was written, over rule L2's axes
-wrote : (c : tie.After-write_offsets) → let s = c.before.before.before.before.before.before.before in
-    c.write_offsets.new.1.1.1.1.0
-    ≡ offsets_from (axes_of s.args.sizes.now s.args.strides.now) s.args.base s.args.start (s.args.end - s.args.start)
-    ++ drop (s.args.end - s.args.start) s.args.out.now
+wrote : (c : tie.After-write_offsets) → c.write_offsets.new.1.1.1.1.0
+    ≡ offsets_from (axes_of c.args.sizes.now c.args.strides.now) c.args.base c.args.start (c.args.end - c.args.start)
+    ++ drop (c.args.end - c.args.start) c.args.out.now
 wrote c =
     let t = c.before.before in
     let e = t.before in
-    let s = e.before.before.before.before in
-    simp (to_z-of_z s.ranges.base) at c.write_offsets.ensures
-    ∙ ap (λ (o : List ℤ). o ++ drop (s.args.end - s.args.start) s.args.out.now)
-    ((accepted e).offsets (s.args.end - s.args.start) s.args.start)
+    simp (to_z-of_z e.ranges.base) at c.write_offsets.ensures
+    ∙ ap (λ (o : List ℤ). o ++ drop (e.args.end - e.args.start) e.args.out.now)
+    ((accepted e).offsets (e.args.end - e.args.start) e.args.start)
 
 returns : tie.Need-returns
 returns c =
     let t = c.before.before.before in
     let e = t.before in
-    let s = e.before.before.before.before in
-    let k = list-0 s.args.sizes.now s.args.strides.now s.args.base s.args.start s.args.end s.args.length (accepted e).ranged
-    (length s.args.out.now) t.if-out-end.false in (
+    let k = list-0 e.args.sizes.now e.args.strides.now e.args.base e.args.start e.args.end e.args.length (accepted e).ranged
+    (length e.args.out.now) t.if-out-end.false in (
       sym k,
       wrote c.before
-          ∙ list-filled s.args.sizes.now s.args.strides.now s.args.base s.args.start s.args.end s.args.length s.args.out.now k,
+          ∙ list-filled e.args.sizes.now e.args.strides.now e.args.base e.args.start e.args.end e.args.length e.args.out.now k,
     )
 
 pub offset_list_spec : {M : Type 1} → statement M

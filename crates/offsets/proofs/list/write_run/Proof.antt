@@ -46,40 +46,40 @@ loop-left-init c =
 
 -- how many numbers a turn of the loop finds written
 abbrev done : tie.At-loop-left invariant-loop-left decreases-loop-left → ℕ
-done t = t.before.args.count - t.loop-left.left
+done t = t.args.count - t.loop-left.left
 
 -- the buffer's length stays
-long : (t : tie.At-loop-left invariant-loop-left decreases-loop-left) → length t.loop-left.out ≡ length t.before.args.out.now
+long : (t : tie.At-loop-left invariant-loop-left decreases-loop-left) → length t.loop-left.out ≡ length t.args.out.now
 long t =
     let s = t.before in
     ap length t.loop-left.invariant.3 ∙ length-filled s.args.out.now s.args.at (first s) (stride s) (done t) (omega (arith, s.requires.0, t.loop-left.invariant.0))
 
 -- the next number has a place in it
-room : (c : tie.In-loop-left invariant-loop-left decreases-loop-left) → let t = c.before in t.loop-left.i < length t.before.args.out.now
-room c = let t = c.before in omega (arith, t.loop-left.invariant.0, t.loop-left.invariant.1, c.loop-left-test.true, t.before.requires.0)
+room : (c : tie.In-loop-left invariant-loop-left decreases-loop-left) → c.loop-left.i < length c.args.out.now
+room c = omega (arith, c.loop-left.invariant.0, c.loop-left.invariant.1, c.loop-left-test.true, c.requires.0)
 
 offset_bounds-out-i : tie.Need-offset_bounds-out-i invariant-loop-left decreases-loop-left
-offset_bounds-out-i c = omega (arith, room c, c.before.before.well_formed.0.1)
+offset_bounds-out-i c = omega (arith, room c, c.well_formed.0.1)
 
 bounds-out-i : tie.Need-bounds-out-i invariant-loop-left decreases-loop-left
 bounds-out-i c = omega (arith, room c, long c.before)
 
 overflow_add-i : tie.Need-overflow_add-i invariant-loop-left decreases-loop-left
-overflow_add-i c = omega (arith, room c, c.before.before.well_formed.0.1)
+overflow_add-i c = omega (arith, room c, c.well_formed.0.1)
 
 overflow_sub-left : tie.Need-overflow_sub-left invariant-loop-left decreases-loop-left
 overflow_sub-left c = omega arith
 
 -- the number to be written
 here : (c : tie.In-loop-left invariant-loop-left decreases-loop-left) → let t = c.before in to_z w64 t.loop-left.offset-bits ≡ first t.before +ℤ stride t.before *ℤ pos (done t)
-here c = c.before.loop-left.invariant.2 (omega (arith, c.loop-left-test.true))
+here c = c.loop-left.invariant.2 (omega (arith, c.loop-left-test.true))
 
 -- one more is written
-more : (c : tie.In-loop-left invariant-loop-left decreases-loop-left) → let t = c.before in done t + 1 ≡ t.before.args.count - (t.loop-left.left - 1)
-more c = let t = c.before in omega (arith, t.loop-left.invariant.0, c.loop-left-test.true)
+more : (c : tie.In-loop-left invariant-loop-left decreases-loop-left) → let t = c.before in done t + 1 ≡ t.args.count - (t.loop-left.left - 1)
+more c = omega (arith, c.loop-left.invariant.0, c.loop-left-test.true)
 
 written : (c : tie.In-loop-left invariant-loop-left decreases-loop-left) → let t = c.before in
-    set t.loop-left.out t.loop-left.i (to_z w64 t.loop-left.offset-bits) ≡ wrote t.before (t.before.args.count - (t.loop-left.left - 1))
+    set t.loop-left.out t.loop-left.i (to_z w64 t.loop-left.offset-bits) ≡ wrote t.before (t.args.count - (t.loop-left.left - 1))
 written c =
     let t = c.before in
     let s = t.before in
@@ -109,14 +109,14 @@ next c l =
     ∙ ap (λ (n : ℕ). first s +ℤ stride s *ℤ pos n) (more i)
 
 -- the place after it
-place : (c : tie.In-loop-left invariant-loop-left decreases-loop-left) → let t = c.before in t.loop-left.i + 1 ≡ t.before.args.at + (t.before.args.count - (t.loop-left.left - 1))
-place c = let t = c.before in omega (arith, t.loop-left.invariant.1, more c)
+place : (c : tie.In-loop-left invariant-loop-left decreases-loop-left) → c.loop-left.i + 1 ≡ c.args.at + (c.args.count - (c.loop-left.left - 1))
+place c = omega (arith, c.loop-left.invariant.1, more c)
 
 loop-left-smaller : tie.Need-loop-left-smaller invariant-loop-left decreases-loop-left
 loop-left-smaller c = omega arith
 
 loop-left-preserved : tie.Need-loop-left-preserved invariant-loop-left decreases-loop-left
-loop-left-preserved c = let i = c.before in (omega (arith, i.before.loop-left.invariant.0), place i, next c, written i)
+loop-left-preserved c = let i = c.before in (omega (arith, i.loop-left.invariant.0), place i, next c, written i)
 
 shape_of-out : tie.Need-shape_of-out invariant-loop-left decreases-loop-left
 shape_of-out c = long c.before

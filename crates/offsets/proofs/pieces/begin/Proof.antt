@@ -16,11 +16,10 @@ use Rattle.offsets.proofs.cursor.ReduceOuterCursor.decode.Reads as decode-reads
 -- the layout's first element
 returns-then-start-eq0 : tie.Need-returns-then-start-eq0
 returns-then-start-eq0 c =
-    let s = c.before in
-    simp (to_z-of_z s.ranges.base) (first-element s.args.l s.requires.0 s.args.base ∙ ap (range_at s.args.l s.args.base) (sym c.if-start-eq0.true))
+    simp (to_z-of_z c.ranges.base) (first-element c.args.l c.requires.0 c.args.base ∙ ap (range_at c.args.l c.args.base) (sym c.if-start-eq0.true))
 
 nonzero_rem-result : tie.Need-nonzero_rem-result
-nonzero_rem-result c = let s = c.before.before in some_left s.args.l s.requires.0 s.args.base s.requires.1 s.args.start
+nonzero_rem-result c = some_left c.args.l c.requires.0 c.args.base c.requires.1 c.args.start
 
 nonzero_div-start : tie.Need-nonzero_div-start
 nonzero_div-start c = nonzero_rem-result c
@@ -28,20 +27,18 @@ nonzero_div-start c = nonzero_rem-result c
 decode-requires : tie.Need-decode-requires
 unfolding outer_of
 decode-requires c κs =
-    let s = c.before.before in
-    simp (to_z-of_z s.ranges.base) (
-      s.requires.0.places,
-      s.requires.0.few,
-      outer-axes s.args.l s.requires.0 s.args.base s.requires.1 s.args.start,
-      outer-bounded s.args.l s.requires.0 s.args.base s.requires.1 s.args.start,
+    simp (to_z-of_z c.ranges.base) (
+      c.requires.0.places,
+      c.requires.0.few,
+      outer-axes c.args.l c.requires.0 c.args.base c.requires.1 c.args.start,
+      outer-bounded c.args.l c.requires.0 c.args.base c.requires.1 c.args.start,
     )
 
 returns : tie.Need-returns
 unfolding range_at outer_of
 returns c =
-    let s = c.before.before.before in
-    ap (λ (r : ReduceOuterCursor). record { at = s.args.start; col = s.args.start % s.args.l.run_len; runs = r })
-    (simp (to_z-of_z s.ranges.base) at c.decode.ensures)
+    ap (λ (r : ReduceOuterCursor). record { at = c.args.start; col = c.args.start % c.args.l.run_len; runs = r })
+    (simp (to_z-of_z c.ranges.base) at c.decode.ensures)
 
 pub begin_spec : {M : Type 1} → statement M
 begin_spec = tie.close (tie.spec returns-then-start-eq0 nonzero_rem-result nonzero_div-start decode-requires returns)

@@ -26,7 +26,7 @@ use Rattle.offsets.proofs.cursor.ReduceOuterCursor.to_next_run.Reads as to-next-
 use Rattle.integers.proofs.min_u64.Reads as min-u64-reads
 
 overflow_sub-l : tie.Need-overflow_sub-l
-overflow_sub-l c = let s = c.before.before in omega (arith, on-column s.args.l s.requires.0 s.args.c s.requires.2)
+overflow_sub-l c = omega (arith, on-column c.args.l c.requires.0 c.args.c c.requires.2)
 
 overflow_sub-end : tie.Need-overflow_sub-end
 overflow_sub-end c = search rules
@@ -35,42 +35,36 @@ min_u64-len-requires : tie.Need-min_u64-len-requires
 min_u64-len-requires c κs = search rules
 
 overflow_cast-first : tie.Need-overflow_cast-first
-overflow_cast-first c = let s = c.before.before.before in pos-fits _ (on-column-small s.args.l s.requires.0 s.args.c s.requires.2)
+overflow_cast-first c = pos-fits _ (on-column-small c.args.l c.requires.0 c.args.c c.requires.2)
 
-stride-fits : (c : tie.After-struct_told-1) → let s = c.before.before.before.before.before in
-    SFits w64 s.args.l.run_stride
+stride-fits : (c : tie.After-struct_told-1) → SFits w64 c.args.l.run_stride
 stride-fits c = record { sfits = c.struct_told-1.given.1.1.0.1 }
 
 overflow_mul-first : tie.Need-overflow_mul-first
 overflow_mul-first c =
-    let s = c.before.before.before.before.before in
-    simp (to_z-of_z (stride-fits c), to_z-small _ (on-column-small s.args.l s.requires.0 s.args.c s.requires.2))
-    (share-fits s.args.c.runs.source_offset _ (on-run s.args.l s.requires.0 s.args.c s.requires.2)
-    (on-first s.args.l s.requires.0 s.args.c s.requires.2))
+    simp (to_z-of_z (stride-fits c), to_z-small _ (on-column-small c.args.l c.requires.0 c.args.c c.requires.2))
+    (share-fits c.args.c.runs.source_offset _ (on-run c.args.l c.requires.0 c.args.c c.requires.2)
+    (on-first c.args.l c.requires.0 c.args.c c.requires.2))
 
 -- the sum as the machine forms it is the piece's first offset
-first_fits : (c : tie.After-struct_told-2-1) → let s = c.before.before.before.before.before.before.before in
-    SFits w64 (s.args.c.runs.source_offset +ℤ s.args.l.run_stride *ℤ pos s.args.c.col)
-first_fits c = let s = c.before.before.before.before.before.before.before in small-fits _ (on-first s.args.l s.requires.0 s.args.c s.requires.2)
+first_fits : (c : tie.After-struct_told-2-1) → SFits w64 (c.args.c.runs.source_offset +ℤ c.args.l.run_stride *ℤ pos c.args.c.col)
+first_fits c = small-fits _ (on-first c.args.l c.requires.0 c.args.c c.requires.2)
 
-first-is : (c : tie.After-struct_told-2-1) → let s = c.before.before.before.before.before.before.before in
-    to_z w64 (of_z w64 s.args.c.runs.source_offset) +ℤ to_z w64 (of_z w64 (to_z w64 (of_z w64 s.args.l.run_stride) *ℤ to_z w64 s.args.c.col))
-    ≡ s.args.c.runs.source_offset +ℤ s.args.l.run_stride *ℤ pos s.args.c.col
+first-is : (c : tie.After-struct_told-2-1) → to_z w64 (of_z w64 c.args.c.runs.source_offset) +ℤ to_z w64 (of_z w64 (to_z w64 (of_z w64 c.args.l.run_stride) *ℤ to_z w64 c.args.c.col))
+    ≡ c.args.c.runs.source_offset +ℤ c.args.l.run_stride *ℤ pos c.args.c.col
 first-is c =
-    let s = c.before.before.before.before.before.before.before in
-    let here = on-run s.args.l s.requires.0 s.args.c s.requires.2 in
+    let here = on-run c.args.l c.requires.0 c.args.c c.requires.2 in
     simp (
       to_z-of_z (stride-fits c.before.before),
-      to_z-small _ (on-column-small s.args.l s.requires.0 s.args.c s.requires.2),
+      to_z-small _ (on-column-small c.args.l c.requires.0 c.args.c c.requires.2),
       to_z-of_z (small-fits _ here),
-      to_z-of_z (share-fits s.args.c.runs.source_offset (s.args.l.run_stride *ℤ pos s.args.c.col) here
-          (on-first s.args.l s.requires.0 s.args.c s.requires.2)),
+      to_z-of_z (share-fits c.args.c.runs.source_offset (c.args.l.run_stride *ℤ pos c.args.c.col) here
+          (on-first c.args.l c.requires.0 c.args.c c.requires.2)),
     ) refl
 
-first-told : (c : tie.After-struct_told-2-1) → let s = c.before.before.before.before.before.before.before in
-    to_z w64 (of_z w64
-    (to_z w64 (of_z w64 s.args.c.runs.source_offset) +ℤ to_z w64 (of_z w64 (to_z w64 (of_z w64 s.args.l.run_stride) *ℤ to_z w64 s.args.c.col))))
-    ≡ s.args.c.runs.source_offset +ℤ s.args.l.run_stride *ℤ pos s.args.c.col
+first-told : (c : tie.After-struct_told-2-1) → to_z w64 (of_z w64
+    (to_z w64 (of_z w64 c.args.c.runs.source_offset) +ℤ to_z w64 (of_z w64 (to_z w64 (of_z w64 c.args.l.run_stride) *ℤ to_z w64 c.args.c.col))))
+    ≡ c.args.c.runs.source_offset +ℤ c.args.l.run_stride *ℤ pos c.args.c.col
 first-told c = ap (λ (z : ℤ). to_z w64 (of_z w64 z)) (first-is c) ∙ to_z-of_z (first_fits c)
 
 overflow_add-first : tie.Need-overflow_add-first
@@ -82,35 +76,33 @@ overflow_add-k c = search rules
 to_next_run-requires : tie.Need-to_next_run-requires
 unfolding outer_of
 to_next_run-requires c κs =
-    let s = c.before.before.before.before.before.before.before.before.before in
-    (s.requires.0.places, s.requires.0.few, on-element s.args.l s.requires.0 s.args.c s.requires.2)
+    (c.requires.0.places, c.requires.0.few, on-element c.args.l c.requires.0 c.args.c c.requires.2)
 
 returns-then-k-end : tie.Need-returns-then-k-end
 unfolding piece_of outer_of
 returns-then-k-end c =
     let t = c.before.before.before in
-    let s = t.before.before.before.before.before.before.before in
-    let n = t.before.before.before.before.min_u64-len.result in
-    let e = t.before.before.before.before.min_u64-len.ensures in
-    ap (λ (z : ℤ). record { first = z; len = n; next = record { at = s.args.c.at + n; col = 0; runs = c.to_next_run.result } }) (first-told t)
+    let n = t.min_u64-len.result in
+    let e = t.min_u64-len.ensures in
+    ap (λ (z : ℤ). record { first = z; len = n; next = record { at = t.args.c.at + n; col = 0; runs = c.to_next_run.result } }) (first-told t)
     ∙ ap (λ (r : ReduceOuterCursor). record {
-      first = s.args.c.runs.source_offset +ℤ s.args.l.run_stride *ℤ pos s.args.c.col;
+      first = t.args.c.runs.source_offset +ℤ t.args.l.run_stride *ℤ pos t.args.c.col;
       len = n;
-      next = record { at = s.args.c.at + n; col = 0; runs = r };
+      next = record { at = t.args.c.at + n; col = 0; runs = r };
     }) c.to_next_run.ensures
     ∙ ap (λ (x : Bool). record {
-      first = s.args.c.runs.source_offset +ℤ s.args.l.run_stride *ℤ pos s.args.c.col;
+      first = t.args.c.runs.source_offset +ℤ t.args.l.run_stride *ℤ pos t.args.c.col;
       len = n;
-      next = record { at = s.args.c.at + n; col = 0; runs = cond x (advanced (outer_of s.args.l) s.args.c.runs) s.args.c.runs };
+      next = record { at = t.args.c.at + n; col = 0; runs = cond x (advanced (outer_of t.args.l) t.args.c.runs) t.args.c.runs };
     })
-    (sym (lt-ltb (s.args.c.at + n) s.args.end c.before.before.if-k-end.true))
+    (sym (lt-ltb (t.args.c.at + n) t.args.end c.if-k-end.true))
     ∙ ap (λ (m : ℕ). record {
-      first = s.args.c.runs.source_offset +ℤ s.args.l.run_stride *ℤ pos s.args.c.col;
+      first = t.args.c.runs.source_offset +ℤ t.args.l.run_stride *ℤ pos t.args.c.col;
       len = m;
       next = record {
-        at = s.args.c.at + m;
+        at = t.args.c.at + m;
         col = 0;
-        runs = cond (ltb (s.args.c.at + m) s.args.end) (advanced (outer_of s.args.l) s.args.c.runs) s.args.c.runs;
+        runs = cond (ltb (t.args.c.at + m) t.args.end) (advanced (outer_of t.args.l) t.args.c.runs) t.args.c.runs;
       };
     }) e
 
@@ -118,23 +110,22 @@ returns : tie.Need-returns
 unfolding piece_of outer_of
 returns c =
     let t = c.before in
-    let s = t.before.before.before.before.before.before.before in
-    let n = t.before.before.before.before.min_u64-len.result in
-    let e = t.before.before.before.before.min_u64-len.ensures in
-    ap (λ (z : ℤ). record { first = z; len = n; next = record { at = s.args.c.at + n; col = 0; runs = s.args.c.runs } }) (first-told t)
+    let n = t.min_u64-len.result in
+    let e = t.min_u64-len.ensures in
+    ap (λ (z : ℤ). record { first = z; len = n; next = record { at = t.args.c.at + n; col = 0; runs = t.args.c.runs } }) (first-told t)
     ∙ ap (λ (x : Bool). record {
-      first = s.args.c.runs.source_offset +ℤ s.args.l.run_stride *ℤ pos s.args.c.col;
+      first = t.args.c.runs.source_offset +ℤ t.args.l.run_stride *ℤ pos t.args.c.col;
       len = n;
-      next = record { at = s.args.c.at + n; col = 0; runs = cond x (advanced (outer_of s.args.l) s.args.c.runs) s.args.c.runs };
+      next = record { at = t.args.c.at + n; col = 0; runs = cond x (advanced (outer_of t.args.l) t.args.c.runs) t.args.c.runs };
     })
-    (sym (le-ltb (s.args.c.at + n) s.args.end c.if-k-end.false))
+    (sym (le-ltb (t.args.c.at + n) t.args.end c.if-k-end.false))
     ∙ ap (λ (m : ℕ). record {
-      first = s.args.c.runs.source_offset +ℤ s.args.l.run_stride *ℤ pos s.args.c.col;
+      first = t.args.c.runs.source_offset +ℤ t.args.l.run_stride *ℤ pos t.args.c.col;
       len = m;
       next = record {
-        at = s.args.c.at + m;
+        at = t.args.c.at + m;
         col = 0;
-        runs = cond (ltb (s.args.c.at + m) s.args.end) (advanced (outer_of s.args.l) s.args.c.runs) s.args.c.runs;
+        runs = cond (ltb (t.args.c.at + m) t.args.end) (advanced (outer_of t.args.l) t.args.c.runs) t.args.c.runs;
       };
     }) e
 

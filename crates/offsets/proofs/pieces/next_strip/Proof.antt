@@ -21,32 +21,31 @@ whole_runs-n-requires c κs = search rules
 next_piece-p-requires : tie.Need-next_piece-p-requires
 next_piece-p-requires c κs = search rules
 
-first_fits : (c : tie.After-struct_told-1) → SFits w64 c.before.before.next_piece-p.result.first
+first_fits : (c : tie.After-struct_told-1) → SFits w64 c.next_piece-p.result.first
 first_fits c = record { sfits = c.struct_told-1.given.0.1 }
 
 returns-then-n-lt2 : tie.Need-returns-then-n-lt2
 returns-then-n-lt2 c = λ base b e.
     let p = c.before.before in
-    let s = p.before.before.before in
     simp (to_z-of_z (first_fits c))
-    (piece-strip s.args.l base s.args.end s.args.c p.next_piece-p.result
-    (piece-here s.args.l s.requires.0 base b s.args.end s.args.c e s.requires.1 p.next_piece-p.result p.next_piece-p.ensures))
+    (piece-strip p.args.l base p.args.end p.args.c p.next_piece-p.result
+    (piece-here p.args.l p.requires.0 base b p.args.end p.args.c e p.requires.1 p.next_piece-p.result p.next_piece-p.ensures))
 
 -- ---- whole runs
 abbrev entry : tie.Else-n-lt2 → tie.Start
 entry c = c.before.before
 
 -- what lies ahead of the cursor
-ahead : (c : tie.Else-n-lt2) → let s = entry c in let l = s.args.l in let n = c.before.whole_runs-n.result in
+ahead : (c : tie.Else-n-lt2) → let s = entry c in let l = s.args.l in let n = c.whole_runs-n.result in
     (0 < l.axis_count) × (s.args.c.at % l.run_len ≡ 0) × (s.args.c.at / l.run_len % (first_axis l).extent + n ≤ (first_axis l).extent)
     × (s.args.c.at + n * l.run_len ≤ s.args.end)
-ahead c = c.before.whole_runs-n.ensures (omega (arith, c.if-n-lt2.false))
+ahead c = c.whole_runs-n.ensures (omega (arith, c.if-n-lt2.false))
 
 bounds-axes-0 : tie.Need-bounds-axes-0
 bounds-axes-0 c = search rules
 
 overflow_sub-n : tie.Need-overflow_sub-n
-overflow_sub-n c = let e = c.before.before in omega (arith, e.if-n-lt2.false)
+overflow_sub-n c = omega (arith, c.if-n-lt2.false)
 
 skip_runs-last-requires : tie.Need-skip_runs-last-requires
 skip_runs-last-requires c κs =
@@ -54,7 +53,7 @@ skip_runs-last-requires c κs =
     let s = entry e in
     let o = s.requires.2 in
     let a = ahead e in
-    let n = e.before.whole_runs-n.result in
+    let n = e.whole_runs-n.result in
     let m : (n - 1) * s.args.l.run_len ≤ n * s.args.l.run_len = mul-le-mul_right s.args.l.run_len (omega arith) in (
       s.requires.0,
       o,
@@ -70,7 +69,7 @@ next_piece-q-requires c κs =
     let s = entry e in
     let o = s.requires.2 in
     let a = ahead e in
-    let r = on-last s.args.l s.requires.0 o.base o.bounded s.args.end s.args.c o.cursor_is e.before.whole_runs-n.result a.0 a.1
+    let r = on-last s.args.l s.requires.0 o.base o.bounded s.args.end s.args.c o.cursor_is e.whole_runs-n.result a.0 a.1
     a.2 a.3 (omega (arith, e.if-n-lt2.false)) c.Skip-runs.result c.Skip-runs.ensures in
     (s.requires.0, r.0, r.1)
 
@@ -88,7 +87,7 @@ returns c = λ base b r.
     let s = entry e in
     let a = ahead e in
     simp (to_z-of_z (at-fits e), to_z-of_z (step_fits c))
-    (runs-strip s.args.l s.requires.0 base b s.args.end s.args.c r e.before.whole_runs-n.result a.0 a.1 a.2 a.3
+    (runs-strip s.args.l s.requires.0 base b s.args.end s.args.c r e.whole_runs-n.result a.0 a.1 a.2 a.3
     (omega (arith, e.if-n-lt2.false)) k.Skip-runs.result k.Skip-runs.ensures q.next_piece-q.result q.next_piece-q.ensures)
 
 pub next_strip_spec : {M : Type 1} → statement M

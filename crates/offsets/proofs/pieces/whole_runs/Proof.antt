@@ -32,7 +32,7 @@ abbrev else2 : tie.Else-left-len → tie.Else-c-ne0
 else2 c = c.before.before.before.before.before.before.before
 
 some-axis : (c : tie.Else-c-ne0) → 0 < (entry c).args.l.axis_count
-some-axis c = let n = c.before.before.if-l-eq0.false in omega arith
+some-axis c = let n = c.if-l-eq0.false in omega arith
 
 within : (c : tie.Else-c-ne0) → get_or (entry c).args.c.runs.digits 0 0 < (first_axis (entry c).args.l).extent
 within c =

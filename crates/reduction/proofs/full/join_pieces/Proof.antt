@@ -43,12 +43,11 @@ from-loop c = (loop-told c).before.before
 
 -- the values are of binary64
 values-fit : (c : tie.At-loop-c invariant-loop-c decreases-loop-c) → (i : ℕ) → T (fits binary64 (get_or (from-loop c).args.values.now i nan))
-values-fit c = (loop-told c).before.shared_slice_known-1.given
+values-fit c = (loop-told c).shared_slice_known-1.given
 
 loop-c-init : tie.Need-loop-c-init invariant-loop-c decreases-loop-c
 loop-c-init c =
-    let s = c.before.before in
-    simp (to_z-of_z s.ranges.base) (record { upto = s.requires.2; cursor_is = s.requires.6; small = omega (arith, s.requires.7); sound = s.requires.8; rest = refl })
+    simp (to_z-of_z c.ranges.base) (record { upto = c.requires.2; cursor_is = c.requires.6; small = omega (arith, c.requires.7); sound = c.requires.8; rest = refl })
 
 -- the invariant, over the base itself
 abbrev whole : tie.At-loop-c invariant-loop-c decreases-loop-c → StableProductFloatAcc
@@ -61,7 +60,7 @@ reducing c = let s = from-loop c in simp (to_z-of_z s.fits.base) at c.loop-c.inv
 stride-kept : (c : tie.At-loop-c invariant-loop-c decreases-loop-c) → SFits w64 (from-loop c).args.l.run_stride
 stride-kept c = record { sfits = (loop-told c).struct_told-1.given.1.1.0.1 }
 
-on-range : (c : tie.In-loop-c invariant-loop-c decreases-loop-c) → OnRange (from-loop c.before.before).args.l c.before.before.loop-c.c
+on-range : (c : tie.In-loop-c invariant-loop-c decreases-loop-c) → OnRange (from-loop c.before.before).args.l c.loop-c.c
 on-range c =
     let k = c.before.before in
     let s = from-loop k in
@@ -86,7 +85,7 @@ next-taken c =
     taken s.args.l s.requires.0 s.args.base s.requires.1 s.args.values.now s.requires.5 s.args.end s.requires.3 k.loop-c.c
     ((reducing k).cursor_is t.loop-c-test.true) t.loop-c-test.true c.next_piece-q.result c.next_piece-q.ensures
 
-next_fits : (c : tie.After-struct_told-then-n-lt2-1 invariant-loop-c decreases-loop-c) → SFits w64 c.before.next_piece-q.result.first
+next_fits : (c : tie.After-struct_told-then-n-lt2-1 invariant-loop-c decreases-loop-c) → SFits w64 c.next_piece-q.result.first
 next_fits c = record { sfits = c.struct_told-then-n-lt2-1.given.0.1 }
 
 reduce_piece-b-requires : tie.Need-reduce_piece-b-requires invariant-loop-c decreases-loop-c
@@ -98,7 +97,7 @@ reduce_piece-b-requires c κs =
 
 -- what the next piece gave
 next-worked : (c : tie.After-reduce_piece-b invariant-loop-c decreases-loop-c) → let t = c.before.before.before.before.before.before.before in
-    let p = c.before.before.next_piece-q.result in
+    let p = c.next_piece-q.result in
     let s = from-loop t in
     c.reduce_piece-b.result ≡ worked (eq_z s.args.l.run_stride (pos 1)) (strided s.args.values.now p.first s.args.l.run_stride p.len)
 next-worked c =
@@ -119,7 +118,7 @@ loop-c-smaller-then-n-lt2 : tie.Need-loop-c-smaller-then-n-lt2 invariant-loop-c 
 loop-c-smaller-then-n-lt2 c =
     let n = c.before.before.before.before in
     let p = next-taken n in
-    omega (arith, n.before.before.before.loop-c-test.true, p.next_at, p.some_len)
+    omega (arith, n.loop-c-test.true, p.next_at, p.some_len)
 
 loop-c-preserved-then-n-lt2 : tie.Need-loop-c-preserved-then-n-lt2 invariant-loop-c decreases-loop-c
 loop-c-preserved-then-n-lt2 c =
@@ -129,22 +128,22 @@ loop-c-preserved-then-n-lt2 c =
     let s = from-loop k in
     simp (to_z-of_z s.fits.base)
     (reducing-more s.args.l s.args.base s.args.values.now s.args.end k.loop-c.c n.next_piece-q.result (next-taken n)
-    w.reduce_piece-b.result (next-worked w) (values-fit k) (whole k) k.loop-c.acc (reducing k) c.before.stable_float_combine-acc.result
-    c.before.stable_float_combine-acc.ensures)
+    w.reduce_piece-b.result (next-worked w) (values-fit k) (whole k) k.loop-c.acc (reducing k) c.stable_float_combine-acc.result
+    c.stable_float_combine-acc.ensures)
 
 -- ---- a strip
 abbrev strip-loop : tie.Else-n-lt2 invariant-loop-c decreases-loop-c → tie.At-loop-c invariant-loop-c decreases-loop-c
 strip-loop c = c.before.before.before.before
 
 -- what lies ahead of the cursor
-ahead : (c : tie.Else-n-lt2 invariant-loop-c decreases-loop-c) → let k = strip-loop c in let l = (from-loop k).args.l in let n = c.before.whole_runs-n.result in
+ahead : (c : tie.Else-n-lt2 invariant-loop-c decreases-loop-c) → let k = strip-loop c in let l = (from-loop k).args.l in let n = c.whole_runs-n.result in
     (0 < l.axis_count) × (k.loop-c.c.at % l.run_len ≡ 0) × (k.loop-c.c.at / l.run_len % (first_axis l).extent + n ≤ (first_axis l).extent)
     × (k.loop-c.c.at + n * l.run_len ≤ (from-loop k).args.end)
-ahead c = c.before.whole_runs-n.ensures (omega (arith, c.if-n-lt2.false))
+ahead c = c.whole_runs-n.ensures (omega (arith, c.if-n-lt2.false))
 
 strip-cursor-is : (c : tie.Else-n-lt2 invariant-loop-c decreases-loop-c)
     → let k = strip-loop c in let s = from-loop k in k.loop-c.c ≡ range_at s.args.l s.args.base k.loop-c.c.at
-strip-cursor-is c = (reducing (strip-loop c)).cursor_is c.before.before.loop-c-test.true
+strip-cursor-is c = (reducing (strip-loop c)).cursor_is c.loop-c-test.true
 
 at-fits : (c : tie.Else-n-lt2 invariant-loop-c decreases-loop-c) → SFits w64 (strip-loop c).loop-c.c.runs.source_offset
 at-fits c =
@@ -164,7 +163,7 @@ reduce_strip-acc-requires c κs =
     let e = c.before.before.before.before in
     let k = strip-loop e in
     let s = from-loop k in
-    let n = e.before.whole_runs-n.result in
+    let n = e.whole_runs-n.result in
     let r = reducing k in
     let a = ahead e in
     let len = s.args.l.run_len in
@@ -183,21 +182,21 @@ reduce_strip-acc-requires c κs =
 -- the strip's product, and the cursor behind it
 strip-is : (c : tie.After-reduce_strip-acc invariant-loop-c decreases-loop-c) → let e = c.before.before.before.before.before in let k = strip-loop e in let s = from-loop k in
     c.reduce_strip-acc.result
-    ≡ strip s.args.values.now (first_axis s.args.l).source_step s.args.l.run_stride s.args.l.run_len e.before.whole_runs-n.result
+    ≡ strip s.args.values.now (first_axis s.args.l).source_step s.args.l.run_stride s.args.l.run_len e.whole_runs-n.result
     k.loop-c.c.runs.source_offset k.loop-c.acc
 strip-is c =
     let t = c.before.before.before.before.before in
     simp (to_z-of_z (at-fits t), to_z-of_z (step_fits c.before), to_z-of_z (stride-kept (strip-loop t))) at c.reduce_strip-acc.ensures
 
 overflow_sub-n : tie.Need-overflow_sub-n invariant-loop-c decreases-loop-c
-overflow_sub-n c = let e = c.before.before.before.before.before in omega (arith, e.if-n-lt2.false)
+overflow_sub-n c = omega (arith, c.if-n-lt2.false)
 
 skip_runs-last-requires : tie.Need-skip_runs-last-requires invariant-loop-c decreases-loop-c
 skip_runs-last-requires c κs =
     let e = c.before.before.before.before.before in
     let k = strip-loop e in
     let s = from-loop k in
-    let n = e.before.whole_runs-n.result in
+    let n = e.whole_runs-n.result in
     let a = ahead e in
     let m : (n - 1) * s.args.l.run_len ≤ n * s.args.l.run_len = mul-le-mul_right s.args.l.run_len (omega arith) in (
       s.requires.0,
@@ -216,7 +215,7 @@ next_piece-q-requires-else-n-lt2 c κs =
     let s = from-loop k in
     let a = ahead e in
     let o = on-last s.args.l s.requires.0 s.args.base s.requires.1 s.args.end k.loop-c.c
-    (strip-cursor-is e) e.before.whole_runs-n.result a.0 a.1 a.2 a.3 (omega (arith, e.if-n-lt2.false)) c.Skip-runs.result
+    (strip-cursor-is e) e.whole_runs-n.result a.0 a.1 a.2 a.3 (omega (arith, e.if-n-lt2.false)) c.Skip-runs.result
     c.Skip-runs.ensures in
     (s.requires.0, o.0, o.1)
 
@@ -226,7 +225,7 @@ strip-from c = c.before.before.before.before.before.before.before
 
 behind : (c : tie.After-next_piece-q-else-n-lt2 invariant-loop-c decreases-loop-c) → let e = strip-from c in let k = strip-loop e in let s = from-loop k in
     let d = c.next_piece-q-else-n-lt2.result.next in
-    (d.at ≡ k.loop-c.c.at + e.before.whole_runs-n.result * s.args.l.run_len) × (d.at < s.args.end → d ≡ range_at s.args.l s.args.base d.at)
+    (d.at ≡ k.loop-c.c.at + e.whole_runs-n.result * s.args.l.run_len) × (d.at < s.args.end → d ≡ range_at s.args.l s.args.base d.at)
 behind c =
     let e = strip-from c in
     let k = strip-loop e in
@@ -234,7 +233,7 @@ behind c =
     let a = ahead e in
     behind-strip s.args.l s.requires.0 s.args.base s.requires.1 s.args.end k.loop-c.c
     (strip-cursor-is e)
-    e.before.whole_runs-n.result a.0 a.1 a.2 a.3 (omega (arith, e.if-n-lt2.left)) c.before.Skip-runs.result c.before.Skip-runs.ensures
+    e.whole_runs-n.result a.0 a.1 a.2 a.3 (omega (arith, e.if-n-lt2.left)) c.Skip-runs.result c.Skip-runs.ensures
     c.next_piece-q-else-n-lt2.result c.next_piece-q-else-n-lt2.ensures
 
 loop-c-smaller : tie.Need-loop-c-smaller invariant-loop-c decreases-loop-c
@@ -242,11 +241,11 @@ loop-c-smaller c =
     let e = strip-from c.before in
     let k = strip-loop e in
     let s = from-loop k in
-    let n = e.before.whole_runs-n.result in
+    let n = e.whole_runs-n.result in
     let len = s.args.l.run_len in
     let one : 1 ≤ n = omega (arith, e.if-n-lt2.left) in
     let m : 1 * len ≤ n * len = mul-le-mul_right len one in
-    omega (arith, e.before.before.loop-c-test.taken, (behind c.before).0, m, run-some s.args.l s.requires.0)
+    omega (arith, e.loop-c-test.taken, (behind c.before).0, m, run-some s.args.l s.requires.0)
 
 loop-c-preserved : tie.Need-loop-c-preserved invariant-loop-c decreases-loop-c
 loop-c-preserved c =
@@ -258,7 +257,7 @@ loop-c-preserved c =
     let a = ahead e in
     simp (to_z-of_z s.fits.base)
     (reducing-strip s.args.l s.requires.0 s.args.base s.requires.1 s.args.values.now s.requires.5 s.args.end s.requires.3 k.loop-c.c
-    (strip-cursor-is e) e.before.whole_runs-n.result a.0 a.1 a.2 a.3 (values-fit k) (whole k) k.loop-c.acc (reducing k)
+    (strip-cursor-is e) e.whole_runs-n.result a.0 a.1 a.2 a.3 (values-fit k) (whole k) k.loop-c.acc (reducing k)
     r.reduce_strip-acc.result (strip-is r) p.next_piece-q-else-n-lt2.result.next (behind p).0 (behind p).1)
 
 returns : tie.Need-returns invariant-loop-c decreases-loop-c

@@ -42,26 +42,23 @@ returns-then-q c =
     ap (λ (z : ℤ). record { m = r.short_piece-q.result.m; e = z; bad = false }) (to_z-of_z w64 r.short_piece-q.result.e fits)
     ∙ e
     ∙ unmarked-worked (eq_z s.args.stride (pos 1)) piece
-    (strided-values xs q.before.before.shared_slice_known-1.given s.args.at s.args.stride s.args.len)
+    (strided-values xs q.shared_slice_known-1.given s.args.at s.args.stride s.args.len)
     (ap (λ (a : StableProductFloatAcc). a.bad) (sym e))
 
 -- ---- any other
 reduce_piece-b-requires : tie.Need-reduce_piece-b-requires
 reduce_piece-b-requires c κs =
-    let s = c.before.before in
-    simp (to_z-of_z w64 s.args.at s.ranges.at, to_z-of_z w64 s.args.stride s.ranges.stride) (s.requires.0, s.requires.1, s.requires.2)
+    simp (to_z-of_z w64 c.args.at c.ranges.at, to_z-of_z w64 c.args.stride c.ranges.stride) (c.requires.0, c.requires.1, c.requires.2)
 
 held_longer-requires : tie.Need-held_longer-requires
 held_longer-requires c κs = search rules
 
-product : (c : tie.After-struct_told-2-1) → let b = c.before.reduce_piece-b.result in let s = c.before.before.before.before in
-    record { m = b.m; e = to_z w64 (of_z w64 b.e); bad = b.bad }
-    ≡ worked (eq_z s.args.stride (pos 1)) (strided s.args.values.now s.args.at s.args.stride s.args.len)
+product : (c : tie.After-struct_told-2-1) → let b = c.reduce_piece-b.result in record { m = b.m; e = to_z w64 (of_z w64 b.e); bad = b.bad }
+    ≡ worked (eq_z c.args.stride (pos 1)) (strided c.args.values.now c.args.at c.args.stride c.args.len)
 product c =
     let r = c.before in
-    let s = r.before.before.before in
     handed r.reduce_piece-b.result (record { sfits = c.struct_told-2-1.given.1.0.1 })
-    ∙ simp (to_z-of_z w64 s.args.at s.ranges.at, to_z-of_z w64 s.args.stride s.ranges.stride) at r.reduce_piece-b.ensures
+    ∙ simp (to_z-of_z w64 r.args.at r.ranges.at, to_z-of_z w64 r.args.stride r.ranges.stride) at r.reduce_piece-b.ensures
 
 returns-then-hold-eq0-2 : tie.Need-returns-then-hold-eq0-2
 returns-then-hold-eq0-2 c = product c.before.before

@@ -30,43 +30,37 @@ range_code-code-requires c κs =
     let e = c.compile-compiled.ensures in (ap (λ (r : Compiled). r.code) e, ap (λ (r : Compiled). r.traversal.total) e)
 
 -- the range's code, over the arguments themselves
-code_of : (c : tie.After-range_code-code) → let s = c.before.before.before.before in
-    c.range_code-code.result
-    ≡ range_code s.args.sizes.now s.args.strides.now s.args.base s.args.start s.args.end (length s.args.values.now)
-code_of c = simp (to_z-of_z c.before.before.before.before.ranges.base) at c.range_code-code.ensures
+code_of : (c : tie.After-range_code-code) → c.range_code-code.result
+    ≡ range_code c.args.sizes.now c.args.strides.now c.args.base c.args.start c.args.end (length c.args.values.now)
+code_of c = simp (to_z-of_z c.ranges.base) at c.range_code-code.ensures
 
 -- an accepted range
-accepted : (c : tie.Else-code-ne0) → let s = c.before.before.before.before.before in
-    Checked s.args.sizes.now s.args.strides.now s.args.base s.args.start s.args.end (length s.args.values.now)
-    c.before.before.compile-compiled.result.traversal
+accepted : (c : tie.Else-code-ne0) → Checked c.args.sizes.now c.args.strides.now c.args.base c.args.start c.args.end (length c.args.values.now)
+    c.compile-compiled.result.traversal
 accepted c =
     let m = c.before in
-    let k = m.before in
-    checked _ _ _ _ _ _ k.compile-compiled.result k.compile-compiled.ensures m.range_code-code.result (code_of m) c.if-code-ne0.false
+    checked _ _ _ _ _ _ m.compile-compiled.result m.compile-compiled.ensures m.range_code-code.result (code_of m) c.if-code-ne0.false
 
 returns-then-code-ne0 : tie.Need-returns-then-code-ne0
 returns-then-code-ne0 c =
     let m = c.before in
-    let s = m.before.before.before.before in
     ap refusal (code_of m)
-    ∙ sym (reduce-refused s.args.sizes.now s.args.strides.now s.args.base s.args.start s.args.end s.args.values.now
+    ∙ sym (reduce-refused m.args.sizes.now m.args.strides.now m.args.base m.args.start m.args.end m.args.values.now
     (λ e. c.if-code-ne0.true (code_of m ∙ e)))
 
 reduce_full_range-acc-requires : tie.Need-reduce_full_range-acc-requires
 reduce_full_range-acc-requires c κs =
-    let s = c.before.before.before.before.before in
     let a = accepted c in
-    simp (to_z-of_z s.ranges.base) (a.traversal, a.bounded, a.forward, a.inside, a.few, a.within)
+    simp (to_z-of_z c.ranges.base) (a.traversal, a.bounded, a.forward, a.inside, a.few, a.within)
 
 returns : tie.Need-returns
 returns c =
     let b = c.before in
-    let s = b.before.before.before.before.before in
     ap (λ (a : StableProductFloatAcc). answer_of (Acc a))
-    (simp (to_z-of_z s.ranges.base) at c.reduce_full_range-acc.ensures
-    ∙ ap (λ (l : FullTraversal). joined_pieces (pieces_of l s.args.base s.args.values.now s.args.start s.args.end)) (accepted b).is)
+    (simp (to_z-of_z b.ranges.base) at c.reduce_full_range-acc.ensures
+    ∙ ap (λ (l : FullTraversal). joined_pieces (pieces_of l b.args.base b.args.values.now b.args.start b.args.end)) (accepted b).is)
     ∙ sym
-    (reduce-accepted s.args.sizes.now s.args.strides.now s.args.base s.args.start s.args.end s.args.values.now (accepted b).code)
+    (reduce-accepted b.args.sizes.now b.args.strides.now b.args.base b.args.start b.args.end b.args.values.now (accepted b).code)
 
 pub reduce_spec : {M : Type 1} → statement M
 reduce_spec = tie.close (tie.spec compile-compiled-requires range_code-code-requires returns-then-code-ne0 reduce_full_range-acc-requires returns)

@@ -18,69 +18,63 @@ use Rattle.reduction.proofs.full.reduce_runs.Statement.{statement}
 use Rattle.reduction.proofs.full.reduce_runs.Tie as tie
 
 begin-requires : tie.Need-begin-requires
-begin-requires c κs = let s = c.before in simp (to_z-of_z s.ranges.base) (s.requires.0, s.requires.1)
+begin-requires c κs = simp (to_z-of_z c.ranges.base) (c.requires.0, c.requires.1)
 
-began : (c : tie.After-begin) → let s = c.before.before in c.begin.result ≡ range_at s.args.l s.args.base s.args.start
-began c = simp (to_z-of_z c.before.before.ranges.base) at c.begin.ensures
+began : (c : tie.After-begin) → c.begin.result ≡ range_at c.args.l c.args.base c.args.start
+began c = simp (to_z-of_z c.ranges.base) at c.begin.ensures
 
-start_is : (c : tie.After-begin) → c.begin.result.at ≡ c.before.before.args.start
+start_is : (c : tie.After-begin) → c.begin.result.at ≡ c.args.start
 unfolding range_at
 start_is c = ap (λ (x : RangeCursor). x.at) (began c)
 
-cursor-is : (c : tie.After-begin) → let s = c.before.before in c.begin.result ≡ range_at s.args.l s.args.base c.begin.result.at
-cursor-is c = let s = c.before.before in began c ∙ ap (range_at s.args.l s.args.base) (sym (start_is c))
+cursor-is : (c : tie.After-begin) → c.begin.result ≡ range_at c.args.l c.args.base c.begin.result.at
+cursor-is c = began c ∙ ap (range_at c.args.l c.args.base) (sym (start_is c))
 
-before-end : (c : tie.After-begin) → c.begin.result.at < c.before.before.args.end
-before-end c = omega (arith, start_is c, c.before.before.requires.2)
+before-end : (c : tie.After-begin) → c.begin.result.at < c.args.end
+before-end c = omega (arith, start_is c, c.requires.2)
 
 next_piece-p-requires : tie.Need-next_piece-p-requires
 next_piece-p-requires c κs =
-    let s = c.before.before in
-    (s.requires.0, before-end c, record { base = s.args.base; bounded = s.requires.1; cursor_is = cursor-is c })
+    (c.requires.0, before-end c, record { base = c.args.base; bounded = c.requires.1; cursor_is = cursor-is c })
 
 first_taken : (c : tie.After-next_piece-p)
-    → let s = c.before.before.before in
-    PieceTaken s.args.l s.args.base s.args.values.now s.args.end c.before.begin.result c.next_piece-p.result
+    → PieceTaken c.args.l c.args.base c.args.values.now c.args.end c.begin.result c.next_piece-p.result
 first_taken c =
-    let s = c.before.before.before in
-    taken s.args.l s.requires.0 s.args.base s.requires.1 s.args.values.now s.requires.5 s.args.end s.requires.3 c.before.begin.result
+    taken c.args.l c.requires.0 c.args.base c.requires.1 c.args.values.now c.requires.5 c.args.end c.requires.3 c.begin.result
     (cursor-is c.before) (before-end c.before) c.next_piece-p.result c.next_piece-p.ensures
 
-first_fits : (c : tie.After-struct_told-2-1) → SFits w64 c.before.before.next_piece-p.result.first
-first_fits c = record { sfits = c.before.struct_told-1.given.0.1 }
+first_fits : (c : tie.After-struct_told-2-1) → SFits w64 c.next_piece-p.result.first
+first_fits c = record { sfits = c.struct_told-1.given.0.1 }
 
-stride-fits : (c : tie.After-struct_told-2-1) → SFits w64 c.before.before.before.before.before.args.l.run_stride
+stride-fits : (c : tie.After-struct_told-2-1) → SFits w64 c.args.l.run_stride
 stride-fits c = record { sfits = c.struct_told-2-1.given.1.1.0.1 }
 
 reduce_piece-first-requires : tie.Need-reduce_piece-first-requires
 reduce_piece-first-requires c κs =
     let n = c.before.before in
-    let s = n.before.before.before in
     let p = first_taken n in
-    simp (to_z-of_z (first_fits c), to_z-of_z (stride-fits c)) (p.some_len, p.inside, omega (arith, p.ends, s.requires.3, s.requires.4))
+    simp (to_z-of_z (first_fits c), to_z-of_z (stride-fits c)) (p.some_len, p.inside, omega (arith, p.ends, n.requires.3, n.requires.4))
 
 first-worked : (c : tie.After-reduce_piece-first) → let n = c.before.before.before in
-    let s = n.before.before.before in
     let p = n.next_piece-p.result in
-    c.reduce_piece-first.result ≡ worked (eq_z s.args.l.run_stride (pos 1)) (strided s.args.values.now p.first s.args.l.run_stride p.len)
+    c.reduce_piece-first.result ≡ worked (eq_z n.args.l.run_stride (pos 1)) (strided n.args.values.now p.first n.args.l.run_stride p.len)
 first-worked c = simp (to_z-of_z (first_fits c.before), to_z-of_z (stride-fits c.before)) at c.reduce_piece-first.ensures
 
 join_pieces-requires : tie.Need-join_pieces-requires
 join_pieces-requires c κs =
     let n = c.before.before.before in
-    let s = n.before.before.before in
-    let v = n.before.before.shared_slice_known-1.given in
+    let v = n.shared_slice_known-1.given in
     let p = first_taken n in
     let m = near _ _ _ _ _ _ p c.reduce_piece-first.result (first-worked c) v in
-    simp (to_z-of_z s.ranges.base) (
-      s.requires.0,
-      s.requires.1,
+    simp (to_z-of_z n.ranges.base) (
+      n.requires.0,
+      n.requires.1,
       omega (arith, p.next_at, p.ends),
-      s.requires.3,
-      s.requires.4,
-      s.requires.5,
+      n.requires.3,
+      n.requires.4,
+      n.requires.5,
       p.next_cursor_is,
-      omega (arith, m, p.ends, s.requires.3, s.requires.4),
+      omega (arith, m, p.ends, n.requires.3, n.requires.4),
       piece-sound _ _ _ _ _ _ p c.reduce_piece-first.result (first-worked c) v,
     )
 
@@ -88,11 +82,10 @@ returns : tie.Need-returns
 returns c =
     let r = c.before in
     let n = r.before.before.before in
-    let s = n.before.before.before in
-    simp (to_z-of_z s.ranges.base) at c.join_pieces.ensures
-    ∙ joined-first s.args.l s.args.base s.args.values.now s.args.end n.before.begin.result n.next_piece-p.result (first_taken n)
-    r.reduce_piece-first.result (first-worked r) n.before.before.shared_slice_known-1.given
-    ∙ ap (λ k. joined_pieces (pieces_of s.args.l s.args.base s.args.values.now k s.args.end)) (start_is n.before)
+    simp (to_z-of_z n.ranges.base) at c.join_pieces.ensures
+    ∙ joined-first n.args.l n.args.base n.args.values.now n.args.end n.begin.result n.next_piece-p.result (first_taken n)
+    r.reduce_piece-first.result (first-worked r) n.shared_slice_known-1.given
+    ∙ ap (λ k. joined_pieces (pieces_of n.args.l n.args.base n.args.values.now k n.args.end)) (start_is n.before)
 
 pub reduce_runs_spec : {M : Type 1} → statement M
 reduce_runs_spec = tie.close (tie.spec begin-requires next_piece-p-requires reduce_piece-first-requires join_pieces-requires returns)

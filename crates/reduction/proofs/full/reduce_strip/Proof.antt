@@ -43,86 +43,78 @@ short_least-least-requires c κs = search rules
 
 loop-j-init : tie.Need-loop-j-init invariant-loop-j decreases-loop-j
 loop-j-init c =
-    let s = c.before.before in
-    let f = to_z w64 (of_z w64 s.args.first) in
-    let d = to_z w64 (of_z w64 s.args.step) in (
+    let f = to_z w64 (of_z w64 c.args.first) in
+    let d = to_z w64 (of_z w64 c.args.step) in (
       omega arith,
       λ h. place-first f d,
-      omega (arith, s.requires.3),
-      s.requires.5,
-      strip-first s.args.values.now d (to_z w64 (of_z w64 s.args.stride)) s.args.len s.args.count f s.args.acc,
+      omega (arith, c.requires.3),
+      c.requires.5,
+      strip-first c.args.values.now d (to_z w64 (of_z w64 c.args.stride)) c.args.len c.args.count f c.args.acc,
     )
 
 -- what is required, of the numbers as the code holds them
-inside : (c : tie.In-loop-j invariant-loop-j decreases-loop-j) → let s = c.before.before.before.before in (j : ℕ) → j < s.args.count
-    → PlacesInside (length s.args.values.now) (to_z w64 (of_z w64 s.args.first) +ℤ to_z w64 (of_z w64 s.args.step) *ℤ pos j)
-    (to_z w64 (of_z w64 s.args.stride)) s.args.len
+inside : (c : tie.In-loop-j invariant-loop-j decreases-loop-j) → (j : ℕ) → j < c.args.count
+    → PlacesInside (length c.args.values.now) (to_z w64 (of_z w64 c.args.first) +ℤ to_z w64 (of_z w64 c.args.step) *ℤ pos j)
+    (to_z w64 (of_z w64 c.args.stride)) c.args.len
 inside c =
-    let s = c.before.before.before.before in
-    simp (to_z-of_z w64 s.args.first s.ranges.first, to_z-of_z w64 s.args.step s.ranges.step, to_z-of_z w64 s.args.stride s.ranges.stride)
-    s.requires.4
+    simp (to_z-of_z w64 c.args.first c.ranges.first, to_z-of_z w64 c.args.step c.ranges.step, to_z-of_z w64 c.args.stride c.ranges.stride)
+    c.requires.4
 
 -- the next run
 next_run-r-requires : tie.Need-next_run-r-requires invariant-loop-j decreases-loop-j
 next_run-r-requires c κs =
-    let t = c.before in
-    let s = t.before.before.before in (
-      s.requires.0,
-      subst (λ (z : ℤ). PlacesInside (length s.args.values.now) z (to_z w64 (of_z w64 s.args.stride)) s.args.len)
+    let t = c.before in (
+      t.requires.0,
+      subst (λ (z : ℤ). PlacesInside (length t.args.values.now) z (to_z w64 (of_z w64 t.args.stride)) t.args.len)
           (sym (t.loop-j.invariant.1 c.loop-j-test.true)) (inside c t.loop-j.j c.loop-j-test.true),
-      s.requires.1,
-      t.before.short_least-least.ensures,
+      t.requires.1,
+      t.short_least-least.ensures,
     )
 
 -- its product, as the code hands it on, at the place of run j
 abbrev product : tie.After-struct_told-1 invariant-loop-j decreases-loop-j → StableProductFloatAcc
-product c = let r = c.before.next_run-r.result in record { m = r.m; e = to_z w64 (of_z w64 r.e); bad = r.bad }
+product c = let r = c.next_run-r.result in record { m = r.m; e = to_z w64 (of_z w64 r.e); bad = r.bad }
 
 run_is : (c : tie.After-struct_told-1 invariant-loop-j decreases-loop-j)
     → let t = c.before.before.before in
-    let s = t.before.before.before in
     product c
-    ≡ worked (eq_z (to_z w64 (of_z w64 s.args.stride)) (pos 1))
-    (strided s.args.values.now (to_z w64 (of_z w64 s.args.first) +ℤ to_z w64 (of_z w64 s.args.step) *ℤ pos t.loop-j.j)
-    (to_z w64 (of_z w64 s.args.stride)) s.args.len)
+    ≡ worked (eq_z (to_z w64 (of_z w64 t.args.stride)) (pos 1))
+    (strided t.args.values.now (to_z w64 (of_z w64 t.args.first) +ℤ to_z w64 (of_z w64 t.args.step) *ℤ pos t.loop-j.j)
+    (to_z w64 (of_z w64 t.args.stride)) t.args.len)
 run_is c =
     let r = c.before in
     let t = r.before.before in
-    let s = t.before.before.before in
     handed (run_acc r.next_run-r.result) (record { sfits = c.struct_told-1.given.1.0.1 })
     ∙ r.next_run-r.ensures
-    ∙ ap (λ (z : ℤ). worked (eq_z (to_z w64 (of_z w64 s.args.stride)) (pos 1))
-    (strided s.args.values.now z (to_z w64 (of_z w64 s.args.stride)) s.args.len))
-    (t.loop-j.invariant.1 r.before.loop-j-test.true)
+    ∙ ap (λ (z : ℤ). worked (eq_z (to_z w64 (of_z w64 t.args.stride)) (pos 1))
+    (strided t.args.values.now z (to_z w64 (of_z w64 t.args.stride)) t.args.len))
+    (t.loop-j.invariant.1 r.loop-j-test.true)
 
-near : (c : tie.After-struct_told-1 invariant-loop-j decreases-loop-j) → nat_abs (product c).e ≤ in_piece * c.before.before.before.before.before.before.args.len
+near : (c : tie.After-struct_told-1 invariant-loop-j decreases-loop-j) → nat_abs (product c).e ≤ in_piece * c.args.len
 near c =
     let k = c.before.before.before.before.before in
-    let s = k.before in
-    subst (λ (a : StableProductFloatAcc). nat_abs a.e ≤ in_piece * s.args.len) (sym (run_is c))
-    (strided-near _ k.shared_slice_known-1.given _ _ s.args.len s.requires.0)
+    subst (λ (a : StableProductFloatAcc). nat_abs a.e ≤ in_piece * k.args.len) (sym (run_is c))
+    (strided-near _ k.shared_slice_known-1.given _ _ k.args.len k.requires.0)
 
 run_sound : (c : tie.After-struct_told-1 invariant-loop-j decreases-loop-j) → Sound (product c)
 run_sound c =
     let t = c.before.before.before in
     let k = t.before.before in
-    let s = k.before in
-    let d = to_z w64 (of_z w64 s.args.stride) in
-    let z = to_z w64 (of_z w64 s.args.first) +ℤ to_z w64 (of_z w64 s.args.step) *ℤ pos t.loop-j.j in
+    let d = to_z w64 (of_z w64 k.args.stride) in
+    let z = to_z w64 (of_z w64 k.args.first) +ℤ to_z w64 (of_z w64 k.args.step) *ℤ pos t.loop-j.j in
     subst Sound (sym (run_is c))
-    (worked-sound (record { in_blocks = eq_z d (pos 1); rates = strided s.args.values.now z d s.args.len })
-    (strided-values s.args.values.now k.shared_slice_known-1.given z d s.args.len))
+    (worked-sound (record { in_blocks = eq_z d (pos 1); rates = strided k.args.values.now z d k.args.len })
+    (strided-values k.args.values.now k.shared_slice_known-1.given z d k.args.len))
 
 -- the values so far are at most those of the strip
-so_far : (c : tie.In-loop-j invariant-loop-j decreases-loop-j) → c.before.loop-j.j * c.before.before.before.before.args.len ≤ 2 ^ 40
-so_far c = let s = c.before.before.before.before in le_trans (mul-le-mul_right s.args.len c.before.loop-j.invariant.0) s.requires.2
+so_far : (c : tie.In-loop-j invariant-loop-j decreases-loop-j) → c.loop-j.j * c.args.len ≤ 2 ^ 40
+so_far c = le_trans (mul-le-mul_right c.args.len c.loop-j.invariant.0) c.requires.2
 
 combine_units-a-requires : tie.Need-combine_units-a-requires invariant-loop-j decreases-loop-j
 combine_units-a-requires c κs =
     let q = c.before.before in
     let t = q.before in
-    let s = t.before.before.before in
-    (omega (arith, t.loop-j.invariant.2, so_far q), omega (arith, near c, s.requires.1), t.loop-j.invariant.3.in_unit, (run_sound c).in_unit)
+    (omega (arith, t.loop-j.invariant.2, so_far q), omega (arith, near c, t.requires.1), t.loop-j.invariant.3.in_unit, (run_sound c).in_unit)
 
 overflow_add-j : tie.Need-overflow_add-j invariant-loop-j decreases-loop-j
 overflow_add-j c = omega arith
@@ -130,41 +122,36 @@ overflow_add-j c = omega arith
 -- the place a step further
 next : (c : tie.Then-j-count invariant-loop-j decreases-loop-j)
     → let t = c.before.before.before.before.before in
-    let s = t.before.before.before in
-    to_z w64 t.loop-j.at-bits +ℤ to_z w64 (of_z w64 s.args.step)
-    ≡ to_z w64 (of_z w64 s.args.first) +ℤ to_z w64 (of_z w64 s.args.step) *ℤ pos (t.loop-j.j + 1)
+    to_z w64 t.loop-j.at-bits +ℤ to_z w64 (of_z w64 t.args.step)
+    ≡ to_z w64 (of_z w64 t.args.first) +ℤ to_z w64 (of_z w64 t.args.step) *ℤ pos (t.loop-j.j + 1)
 next c =
     let t = c.before.before.before.before.before in
-    let s = t.before.before.before in
-    ap (λ (z : ℤ). z +ℤ to_z w64 (of_z w64 s.args.step)) (t.loop-j.invariant.1 c.before.before.before.before.loop-j-test.true)
-    ∙ place-next (to_z w64 (of_z w64 s.args.first)) (to_z w64 (of_z w64 s.args.step)) t.loop-j.j
+    ap (λ (z : ℤ). z +ℤ to_z w64 (of_z w64 t.args.step)) (t.loop-j.invariant.1 c.loop-j-test.true)
+    ∙ place-next (to_z w64 (of_z w64 t.args.first)) (to_z w64 (of_z w64 t.args.step)) t.loop-j.j
 
 overflow_add-at : tie.Need-overflow_add-at invariant-loop-j decreases-loop-j
 overflow_add-at c =
     let t = c.before.before.before.before.before in
-    let s = t.before.before.before in
-    subst (SFits w64) (sym (next c)) (place-inside-fits (length s.args.values.now) _ (to_z w64 (of_z w64 s.args.stride)) s.args.len
-    (inside c.before.before.before.before (t.loop-j.j + 1) c.if-j-count.true) s.requires.0 (omega (arith, s.well_formed.0.1)))
+    subst (SFits w64) (sym (next c)) (place-inside-fits (length t.args.values.now) _ (to_z w64 (of_z w64 t.args.stride)) t.args.len
+    (inside c.before.before.before.before (t.loop-j.j + 1) c.if-j-count.true) t.requires.0 (omega (arith, t.well_formed.0.1)))
 
 -- the run is in
-more : (c : tie.After-combine_units-a invariant-loop-j decreases-loop-j) → let t = c.before.before.before.before in let s = t.before.before.before in
-    (nat_abs c.combine_units-a.result.e ≤ 2 ^ 60 + in_list * ((t.loop-j.j + 1) * s.args.len))
+more : (c : tie.After-combine_units-a invariant-loop-j decreases-loop-j) → let t = c.before.before.before.before in (nat_abs c.combine_units-a.result.e ≤ 2 ^ 60 + in_list * ((t.loop-j.j + 1) * t.args.len))
     × Sound c.combine_units-a.result
-    × (strip s.args.values.now (to_z w64 (of_z w64 s.args.step)) (to_z w64 (of_z w64 s.args.stride)) s.args.len
-    (s.args.count - (t.loop-j.j + 1)) (to_z w64 (of_z w64 s.args.first) +ℤ to_z w64 (of_z w64 s.args.step) *ℤ pos (t.loop-j.j + 1))
+    × (strip t.args.values.now (to_z w64 (of_z w64 t.args.step)) (to_z w64 (of_z w64 t.args.stride)) t.args.len
+    (t.args.count - (t.loop-j.j + 1)) (to_z w64 (of_z w64 t.args.first) +ℤ to_z w64 (of_z w64 t.args.step) *ℤ pos (t.loop-j.j + 1))
     c.combine_units-a.result
-    ≡ strip s.args.values.now (to_z w64 (of_z w64 s.args.step)) (to_z w64 (of_z w64 s.args.stride)) s.args.len s.args.count
-    (to_z w64 (of_z w64 s.args.first)) s.args.acc)
+    ≡ strip t.args.values.now (to_z w64 (of_z w64 t.args.step)) (to_z w64 (of_z w64 t.args.stride)) t.args.len t.args.count
+    (to_z w64 (of_z w64 t.args.first)) t.args.acc)
 more c =
     let t = c.before.before.before.before in
-    let s = t.before.before.before in
     let b = product c.before in
     let e = c.combine_units-a.ensures in (
-      subst (λ (a : StableProductFloatAcc). nat_abs a.e ≤ 2 ^ 60 + in_list * ((t.loop-j.j + 1) * s.args.len)) (sym e)
-          (le_trans (combined-size t.loop-j.a b) (omega (arith, t.loop-j.invariant.2, near c.before, s.requires.0))),
+      subst (λ (a : StableProductFloatAcc). nat_abs a.e ≤ 2 ^ 60 + in_list * ((t.loop-j.j + 1) * t.args.len)) (sym e)
+          (le_trans (combined-size t.loop-j.a b) (omega (arith, t.loop-j.invariant.2, near c.before, t.requires.0))),
       subst Sound (sym e) (combined-sound t.loop-j.a b t.loop-j.invariant.3 (run_sound c.before)),
-      strip-next s.args.values.now _ _ s.args.len s.args.count t.loop-j.j (to_z w64 (of_z w64 s.args.first)) t.loop-j.a
-          c.combine_units-a.result c.before.before.before.loop-j-test.true (e ∙ ap (combined t.loop-j.a) (run_is c.before))
+      strip-next t.args.values.now _ _ t.args.len t.args.count t.loop-j.j (to_z w64 (of_z w64 t.args.first)) t.loop-j.a
+          c.combine_units-a.result c.loop-j-test.true (e ∙ ap (combined t.loop-j.a) (run_is c.before))
           ∙ t.loop-j.invariant.4,
     )
 
@@ -174,9 +161,8 @@ loop-j-smaller-then-j-count c = omega arith
 loop-j-preserved-then-j-count : tie.Need-loop-j-preserved-then-j-count invariant-loop-j decreases-loop-j
 loop-j-preserved-then-j-count c =
     let t = c.before.before.before.before.before in
-    let s = t.before.before.before in
     let m = more c.before in
-    (omega arith, λ h. to_z-of_z w64 (to_z w64 t.loop-j.at-bits +ℤ to_z w64 (of_z w64 s.args.step)) (overflow_add-at c) ∙ next c, m.0, m.1, m.2)
+    (omega arith, λ h. to_z-of_z w64 (to_z w64 t.loop-j.at-bits +ℤ to_z w64 (of_z w64 t.args.step)) (overflow_add-at c) ∙ next c, m.0, m.1, m.2)
 
 loop-j-smaller : tie.Need-loop-j-smaller invariant-loop-j decreases-loop-j
 loop-j-smaller c = omega arith
@@ -189,13 +175,12 @@ returns : tie.Need-returns invariant-loop-j decreases-loop-j
 unfolding strip
 returns c =
     let t = c.before in
-    let s = t.before.before.before in
-    let f = to_z w64 (of_z w64 s.args.first) in
-    let d = to_z w64 (of_z w64 s.args.step) in
-    let e = sym (ap (λ (n : ℕ). strip s.args.values.now d (to_z w64 (of_z w64 s.args.stride)) s.args.len n (f +ℤ d *ℤ pos t.loop-j.j) t.loop-j.a)
-    (let z : s.args.count - t.loop-j.j ≡ 0 = omega (arith, c.loop-j-test.false) in z))
+    let f = to_z w64 (of_z w64 t.args.first) in
+    let d = to_z w64 (of_z w64 t.args.step) in
+    let e = sym (ap (λ (n : ℕ). strip t.args.values.now d (to_z w64 (of_z w64 t.args.stride)) t.args.len n (f +ℤ d *ℤ pos t.loop-j.j) t.loop-j.a)
+    (let z : t.args.count - t.loop-j.j ≡ 0 = omega (arith, c.loop-j-test.false) in z))
     ∙ t.loop-j.invariant.4 in
-    simp (to_z-of_z w64 s.args.first s.ranges.first, to_z-of_z w64 s.args.step s.ranges.step, to_z-of_z w64 s.args.stride s.ranges.stride) at e
+    simp (to_z-of_z w64 t.args.first t.ranges.first, to_z-of_z w64 t.args.step t.ranges.step, to_z-of_z w64 t.args.stride t.ranges.stride) at e
 
 pub reduce_strip_spec : {M : Type 1} → statement M
 reduce_strip_spec = tie.close (tie.spec invariant-loop-j decreases-loop-j short_least-least-requires loop-j-init next_run-r-requires combine_units-a-requires overflow_add-j overflow_add-at loop-j-smaller-then-j-count loop-j-preserved-then-j-count loop-j-smaller loop-j-preserved returns)

@@ -41,8 +41,7 @@ slice_bounds-answer_offsets-end c = counts _ _ (search rules)
 
 answer_offsets-requires : tie.Need-answer_offsets-requires
 answer_offsets-requires c κs =
-    let read = c.before.before.before.before in
-    let call = read.before.before.before.read_i64s-b in
+    let call = c.read_i64s-b in
     (omega (arith, at_most call.result.count call.new.1.1.0, call.ensures), search rules)
 
 shape_of-out : tie.Need-shape_of-out

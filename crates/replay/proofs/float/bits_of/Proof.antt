@@ -9,7 +9,7 @@ returns-then-value : tie.Need-returns-then-value
 returns-then-value c = search rules
 
 float_to_bits-result : tie.Need-float_to_bits-result
-float_to_bits-result c = number_is c.before.args.value c.if-value.false
+float_to_bits-result c = number_is c.args.value c.if-value.false
 
 returns : tie.Need-returns
 returns c = search rules

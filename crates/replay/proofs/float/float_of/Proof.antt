@@ -15,7 +15,7 @@ returns-then-bits-gt-INFINITE c = search rules
 
 float_from_bits-result : tie.Need-float_from_bits-result
 float_from_bits-result c =
-    let b = c.before.args.bits in
+    let b = c.args.bits in
     subst (λ (t : Bool). T (not t)) (sym (nan_bits_above binary64 b ∙ le-ltb _ _ c.if-bits-gt-INFINITE.false)) tt
 
 returns : tie.Need-returns

@@ -40,8 +40,7 @@ move_down-kept-requires : tie.Need-move_down-kept-requires
 move_down-kept-requires c κs =
     let written = c.before.before in
     let called = written.before.before.before.before in
-    let lent = called.before.before in
-    let a = lent.before.before.before.args in
+    let a = called.args in
     (omega (arith, called.answer_lines-left.ensures, at_most a.count a.buf-1.now), search rules)
 
 shape_of-buf-then-kept-buf : tie.Need-shape_of-buf-then-kept-buf

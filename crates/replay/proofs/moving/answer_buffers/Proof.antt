@@ -47,7 +47,7 @@ slice_bounds-reduce_windows-end-3 c = counts _ _ (search rules)
 
 reduce_windows-requires : tie.Need-reduce_windows-requires
 reduce_windows-requires c κs =
-    let call = c.before.before.before.before.before.before.before.before.before.read_buffers-n in (
+    let call = c.read_buffers-n in (
       omega (arith, at_most call.result.ms call.new.1.1.0, call.ensures.0),
       omega (arith, at_most call.result.es call.new.1.1.1.0, call.ensures.1),
       omega (arith, at_most call.result.bads call.new.1.1.1.1.0, call.ensures.2),

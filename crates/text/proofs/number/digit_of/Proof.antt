@@ -12,10 +12,10 @@ overflow_cast-result : tie.Need-overflow_cast-result
 overflow_cast-result c = search rules
 
 returns-then-byte-le57 : tie.Need-returns-then-byte-le57
-returns-then-byte-le57 c = simp (le-ltb _ _ c.before.if-byte-lt48.false, le-leb _ _ c.if-byte-le57.true)
+returns-then-byte-le57 c = simp (le-ltb _ _ c.if-byte-lt48.false, le-leb _ _ c.if-byte-le57.true)
 
 returns-then-byte-lt97 : tie.Need-returns-then-byte-lt97
-returns-then-byte-lt97 c = simp (le-ltb _ _ c.before.before.if-byte-lt48.false, lt-leb _ _ c.before.if-byte-le57.false, lt-ltb _ _ c.if-byte-lt97.true)
+returns-then-byte-lt97 c = simp (le-ltb _ _ c.if-byte-lt48.false, lt-leb _ _ c.if-byte-le57.false, lt-ltb _ _ c.if-byte-lt97.true)
 
 overflow_sub-result-then-byte-le102 : tie.Need-overflow_sub-result-then-byte-le102
 overflow_sub-result-then-byte-le102 c = search rules
@@ -25,21 +25,19 @@ overflow_cast-result-then-byte-le102 c = search rules
 
 returns-then-byte-le102 : tie.Need-returns-then-byte-le102
 returns-then-byte-le102 c =
-    let no-decimal = c.before.before in
     simp (
-      le-ltb _ _ no-decimal.before.if-byte-lt48.false,
-      lt-leb _ _ no-decimal.if-byte-le57.false,
-      le-ltb _ _ c.before.if-byte-lt97.false,
+      le-ltb _ _ c.if-byte-lt48.false,
+      lt-leb _ _ c.if-byte-le57.false,
+      le-ltb _ _ c.if-byte-lt97.false,
       le-leb _ _ c.if-byte-le102.true,
     )
 
 returns : tie.Need-returns
 returns c =
-    let no-decimal = c.before.before in
     simp (
-      le-ltb _ _ no-decimal.before.if-byte-lt48.false,
-      lt-leb _ _ no-decimal.if-byte-le57.false,
-      le-ltb _ _ c.before.if-byte-lt97.false,
+      le-ltb _ _ c.if-byte-lt48.false,
+      lt-leb _ _ c.if-byte-le57.false,
+      le-ltb _ _ c.if-byte-lt97.false,
       lt-leb _ _ c.if-byte-le102.false,
     )
 

@@ -37,15 +37,14 @@ returns-in_default : tie.Need-returns-in_default invariant-loop-i decreases-loop
 returns-in_default c =
     let called = c.before.before in
     let tested = called.before.before in
-    let at-loop = tested.before in
-    let a = at-loop.before.before.args in
+    let a = tested.args in
     let call = called.with_digit in
     read-refused
     (digit_step a.base)
     a.word.now
-    at-loop.loop-i.n
-    at-loop.loop-i.i
-    at-loop.loop-i.invariant.1
+    tested.loop-i.n
+    tested.loop-i.i
+    tested.loop-i.invariant.1
     call.result
     tested.loop-i-test.true
     call.ensures
@@ -59,20 +58,19 @@ loop-i-smaller c = search rules
 
 loop-i-preserved : tie.Need-loop-i-preserved invariant-loop-i decreases-loop-i
 loop-i-preserved c =
-    let m = c.before.m-1.given in
+    let m = c.m-1.given in
     let called = c.before.before.before in
     let tested = called.before.before in
-    let at-loop = tested.before in
-    let a = at-loop.before.before.args in
+    let a = tested.args in
     let more = tested.loop-i-test.true in
     let call = called.with_digit in (
       omega (arith, more),
       read_again
           (digit_step a.base)
           a.word.now
-          at-loop.loop-i.n
-          at-loop.loop-i.i
-          at-loop.loop-i.invariant.1
+          tested.loop-i.n
+          tested.loop-i.i
+          tested.loop-i.invariant.1
           call.result
           m.0.0
           more
@@ -82,9 +80,8 @@ loop-i-preserved c =
 
 returns : tie.Need-returns invariant-loop-i decreases-loop-i
 returns c =
-    let at-loop = c.before in
-    let a = at-loop.before.before.args in
-    read-end (digit_step a.base) a.word.now at-loop.loop-i.n at-loop.loop-i.i at-loop.loop-i.invariant.1 c.loop-i-test.false
+    let a = c.args in
+    read-end (digit_step a.base) a.word.now c.loop-i.n c.loop-i.i c.loop-i.invariant.1 c.loop-i-test.false
 
 pub digits_spec : {M : Type 1} → statement M
 digits_spec = tie.close (tie.spec invariant-loop-i decreases-loop-i loop-i-init bounds-word-i with_digit-requires enum_known-m enum_told-1 returns-in_default overflow_add-i loop-i-smaller loop-i-preserved returns)

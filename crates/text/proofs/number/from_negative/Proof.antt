@@ -15,25 +15,25 @@ overflow_cast-result : tie.Need-overflow_cast-result
 overflow_cast-result c = search rules
 
 overflow_sub-result : tie.Need-overflow_sub-result
-overflow_sub-result c = minus-fits c.before.before.args.n (omega arith)
+overflow_sub-result c = minus-fits c.args.n (omega arith)
 
 returns-then-n-le-I64_MAX : tie.Need-returns-then-n-le-I64_MAX
 returns-then-n-le-I64_MAX c =
-    let n = c.before.before.args.n in
-    simp (ne_eqb _ _ c.before.if-n-eq0.false, le-leb n (2 ^ 63) (omega arith), minus-back n (omega arith))
+    let n = c.args.n in
+    simp (ne_eqb _ _ c.if-n-eq0.false, le-leb n (2 ^ 63) (omega arith), minus-back n (omega arith))
 
 overflow_add-t-5 : tie.Need-overflow_add-t-5
 overflow_add-t-5 c = search rules
 
 returns-then-n : tie.Need-returns-then-n
 returns-then-n c =
-    let n = c.before.before.before.args.n in
+    let n = c.args.n in
     simp c.if-n.true
 
 returns : tie.Need-returns
 returns c =
-    let n = c.before.before.before.args.n in
-    simp (ne_eqb _ _ c.before.before.if-n-eq0.false, lt-leb n (2 ^ 63) (omega arith))
+    let n = c.args.n in
+    simp (ne_eqb _ _ c.if-n-eq0.false, lt-leb n (2 ^ 63) (omega arith))
 
 pub from_negative_spec : {M : Type 1} → statement M
 from_negative_spec = tie.close (tie.spec returns-then-n-eq0 overflow_cast-result overflow_sub-result returns-then-n-le-I64_MAX overflow_add-t-5 returns-then-n returns)

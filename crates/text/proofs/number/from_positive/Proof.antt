@@ -8,13 +8,13 @@ use Rattle.text.proofs.number.from_positive.Statement.{statement}
 use Rattle.text.proofs.number.from_positive.Tie as tie
 
 returns-then-n-gt-I64_MAX : tie.Need-returns-then-n-gt-I64_MAX
-returns-then-n-gt-I64_MAX c = simp (le-ltb c.before.args.n (2 ^ 63) (omega arith))
+returns-then-n-gt-I64_MAX c = simp (le-ltb c.args.n (2 ^ 63) (omega arith))
 
 overflow_cast-result : tie.Need-overflow_cast-result
 overflow_cast-result c = search rules
 
 returns : tie.Need-returns
-returns c = simp (lt-ltb c.before.args.n (2 ^ 63) (omega arith))
+returns c = simp (lt-ltb c.args.n (2 ^ 63) (omega arith))
 
 pub from_positive_spec : {M : Type 1} → statement M
 from_positive_spec = tie.close (tie.spec returns-then-n-gt-I64_MAX overflow_cast-result returns)

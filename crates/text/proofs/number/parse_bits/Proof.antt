@@ -12,7 +12,7 @@ digits-requires : tie.Need-digits-requires
 digits-requires c κs = search rules
 
 returns : tie.Need-returns
-returns c = simp (eq-eqb _ 16 c.before.if-word-ne16.false) c.digits.ensures
+returns c = simp (eq-eqb _ 16 c.if-word-ne16.false) c.digits.ensures
 
 pub parse_bits_spec : {M : Type 1} → statement M
 parse_bits_spec = tie.close (tie.spec returns-then-word-ne16 digits-requires returns)

@@ -12,26 +12,22 @@ use Rattle.text.proofs.number.parse_i64.Tie as tie
 -- behind a minus the word says what the rest does, with its sign turned
 minus-says : (c : tie.After-parse_u64)
     → let minus = c.before.before in
-    let full = minus.before.before in
-    signed_of full.before.before.args.word.now ≡ negative c.parse_u64.result
+    signed_of minus.args.word.now ≡ negative c.parse_u64.result
 minus-says c =
     let minus = c.before.before in
-    let full = minus.before.before in
-    let w = full.before.before.args.word.now in
+    let w = minus.args.word.now in
     let said : c.parse_u64.result ≡ number_of (take (length w - 1) (drop 1 w)) = c.parse_u64.ensures in
-    signed-minus w full.if-word-eq0.false minus.if-word-eq45.true ∙ ap negative (ap number_of (sym (rest-behind w)) ∙ sym said)
+    signed-minus w minus.if-word-eq0.false minus.if-word-eq45.true ∙ ap negative (ap number_of (sym (rest-behind w)) ∙ sym said)
 
 -- with no minus it says what it does as a number without a sign
 plain-says : (c : tie.After-parse_u64-2)
-    → let full = c.before.before.before in
-    signed_of full.before.before.args.word.now ≡ positive c.parse_u64-2.result
+    → signed_of c.args.word.now ≡ positive c.parse_u64-2.result
 plain-says c =
-    let full = c.before.before.before in
-    let w = full.before.before.args.word.now in
-    signed-plain w full.if-word-eq0.false c.before.if-word-eq45.false ∙ ap positive (sym c.parse_u64-2.ensures)
+    let w = c.args.word.now in
+    signed-plain w c.if-word-eq0.false c.if-word-eq45.false ∙ ap positive (sym c.parse_u64-2.ensures)
 
 returns-then-word-eq0 : tie.Need-returns-then-word-eq0
-returns-then-word-eq0 c = signed-none c.before.before.args.word.now c.if-word-eq0.true
+returns-then-word-eq0 c = signed-none c.args.word.now c.if-word-eq0.true
 
 bounds-word-0 : tie.Need-bounds-word-0
 bounds-word-0 c = search rules

@@ -15,9 +15,8 @@ digits-requires c κs = search rules
 
 returns-then-is_plain : tie.Need-returns-then-is_plain
 returns-then-is_plain c =
-    let called = c.before.before in
-    let w = called.before.before.args.word.now in
-    let found : plain w ≡ true = sym called.is_plain.ensures ∙ c.before.if-is_plain.true in
+    let w = c.args.word.now in
+    let found : plain w ≡ true = sym c.is_plain.ensures ∙ c.if-is_plain.true in
     simp found c.digits.ensures
 
 returns : tie.Need-returns

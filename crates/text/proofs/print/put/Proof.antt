@@ -38,17 +38,16 @@ loop-i-smaller c = search rules
 
 loop-i-preserved : tie.Need-loop-i-preserved invariant-loop-i decreases-loop-i
 loop-i-preserved c =
-    let at-loop = c.before.before in
-    let a = at-loop.before.args in
-    let i = at-loop.loop-i.i in
+    let a = c.args in
+    let i = c.loop-i.i in
     let v = get_or a.part.now i 0 in
-    let more = c.before.loop-i-test.true in
-    let room : a.at + i < length a.out.now = omega (arith, more, at-loop.before.requires) in (
+    let more = c.loop-i-test.true in
+    let room : a.at + i < length a.out.now = omega (arith, more, c.requires) in (
       omega (arith, more),
-      ap (λ (l : List ℕ). set l (a.at + i) v) at-loop.loop-i.invariant.1
+      ap (λ (l : List ℕ). set l (a.at + i) v) c.loop-i.invariant.1
           ∙ paste-suc a.out.now a.at a.part.now i 0 room more
           ∙ ap (paste a.out.now a.at a.part.now) (sym (add-one i)),
-      length-set at-loop.loop-i.out (a.at + i) v ∙ at-loop.loop-i.invariant.2,
+      length-set c.loop-i.out (a.at + i) v ∙ c.loop-i.invariant.2,
     )
 
 overflow_add-result : tie.Need-overflow_add-result invariant-loop-i decreases-loop-i
@@ -59,10 +58,9 @@ shape_of-out c = search rules
 
 returns : tie.Need-returns invariant-loop-i decreases-loop-i
 returns c =
-    let at-loop = c.before in
-    let a = at-loop.before.args in
-    let past = le_antisymm at-loop.loop-i.invariant.0 c.loop-i-test.false in
-    (ap (λ (k : ℕ). a.at + k) past, at-loop.loop-i.invariant.1 ∙ ap (paste a.out.now a.at a.part.now) past)
+    let a = c.args in
+    let past = le_antisymm c.loop-i.invariant.0 c.loop-i-test.false in
+    (ap (λ (k : ℕ). a.at + k) past, c.loop-i.invariant.1 ∙ ap (paste a.out.now a.at a.part.now) past)
 
 pub put_spec : {M : Type 1} → statement M
 put_spec =

@@ -21,7 +21,7 @@ bounds-items-i : tie.Need-bounds-items-i invariant-loop-i decreases-loop-i
 bounds-items-i c = search rules
 
 overflow_cast-items : tie.Need-overflow_cast-items invariant-loop-i decreases-loop-i
-overflow_cast-items c = omega (arith, c.shared_slice_known-in-loop-i-1.given c.before.before.before.loop-i.i)
+overflow_cast-items c = omega (arith, c.shared_slice_known-in-loop-i-1.given c.loop-i.i)
 
 put_u64-at-requires : tie.Need-put_u64-at-requires invariant-loop-i decreases-loop-i
 put_u64-at-requires c κs = search rules

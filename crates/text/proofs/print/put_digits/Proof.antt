@@ -9,9 +9,8 @@ use Rattle.text.proofs.print.put_digits.Tie as tie
 
 few : (c : tie.After-decimal-count) → c.decimal-count.result ≤ 20
 few c =
-    let start = c.before.before.before in
     let call = c.decimal-count in
-    at-most-20 start.args.n call.result start.ranges.n.fits call.ensures.1.0.2
+    at-most-20 c.args.n call.result c.ranges.n.fits call.ensures.1.0.2
 
 decimal-count-requires : tie.Need-decimal-count-requires
 decimal-count-requires c κs = search rules
@@ -25,7 +24,7 @@ slice_bounds-put-end c = search rules
 put-requires : tie.Need-put-requires
 put-requires c κs =
     let called = c.before.before in
-    omega (arith, called.before.before.before.requires, called.decimal-count.ensures.0.1, few called)
+    omega (arith, called.requires, called.decimal-count.ensures.0.1, few called)
 
 shape_of-out : tie.Need-shape_of-out
 shape_of-out c = search rules

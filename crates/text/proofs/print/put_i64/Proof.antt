@@ -25,7 +25,7 @@ put_digits-requires : tie.Need-put_digits-requires
 put_digits-requires c κs = simp length-set (omega arith)
 
 shape_of-out-then-n-lt0 : tie.Need-shape_of-out-then-n-lt0
-shape_of-out-then-n-lt0 c = simp length-set at c.before.before.put_digits.auto.0
+shape_of-out-then-n-lt0 c = simp length-set at c.put_digits.auto.0
 
 returns-then-n-lt0 : tie.Need-returns-then-n-lt0
 returns-then-n-lt0 c = search rules

@@ -16,7 +16,7 @@ put_digits-requires : tie.Need-put_digits-requires
 put_digits-requires c κs = simp length-set (omega arith)
 
 shape_of-out : tie.Need-shape_of-out
-shape_of-out c = simp length-set at c.before.before.put_digits.auto.0
+shape_of-out c = simp length-set at c.put_digits.auto.0
 
 returns : tie.Need-returns
 returns c = search rules

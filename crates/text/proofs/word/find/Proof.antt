@@ -23,7 +23,7 @@ bounds-s-i c = search rules
 
 returns-then-s-i : tie.Need-returns-then-s-i invariant-loop-i decreases-loop-i
 returns-then-s-i c =
-    let inv = c.before.before.before.loop-i.invariant in
+    let inv = c.loop-i.invariant in
     ((search rules, search rules), (inv.2, λ h. c.if-s-i.true))
 
 overflow_add-i : tie.Need-overflow_add-i invariant-loop-i decreases-loop-i
@@ -33,11 +33,11 @@ loop-i-smaller : tie.Need-loop-i-smaller invariant-loop-i decreases-loop-i
 loop-i-smaller c = search rules
 
 loop-i-preserved : tie.Need-loop-i-preserved invariant-loop-i decreases-loop-i
-loop-i-preserved c = (search rules, search rules, below_more _ _ c.before.before.before.loop-i.invariant.2 (λ l. c.if-s-i.false))
+loop-i-preserved c = (search rules, search rules, below_more _ _ c.loop-i.invariant.2 (λ l. c.if-s-i.false))
 
 returns : tie.Need-returns invariant-loop-i decreases-loop-i
 returns c =
-    let inv = c.before.loop-i.invariant in
+    let inv = c.loop-i.invariant in
     ((search rules, search rules), (inv.2, λ h. absurd (omega (arith, h, c.loop-i-test.false))))
 
 pub find_spec : {M : Type 1} → statement M

@@ -30,19 +30,17 @@ bounds-s-k : tie.Need-bounds-s-k invariant-loop-k decreases-loop-k
 bounds-s-k c = omega arith
 
 -- the exponents so far, and the next, are far from the ends of i64
-so_far : (c : tie.After-e-1 invariant-loop-k decreases-loop-k) → let t = c.before.before in nat_abs (to_z w64 t.loop-k.e-bits) ≤ 2 ^ 61
+so_far : (c : tie.After-e-1 invariant-loop-k decreases-loop-k) → nat_abs (to_z w64 c.loop-k.e-bits) ≤ 2 ^ 61
 so_far c =
-    let t = c.before.before in
-    subst (λ (z : ℤ). nat_abs z ≤ 2 ^ 61) (sym t.loop-k.invariant.is)
-    (le_trans (some-exponents-size (2 ^ 56) t.before.args.t1 t.before.requires t.loop-k.k) (omega arith))
+    subst (λ (z : ℤ). nat_abs z ≤ 2 ^ 61) (sym c.loop-k.invariant.is)
+    (le_trans (some-exponents-size (2 ^ 56) c.args.t1 c.requires c.loop-k.k) (omega arith))
 
-next : (c : tie.After-e-1 invariant-loop-k decreases-loop-k) → let t = c.before.before in nat_abs (e_of t.before.args.t1 t.loop-k.k) ≤ 2 ^ 61
-next c = let t = c.before.before in le_trans (t.before.requires.at t.loop-k.k) (lit≤ tt)
+next : (c : tie.After-e-1 invariant-loop-k decreases-loop-k) → nat_abs (e_of c.args.t1 c.loop-k.k) ≤ 2 ^ 61
+next c = le_trans (c.requires.at c.loop-k.k) (lit≤ tt)
 
 overflow_add-e : tie.Need-overflow_add-e invariant-loop-k decreases-loop-k
 overflow_add-e c =
-    let t = c.before.before in
-    next-sum-fits (to_z w64 t.loop-k.e-bits) (e_of t.before.args.t1 t.loop-k.k) (so_far c) (next c)
+    next-sum-fits (to_z w64 c.loop-k.e-bits) (e_of c.args.t1 c.loop-k.k) (so_far c) (next c)
 
 overflow_add-k : tie.Need-overflow_add-k invariant-loop-k decreases-loop-k
 overflow_add-k c = omega arith
@@ -52,13 +50,12 @@ loop-k-smaller c = omega arith
 
 loop-k-preserved : tie.Need-loop-k-preserved invariant-loop-k decreases-loop-k
 loop-k-preserved c =
-    let t = c.before.before in
-    worked-more t.loop-k.invariant c.before.loop-k-test.true
-    (next-sum-exact (to_z w64 t.loop-k.e-bits) (e_of t.before.args.t1 t.loop-k.k) (so_far c) (next c))
+    worked-more c.loop-k.invariant c.loop-k-test.true
+    (next-sum-exact (to_z w64 c.loop-k.e-bits) (e_of c.args.t1 c.loop-k.k) (so_far c) (next c))
 
 returns : tie.Need-returns invariant-loop-k decreases-loop-k
 unfolding exponents_of
-returns c = worked-all c.before.loop-k.invariant c.loop-k-test.false
+returns c = worked-all c.loop-k.invariant c.loop-k-test.false
 
 pub exponents_spec : {M : Type 1} → statement M
 exponents_spec = tie.close (tie.spec invariant-loop-k decreases-loop-k loop-k-init offset_bounds-s-k bounds-s-k overflow_add-e overflow_add-k loop-k-smaller loop-k-preserved returns)

@@ -19,10 +19,10 @@ returns-then-pace : tie.Need-returns-then-pace
 returns-then-pace c = none-less 1 _ _
 
 overflow_add-next : tie.Need-overflow_add-next
-overflow_add-next c = let l = c.before.if-pace-lt-LAST_WAY.true in omega arith
+overflow_add-next c = let l = c.if-pace-lt-LAST_WAY.true in omega arith
 
 returns-then-pace-lt-LAST_WAY : tie.Need-returns-then-pace-lt-LAST_WAY
-returns-then-pace-lt-LAST_WAY c = next-less _ c.before.if-pace-lt-LAST_WAY.true
+returns-then-pace-lt-LAST_WAY c = next-less _ c.if-pace-lt-LAST_WAY.true
 
 returns : tie.Need-returns
 returns c = none-less 15 _ _

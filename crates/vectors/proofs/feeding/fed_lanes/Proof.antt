@@ -48,12 +48,11 @@ first_way-requires c κs = search rules
 loop-i-init : tie.Need-loop-i-init invariant-loop-i decreases-loop-i
 unfolding strided
 loop-i-init c =
-    let b = c.before in
-    let s = b.before.before in (
+    let b = c.before in (
       omega arith,
       inl refl,
       subst (LanesAfter start_lanes []) (sym b.start_lanes-s.ensures) (fed-none start_lanes),
-      λ h. place-first (to_z w64 (of_z w64 s.args.start)) (to_z w64 (of_z w64 s.args.stride)),
+      λ h. place-first (to_z w64 (of_z w64 b.args.start)) (to_z w64 (of_z w64 b.args.stride)),
     )
 
 -- a turn of the loop, as it is entered: the entry, and its numbers as the code holds them
@@ -75,7 +74,7 @@ inside t = let s = entry t in simp (to_z-of_z w64 s.args.start s.fits.start, to_
 
 -- the place of the next value, and what lies from there on
 here : (c : tie.In-loop-i invariant-loop-i decreases-loop-i) → let t = c.before in to_z w64 t.loop-i.at-bits ≡ first t +ℤ apart t *ℤ pos t.loop-i.i
-here c = c.before.loop-i.invariant.3 c.loop-i-test.true
+here c = c.loop-i.invariant.3 c.loop-i-test.true
 
 inside-here : (c : tie.In-loop-i invariant-loop-i decreases-loop-i) → let t = c.before in
     PlacesInside (size t) (to_z w64 t.loop-i.at-bits) (apart t) ((entry t).args.len - t.loop-i.i)
@@ -105,10 +104,9 @@ next_step-t-requires c κs =
 
 stable_renorm-s-requires : tie.Need-stable_renorm-s-requires invariant-loop-i decreases-loop-i
 stable_renorm-s-requires c κs =
-    let r = c.next_step-t.ensures.0 in
-    let t = c.before.before in (
+    let r = c.next_step-t.ensures.0 in (
       lanes-le (2 ^ 59) (2 ^ 60) c.next_step-t.result.lanes (lit≤ tt) r.small,
-      r.whole _ (t.loop-i.invariant.2.represent (replicate 8 (unit 52)) represent-start),
+      r.whole _ (c.loop-i.invariant.2.represent (replicate 8 (unit 52)) represent-start),
     )
 
 next_pace-pace-requires : tie.Need-next_pace-pace-requires invariant-loop-i decreases-loop-i
@@ -146,9 +144,8 @@ vectors-after n i done e l (inr d) = inr (omega arith)
 stepped : (p : tie.After-next_pace-pace invariant-loop-i decreases-loop-i) → let t = (turn p).before in let s = entry t in
     (t.loop-i.i + done p ≤ s.args.len)
     × (((t.loop-i.i + done p) % 8 ≡ 0) ⊎ (t.loop-i.i + done p ≡ s.args.len))
-    × LanesAfter start_lanes (strided s.args.values.now (first t) (apart t) (t.loop-i.i + done p)) p.before.stable_renorm-s.result
+    × LanesAfter start_lanes (strided s.args.values.now (first t) (apart t) (t.loop-i.i + done p)) p.stable_renorm-s.result
 stepped p =
-    let r = p.before in
     let q = step p in
     let t = (turn p).before in
     let s = entry t in
@@ -159,9 +156,9 @@ stepped p =
     let u = g.upto in (
       omega arith,
       vectors-after s.args.len t.loop-i.i (done p) w l g.vectors,
-      fed-step xs (first t) (apart t) t.loop-i.i (done p) t.loop-i.s r.stable_renorm-s.result w t.loop-i.invariant.2
-          (subst (λ (z : ℤ). LanesAfter t.loop-i.s (strided xs z (apart t) (done p)) r.stable_renorm-s.result) (here (turn p))
-          (subst (LanesAfter t.loop-i.s (strided xs (to_z w64 t.loop-i.at-bits) (apart t) (done p))) (sym r.stable_renorm-s.ensures)
+      fed-step xs (first t) (apart t) t.loop-i.i (done p) t.loop-i.s p.stable_renorm-s.result w t.loop-i.invariant.2
+          (subst (λ (z : ℤ). LanesAfter t.loop-i.s (strided xs z (apart t) (done p)) p.stable_renorm-s.result) (here (turn p))
+          (subst (LanesAfter t.loop-i.s (strided xs (to_z w64 t.loop-i.at-bits) (apart t) (done p))) (sym p.stable_renorm-s.ensures)
           q.next_step-t.ensures.0.fed)),
     )
 
@@ -169,7 +166,7 @@ stepped p =
 whole : (p : tie.After-next_pace-pace invariant-loop-i decreases-loop-i) → let t = (turn p).before in t.loop-i.i + done p < (entry t).args.len → done p % 8 ≡ 0
 whole p l = go (step p).next_step-t.ensures.1.0.vectors
   where
-    go : (done p % 8 ≡ 0) ⊎ (done p ≡ (entry (turn p).before).args.len - (turn p).before.loop-i.i) → done p % 8 ≡ 0
+    go : (done p % 8 ≡ 0) ⊎ (done p ≡ (entry (turn p).before).args.len - (turn p).loop-i.i) → done p % 8 ≡ 0
     go (inl e) = e
     go (inr e) = absurd (omega arith)
 
@@ -187,7 +184,7 @@ behind-at-requires c κs some =
     let i = turn p in
     let t = i.before in
     let s = entry t in
-    let l = c.before.if-i-len.true in
+    let l = c.if-i-len.true in
     subst (λ (z : ℤ). PlacesFit z (to_z w64 (of_z w64 s.args.eight)) 2) (sym (held c))
     (behind-fits (to_z w64 t.loop-i.at-bits) (apart t) q.next_step-t.result.at (to_z w64 (of_z w64 s.args.eight)) (done p) (whole p l)
     q.next_step-t.ensures.1.1 (size t) (s.args.len - t.loop-i.i) (inside-here i) (omega (arith, s.well_formed.0.1)) (omega arith) some (eight-here p l some))
@@ -201,7 +198,7 @@ there c =
     let q = step p in
     let t = (turn p).before in
     let s = entry t in
-    let l = h.before.if-i-len.true in
+    let l = h.if-i-len.true in
     to_z-of_z w64 c.behind-at.result (record { sfits = c.behind-at.type_inv })
     ∙ behind-is (to_z w64 t.loop-i.at-bits) (apart t) q.next_step-t.result.at (to_z w64 (of_z w64 s.args.eight)) (done p) (whole p l)
     q.next_step-t.ensures.1.1 c.behind-at.result

@@ -37,26 +37,24 @@ loop-turn-init c = (omega arith, λ e. absurd (omega (arith, e)), λ h. absurd (
 
 vectors_in-t-requires : tie.Need-vectors_in-t-requires invariant-loop-turn decreases-loop-turn
 vectors_in-t-requires c κs =
-    let s = c.before.before.before in
-    simp (to_z-of_z w64 s.args.start s.ranges.start, to_z-of_z w64 s.args.stride s.ranges.stride, to_z-of_z w64 s.args.eight s.ranges.eight) s.requires
+    simp (to_z-of_z w64 c.args.start c.ranges.start, to_z-of_z w64 c.args.stride c.ranges.stride, to_z-of_z w64 c.args.eight c.ranges.eight) c.requires
 
 overflow_add-turn : tie.Need-overflow_add-turn invariant-loop-turn decreases-loop-turn
 overflow_add-turn c = omega arith
 
 none_past-requires : tie.Need-none_past-requires invariant-loop-turn decreases-loop-turn
-none_past-requires c κs = c.before.before.vectors_in-t.ensures.1.0
+none_past-requires c κs = c.vectors_in-t.ensures.1.0
 
 loop-turn-smaller-then-none_past : tie.Need-loop-turn-smaller-then-none_past invariant-loop-turn decreases-loop-turn
 loop-turn-smaller-then-none_past c = omega arith
 
 loop-turn-preserved-then-none_past : tie.Need-loop-turn-preserved-then-none_past invariant-loop-turn decreases-loop-turn
 loop-turn-preserved-then-none_past c =
-    let p = c.before in
-    let r = p.before.before.before in (
+    let p = c.before in (
       omega arith,
-      λ e. r.vectors_in-t.ensures.0
-          (either (eqb r.before.before.loop-turn.turn 1) (every not_past r.vectors_in-t.result.lanes.m) (sym p.none_past.ensures ∙ c.if-none_past.true)),
-      λ h. r.vectors_in-t.ensures.1.1,
+      λ e. p.vectors_in-t.ensures.0
+          (either (eqb p.loop-turn.turn 1) (every not_past p.vectors_in-t.result.lanes.m) (sym p.none_past.ensures ∙ c.if-none_past.true)),
+      λ h. p.vectors_in-t.ensures.1.1,
     )
 
 loop-turn-smaller : tie.Need-loop-turn-smaller invariant-loop-turn decreases-loop-turn
@@ -64,23 +62,21 @@ loop-turn-smaller c = omega arith
 
 loop-turn-preserved : tie.Need-loop-turn-preserved invariant-loop-turn decreases-loop-turn
 loop-turn-preserved c =
-    let r = c.before.before.before.before in
-    let n = r.before.before.loop-turn.turn in (
+    let n = c.loop-turn.turn in (
       omega arith,
-      λ e. r.vectors_in-t.ensures.0 (all_split n (every not_past r.vectors_in-t.result.lanes.m) (let z : n ≡ 1 = omega (arith, e) in z)),
-      λ h. r.vectors_in-t.ensures.1.1,
+      λ e. c.vectors_in-t.ensures.0 (all_split n (every not_past c.vectors_in-t.result.lanes.m) (let z : n ≡ 1 = omega (arith, e) in z)),
+      λ h. c.vectors_in-t.ensures.1.1,
     )
 
 returns : tie.Need-returns invariant-loop-turn decreases-loop-turn
 returns c =
     let t = c.before in
-    let s = t.before.before in
     let a = t.loop-turn.invariant.0 in
     let l = c.loop-turn-test.false in
     let e = t.loop-turn.invariant.1 (omega arith) in
     let p = t.loop-turn.invariant.2 (omega arith) in (
-      simp (to_z-of_z w64 s.args.start s.ranges.start, to_z-of_z w64 s.args.stride s.ranges.stride) at e,
-      simp (to_z-of_z w64 s.args.start s.ranges.start, to_z-of_z w64 s.args.stride s.ranges.stride) at p,
+      simp (to_z-of_z w64 t.args.start t.ranges.start, to_z-of_z w64 t.args.stride t.ranges.stride) at e,
+      simp (to_z-of_z w64 t.args.start t.ranges.start, to_z-of_z w64 t.args.stride t.ranges.stride) at p,
     )
 
 pub guarded_spec : {M : Type 1} → statement M

@@ -50,7 +50,7 @@ try_at-y-requires : tie.Need-try_at-y-requires
 try_at-y-requires c κs = search rules
 
 overflow_mul-y : tie.Need-overflow_mul-y
-overflow_mul-y c = omega (arith, c.before.try_at-y.ensures.few)
+overflow_mul-y c = omega (arith, c.try_at-y.ensures.few)
 
 min_usize-n-requires : tie.Need-min_usize-n-requires
 min_usize-n-requires c κs = search rules
@@ -58,15 +58,14 @@ min_usize-n-requires c κs = search rules
 tried-requires : tie.Need-tried-requires
 tried-requires c κs =
     let y = c.before.before in
-    let s = y.before.before.before.before in
     let e = c.min_usize-n.ensures in
-    simp (to_z-of_z w64 s.args.at s.ranges.at, to_z-of_z w64 s.args.stride s.ranges.stride, to_z-of_z w64 s.args.eight s.ranges.eight) (
-      s.requires.0,
-      s.requires.1,
+    simp (to_z-of_z w64 y.args.at y.ranges.at, to_z-of_z w64 y.args.stride y.ranges.stride, to_z-of_z w64 y.args.eight y.ranges.eight) (
+      y.requires.0,
+      y.requires.1,
       y.try_at-y.ensures,
       few _ _ _ e,
-      λ l. s.requires.2 (omega (arith, l, within _ _ _ e)),
-      inside-less (length s.args.values.now) s.args.at s.args.stride s.args.left c.min_usize-n.result s.requires.3 (within _ _ _ e),
+      λ l. y.requires.2 (omega (arith, l, within _ _ _ e)),
+      inside-less (length y.args.values.now) y.args.at y.args.stride y.args.left c.min_usize-n.result y.requires.3 (within _ _ _ e),
     )
   where
     few : (n m l : ℕ) → n ≡ min (8 * m) l → n ≤ 8 * m
@@ -79,13 +78,12 @@ returns-then-pace-eq0 : tie.Need-returns-then-pace-eq0
 returns-then-pace-eq0 c =
     let q = c.before in
     let y = q.before.before in
-    let t = y.before in
-    let s = t.before.before.before in (
-      simp (to_z-of_z w64 s.args.at s.ranges.at, to_z-of_z w64 s.args.stride s.ranges.stride) at c.tried.ensures.0,
+    let t = y.before in (
+      simp (to_z-of_z w64 t.args.at t.ranges.at, to_z-of_z w64 t.args.stride t.ranges.stride) at c.tried.ensures.0,
       (
-        tried-progress s.args.left s.args.pace.hold y.try_at-y.result.most q.min_usize-n.result c.tried.result.done q.min_usize-n.ensures
+        tried-progress t.args.left t.args.pace.hold y.try_at-y.result.most q.min_usize-n.result c.tried.result.done q.min_usize-n.ensures
             t.if-pace-eq0.true c.tried.ensures.1.0,
-        simp (to_z-of_z w64 s.args.at s.ranges.at, to_z-of_z w64 s.args.stride s.ranges.stride) at c.tried.ensures.1.1,
+        simp (to_z-of_z w64 t.args.at t.ranges.at, to_z-of_z w64 t.args.stride t.ranges.stride) at c.tried.ensures.1.1,
       ),
     )
 
@@ -94,14 +92,13 @@ min_usize-n-requires-2 c κs = search rules
 
 guarded-requires : tie.Need-guarded-requires
 guarded-requires c κs =
-    let s = c.before.before.before.before in
     let e = c.min_usize-n-2.ensures in
-    simp (to_z-of_z w64 s.args.at s.ranges.at, to_z-of_z w64 s.args.stride s.ranges.stride, to_z-of_z w64 s.args.eight s.ranges.eight) (
-      s.requires.0,
-      s.requires.1,
+    simp (to_z-of_z w64 c.args.at c.ranges.at, to_z-of_z w64 c.args.stride c.ranges.stride, to_z-of_z w64 c.args.eight c.ranges.eight) (
+      c.requires.0,
+      c.requires.1,
       few _ _ e,
-      λ l. s.requires.2 (omega (arith, l, within _ _ e)),
-      inside-less (length s.args.values.now) s.args.at s.args.stride s.args.left c.min_usize-n-2.result s.requires.3 (within _ _ e),
+      λ l. c.requires.2 (omega (arith, l, within _ _ e)),
+      inside-less (length c.args.values.now) c.args.at c.args.stride c.args.left c.min_usize-n-2.result c.requires.3 (within _ _ e),
     )
   where
     few : (n l : ℕ) → n ≡ min 256 l → n ≤ 256
@@ -113,14 +110,13 @@ guarded-requires c κs =
 returns : tie.Need-returns
 returns c =
     let q = c.before in
-    let s = q.before.before.before.before in
     let n = c.guarded.ensures.1.0 in
-    let e = simp (to_z-of_z w64 s.args.at s.ranges.at, to_z-of_z w64 s.args.stride s.ranges.stride) at c.guarded.ensures.0 in
-    let p = simp (to_z-of_z w64 s.args.at s.ranges.at, to_z-of_z w64 s.args.stride s.ranges.stride) at c.guarded.ensures.1.1 in (
-      subst (λ (k : ℕ). NotYetNormalised s.args.s (strided s.args.values.now s.args.at s.args.stride k) c.guarded.result.lanes) (sym n) e,
+    let e = simp (to_z-of_z w64 q.args.at q.ranges.at, to_z-of_z w64 q.args.stride q.ranges.stride) at c.guarded.ensures.0 in
+    let p = simp (to_z-of_z w64 q.args.at q.ranges.at, to_z-of_z w64 q.args.stride q.ranges.stride) at c.guarded.ensures.1.1 in (
+      subst (λ (k : ℕ). NotYetNormalised q.args.s (strided q.args.values.now q.args.at q.args.stride k) c.guarded.result.lanes) (sym n) e,
       (
-        guarded-progress s.args.left s.args.pace.hold c.guarded.result.done (n ∙ q.min_usize-n-2.ensures),
-        p ∙ ap (last_vector s.args.at s.args.stride) (sym n),
+        guarded-progress q.args.left q.args.pace.hold c.guarded.result.done (n ∙ q.min_usize-n-2.ensures),
+        p ∙ ap (last_vector q.args.at q.args.stride) (sym n),
       ),
     )
 

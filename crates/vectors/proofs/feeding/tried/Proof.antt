@@ -40,20 +40,19 @@ waited : (c : tie.After-wait_values-r)
 waited c =
     let s = entry c in
     simp (to_z-of_z w64 s.args.start s.fits.start, to_z-of_z w64 s.args.stride s.fits.stride) at c.wait_values-r.ensures.0
-    ∙ ap (λ (w : Waiting). feed (wait_step s.args.y.signs) 0 w (padded (piece s))) c.before.start_waiting.ensures
+    ∙ ap (λ (w : Waiting). feed (wait_step s.args.y.signs) 0 w (padded (piece s))) c.start_waiting.ensures
 
 start_waiting-requires : tie.Need-start_waiting-requires
 start_waiting-requires c κs = search rules
 
 wait_values-r-requires : tie.Need-wait_values-r-requires
 wait_values-r-requires c κs =
-    let s = c.before.before in
     let e = c.start_waiting.ensures in
-    simp (to_z-of_z w64 s.args.start s.ranges.start, to_z-of_z w64 s.args.stride s.ranges.stride, to_z-of_z w64 s.args.eight s.ranges.eight) (
-      ap (λ (w : Waiting). length w.m-1) e ∙ s.requires.1,
+    simp (to_z-of_z w64 c.args.start c.ranges.start, to_z-of_z w64 c.args.stride c.ranges.stride, to_z-of_z w64 c.args.eight c.ranges.eight) (
+      ap (λ (w : Waiting). length w.m-1) e ∙ c.requires.1,
       ap (λ (w : Waiting). length w.least) e ∙ length-replicate 8 one,
-      s.requires.4,
-      s.requires.5,
+      c.requires.4,
+      c.requires.5,
     )
 
 least_of-least-requires : tie.Need-least_of-least-requires
@@ -81,11 +80,11 @@ returns-then-none_below-none_past c =
     let kept : Lanes = record { m = u.m-1; e = s.args.s.e; bad = s.args.s.bad } in
     LanesAfter s.args.s (piece s) (renorm kept) × ((fs : List Factor) → LanesRepresent zeros s.args.s fs → NoneSubnormal kept)) (sym (waited w))
     (tried-fed y.signs y.depth y.most Y.some (shallow _ _ Y.room Y.vectors) Y.room s.args.s (piece s)
-    (strided-values s.args.values.now w.before.before.shared_slice_known-1.given s.args.start s.args.stride s.args.len)
+    (strided-values s.args.values.now w.shared_slice_known-1.given s.args.start s.args.stride s.args.len)
     (subst (λ (n : ℕ). n ≤ 8 * y.most) (sym (length-strided s.args.values.now s.args.start s.args.stride s.args.len)) s.requires.3)
     (ap (λ (u : Waiting). every (not_below (least_of y.signs y.depth)) u.least) (sym (waited w))
     ∙ ap (λ (z : Float). every (not_below z) w.wait_values-r.result.lanes.least) (sym l.least_of-least.ensures)
-    ∙ sym p.before.none_below.ensures
+    ∙ sym p.none_below.ensures
     ∙ b.0)
     (ap (λ (u : Waiting). every not_past u.m-1) (sym (waited w)) ∙ sym p.none_past.ensures ∙ b.1)) in (
       record {

@@ -37,16 +37,15 @@ abbrev decreases-loop-i : tie.decreases-loop-i
 decreases-loop-i values start stride eight len all vectors m₀ e₀ bad₀ at₀ i₀ m e bad at i = vectors - i
 
 overflow_add-vectors : tie.Need-overflow_add-vectors invariant-loop-i decreases-loop-i
-overflow_add-vectors c = let h = c.before.requires.2 in omega arith
+overflow_add-vectors c = let h = c.requires.2 in omega arith
 
 loop-i-init : tie.Need-loop-i-init invariant-loop-i decreases-loop-i
-loop-i-init c =
-    let s = c.before.before.before in (
-      omega arith,
-      vectors-none s.args.all (2 ^ 56) s.args.s s.args.values.now _ _ s.args.len s.requires.1 s.requires.0,
-      λ h. place-first (to_z w64 (of_z w64 s.args.start)) (to_z w64 (of_z w64 s.args.stride)),
-      λ h. place-first (to_z w64 (of_z w64 s.args.start)) (to_z w64 (of_z w64 s.args.stride)),
-    )
+loop-i-init c = (
+  omega arith,
+  vectors-none c.args.all (2 ^ 56) c.args.s c.args.values.now _ _ c.args.len c.requires.1 c.requires.0,
+  λ h. place-first (to_z w64 (of_z w64 c.args.start)) (to_z w64 (of_z w64 c.args.stride)),
+  λ h. place-first (to_z w64 (of_z w64 c.args.start)) (to_z w64 (of_z w64 c.args.stride)),
+)
 
 -- a turn of the loop, as it is entered: the entry, its numbers as the code holds them, and the lanes
 abbrev entry : tie.At-loop-i invariant-loop-i decreases-loop-i → tie.Start invariant-loop-i decreases-loop-i
@@ -76,7 +75,7 @@ inside : (t : tie.At-loop-i invariant-loop-i decreases-loop-i) → PlacesInside 
 inside t = let s = entry t in simp (to_z-of_z w64 s.args.start s.fits.start, to_z-of_z w64 s.args.stride s.fits.stride) s.requires.4
 
 -- a vector is left
-left : (c : tie.In-loop-i invariant-loop-i decreases-loop-i) → 8 * c.before.loop-i.i < (entry c.before).args.len
+left : (c : tie.In-loop-i invariant-loop-i decreases-loop-i) → 8 * c.loop-i.i < (entry c.before).args.len
 left c = let h = c.loop-i-test.true in omega arith
 
 overflow_mul-i : tie.Need-overflow_mul-i invariant-loop-i decreases-loop-i
@@ -162,12 +161,12 @@ more c =
     let i = t.loop-i.i in
     let n = s.args.len in
     subst (λ (m : ℕ). Vectors s.args.all (2 ^ 56) s.args.s xs (first t) (apart t) n m c.guarded_vector-t.result) (sym (add-one i))
-    (vectors-next s.args.all (2 ^ 56) s.args.s xs (first t) (apart t) n t.before.before.before.shared_slice_known-1.given i (held t)
+    (vectors-next s.args.all (2 ^ 56) s.args.s xs (first t) (apart t) n t.shared_slice_known-1.given i (held t)
     c.guarded_vector-t.result
     t.loop-i.invariant.1 (omega (arith, left q, s.requires.2)) (left q)
     (c.guarded_vector-t.ensures
     ∙ ap (guarded s.args.all (held t))
-    (c.before.some_vector-vector.ensures ∙ ap (λ (z : ℤ). vector_of (strided xs z (apart t) (min 8 (n - 8 * i)))) (t.loop-i.invariant.2 q.loop-i-test.true))))
+    (c.some_vector-vector.ensures ∙ ap (λ (z : ℤ). vector_of (strided xs z (apart t) (min 8 (n - 8 * i)))) (t.loop-i.invariant.2 q.loop-i-test.true))))
 
 loop-i-smaller : tie.Need-loop-i-smaller invariant-loop-i decreases-loop-i
 loop-i-smaller c = let l = (turn c.before).loop-i-test.taken in omega arith

@@ -35,7 +35,7 @@ decreases-loop-i values start stride len first₀ at₀ i₀ first at i = len - 
 
 loop-i-init : tie.Need-loop-i-init invariant-loop-i decreases-loop-i
 unfolding first_bad strided feed
-loop-i-init c = (omega arith, refl, λ h. place-first (to_z w64 (of_z w64 c.before.args.start)) (to_z w64 (of_z w64 c.before.args.stride)))
+loop-i-init c = (omega arith, refl, λ h. place-first (to_z w64 (of_z w64 c.args.start)) (to_z w64 (of_z w64 c.args.stride)))
 
 -- a turn of the loop, as it is entered: the entry, and its numbers as the code holds them
 abbrev entry : tie.At-loop-i invariant-loop-i decreases-loop-i → tie.Start invariant-loop-i decreases-loop-i
@@ -56,9 +56,9 @@ inside t = let s = entry t in simp (to_z-of_z w64 s.args.start s.fits.start, to_
 
 -- the place of the next value
 here : (c : tie.In-loop-i invariant-loop-i decreases-loop-i) → let t = c.before in to_z w64 t.loop-i.at-bits ≡ start t +ℤ apart t *ℤ pos t.loop-i.i
-here c = c.before.loop-i.invariant.2 c.loop-i-test.true
+here c = c.loop-i.invariant.2 c.loop-i-test.true
 
-below : (c : tie.In-loop-i invariant-loop-i decreases-loop-i) → nat_abs (to_z w64 c.before.loop-i.at-bits) < length (values c.before)
+below : (c : tie.In-loop-i invariant-loop-i decreases-loop-i) → nat_abs (to_z w64 c.loop-i.at-bits) < length (values c.before)
 below c =
     let t = c.before in
     subst (λ (z : ℤ). nat_abs z < length (values t)) (sym (here c))
@@ -109,7 +109,7 @@ returns-then-first-eq0 c =
     let s = entry t in
     let l : t.loop-i.i + 1 ≤ s.args.len = (let m = i.loop-i-test.true in omega arith) in
     let e = sym (first-stays (values t) (start t) (apart t) (t.loop-i.i + 1)
-    (sym (after f true q.min_usize-first.result q.before.if-is_bad.true q.min_usize-first.ensures) ∙ c.if-first-eq0.true) s.args.len l) in
+    (sym (after f true q.min_usize-first.result q.if-is_bad.true q.min_usize-first.ensures) ∙ c.if-first-eq0.true) s.args.len l) in
     simp (to_z-of_z w64 s.args.start s.fits.start, to_z-of_z w64 s.args.stride s.fits.stride) at e
 
 next : (c : tie.Joined-is_bad invariant-loop-i decreases-loop-i) → let t = c.before.before.before.before in

@@ -38,31 +38,30 @@ offset_bounds-s-k : tie.Need-offset_bounds-s-k invariant-loop-k decreases-loop-k
 offset_bounds-s-k c = omega arith
 
 bounds-s-k : tie.Need-bounds-s-k invariant-loop-k decreases-loop-k
-bounds-s-k c = let l = c.loop-k-test.true in omega (arith, c.before.before.requires.2)
+bounds-s-k c = let l = c.loop-k-test.true in omega (arith, c.requires.2)
 
 offset_bounds-s-k-in-loop-k : tie.Need-offset_bounds-s-k-in-loop-k invariant-loop-k decreases-loop-k
 offset_bounds-s-k-in-loop-k c = omega arith
 
 bounds-s-k-in-loop-k : tie.Need-bounds-s-k-in-loop-k invariant-loop-k decreases-loop-k
-bounds-s-k-in-loop-k c = let l = c.before.loop-k-test.true in omega (arith, c.before.before.before.requires.2)
+bounds-s-k-in-loop-k c = let l = c.loop-k-test.true in omega (arith, c.requires.2)
 
 -- the exponents of k lanes, and a lane's, are far from the ends of i64
 so_far : (t : tie.At-loop-k invariant-loop-k decreases-loop-k) → nat_abs (to_z w64 t.loop-k.e-bits) ≤ 2 ^ 61
 so_far t =
-    let s = t.before in
     subst (λ (z : ℤ). nat_abs z ≤ 2 ^ 61) (sym t.loop-k.invariant.1.is)
-    (le_trans (some-exponents-size (2 ^ 56) s.args.t1 s.requires.0 t.loop-k.k) (omega (arith, t.loop-k.invariant.1.upto, s.requires.2)))
+    (le_trans (some-exponents-size (2 ^ 56) t.args.t1 t.requires.0 t.loop-k.k) (omega (arith, t.loop-k.invariant.1.upto, t.requires.2)))
 
-next : (t : tie.At-loop-k invariant-loop-k decreases-loop-k) → nat_abs (e_of t.before.args.t1 t.loop-k.k) ≤ 2 ^ 61
-next t = le_trans (t.before.requires.0.at t.loop-k.k) (lit≤ tt)
+next : (t : tie.At-loop-k invariant-loop-k decreases-loop-k) → nat_abs (e_of t.args.t1 t.loop-k.k) ≤ 2 ^ 61
+next t = le_trans (t.requires.0.at t.loop-k.k) (lit≤ tt)
 
 overflow_add-e : tie.Need-overflow_add-e invariant-loop-k decreases-loop-k
 overflow_add-e c =
     let t = c.before.before.before in
-    next-sum-fits (to_z w64 t.loop-k.e-bits) (e_of t.before.args.t1 t.loop-k.k) (so_far t) (next t)
+    next-sum-fits (to_z w64 t.loop-k.e-bits) (e_of t.args.t1 t.loop-k.k) (so_far t) (next t)
 
 overflow_add-k : tie.Need-overflow_add-k invariant-loop-k decreases-loop-k
-overflow_add-k c = let t = c.before.before.before in let l = c.before.before.loop-k-test.true in omega (arith, t.before.requires.2)
+overflow_add-k c = let l = c.loop-k-test.true in omega (arith, c.requires.2)
 
 loop-k-smaller : tie.Need-loop-k-smaller invariant-loop-k decreases-loop-k
 loop-k-smaller c = omega arith
@@ -70,9 +69,9 @@ loop-k-smaller c = omega arith
 loop-k-preserved : tie.Need-loop-k-preserved invariant-loop-k decreases-loop-k
 loop-k-preserved c =
     let t = c.before.before.before in
-    let l = c.before.before.loop-k-test.true in (
-      worked-more t.loop-k.invariant.0 l (mul-binary64 t.loop-k.p (m_of t.before.args.t1 t.loop-k.k)),
-      worked-more t.loop-k.invariant.1 l (next-sum-exact (to_z w64 t.loop-k.e-bits) (e_of t.before.args.t1 t.loop-k.k) (so_far t) (next t)),
+    let l = c.loop-k-test.true in (
+      worked-more t.loop-k.invariant.0 l (mul-binary64 t.loop-k.p (m_of t.args.t1 t.loop-k.k)),
+      worked-more t.loop-k.invariant.1 l (next-sum-exact (to_z w64 t.loop-k.e-bits) (e_of t.args.t1 t.loop-k.k) (so_far t) (next t)),
     )
 
 split_f64-q-requires : tie.Need-split_f64-q-requires invariant-loop-k decreases-loop-k
@@ -80,7 +79,7 @@ split_f64-q-requires c κs = search rules
 
 split-within : (c : tie.After-split_f64-q invariant-loop-k decreases-loop-k) → nat_abs c.split_f64-q.result.e ≤ 2 ^ 61
 split-within c =
-    subst (λ (q : Split). nat_abs q.e-1 ≤ 2 ^ 61) (sym c.split_f64-q.ensures) (le_trans (split-size c.before.before.loop-k.p) (lit≤ tt))
+    subst (λ (q : Split). nat_abs q.e-1 ≤ 2 ^ 61) (sym c.split_f64-q.ensures) (le_trans (split-size c.loop-k.p) (lit≤ tt))
 
 overflow_add-result : tie.Need-overflow_add-result invariant-loop-k decreases-loop-k
 overflow_add-result c =
@@ -92,10 +91,10 @@ returns : tie.Need-returns invariant-loop-k decreases-loop-k
 unfolding product_before
 returns c =
     let f = c.before.before in
-    let l = f.before.loop-k-test.false in
+    let l = f.loop-k-test.false in
     let t = f.before.before in
-    let s = t.before.args.t1 in
-    let n = t.before.args.n in
+    let s = t.args.t1 in
+    let n = t.args.n in
     let q = f.split_f64-q.result in
     ap (λ (z : ℤ). record { m = q.m; e = z; bad = true }) (next-sum-exact (to_z w64 t.loop-k.e-bits) q.e-1 (so_far t) (split-within f))
     ∙ ap (λ (z : ℤ). record { m = q.m; e = z +ℤ q.e-1; bad = true }) (worked-all t.loop-k.invariant.1 l)

@@ -29,7 +29,7 @@ abbrev decreases-loop-i : tie.decreases-loop-i
 decreases-loop-i values start stride eight len vectors at₀ i₀ at i = vectors - i
 
 loop-i-init : tie.Need-loop-i-init invariant-loop-i decreases-loop-i
-loop-i-init c = (zero-le, λ h. place-first (to_z w64 (of_z w64 c.before.args.start)) (to_z w64 (of_z w64 c.before.args.stride)))
+loop-i-init c = (zero-le, λ h. place-first (to_z w64 (of_z w64 c.args.start)) (to_z w64 (of_z w64 c.args.stride)))
 
 -- a turn of the loop, as it is entered: the entry, and its numbers as the code holds them
 abbrev entry : tie.At-loop-i invariant-loop-i decreases-loop-i → tie.Start invariant-loop-i decreases-loop-i
@@ -49,14 +49,14 @@ inside : (t : tie.At-loop-i invariant-loop-i decreases-loop-i) → PlacesInside 
 inside t = let s = entry t in simp (to_z-of_z w64 s.args.start s.fits.start, to_z-of_z w64 s.args.stride s.fits.stride) s.requires.1
 
 -- the value is one of the piece
-within : (c : tie.In-loop-i invariant-loop-i decreases-loop-i) → 8 * c.before.loop-i.i < (entry c.before).args.len
+within : (c : tie.In-loop-i invariant-loop-i decreases-loop-i) → 8 * c.loop-i.i < (entry c.before).args.len
 within c = let l = c.loop-i-test.true in omega arith
 
 -- the place of the value
 here : (c : tie.In-loop-i invariant-loop-i decreases-loop-i) → let t = c.before in to_z w64 t.loop-i.at-bits ≡ start t +ℤ apart t *ℤ pos (8 * t.loop-i.i)
-here c = c.before.loop-i.invariant.1 c.loop-i-test.true
+here c = c.loop-i.invariant.1 c.loop-i-test.true
 
-below : (c : tie.In-loop-i invariant-loop-i decreases-loop-i) → nat_abs (to_z w64 c.before.loop-i.at-bits) < length (values c.before)
+below : (c : tie.In-loop-i invariant-loop-i decreases-loop-i) → nat_abs (to_z w64 c.loop-i.at-bits) < length (values c.before)
 below c =
     let t = c.before in
     subst (λ (z : ℤ). nat_abs z < length (values t)) (sym (here c))

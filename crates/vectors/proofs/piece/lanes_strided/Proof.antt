@@ -6,13 +6,11 @@ use Rattle.vectors.proofs.piece.lanes_strided.Tie as tie
 
 worked_piece-requires : tie.Need-worked_piece-requires
 worked_piece-requires c κs =
-    let s = c.before in
-    simp (to_z-of_z w64 s.args.start s.ranges.start, to_z-of_z w64 s.args.stride s.ranges.stride) (s.requires.0, s.requires.2, s.requires.1)
+    simp (to_z-of_z w64 c.args.start c.ranges.start, to_z-of_z w64 c.args.stride c.ranges.stride) (c.requires.0, c.requires.2, c.requires.1)
 
 returns : tie.Need-returns
 returns c =
-    let s = c.before.before in
-    simp (to_z-of_z w64 s.args.start s.ranges.start, to_z-of_z w64 s.args.stride s.ranges.stride) at c.worked_piece.ensures
+    simp (to_z-of_z w64 c.args.start c.ranges.start, to_z-of_z w64 c.args.stride c.ranges.stride) at c.worked_piece.ensures
 
 pub lanes_strided_spec : {M : Type 1} → statement M
 lanes_strided_spec = tie.close (tie.spec worked_piece-requires returns)

@@ -36,13 +36,12 @@ start_waiting-t-requires c κs = search rules
 
 -- the lanes that begin to wait
 begun : (c : tie.After-start_waiting-t) → c.start_waiting-t.result ≡ start_waiting (replicate 8 one)
-begun c = c.start_waiting-t.ensures ∙ ap (λ (s : Lanes). start_waiting s.m) c.before.start_lanes.ensures
+begun c = c.start_waiting-t.ensures ∙ ap (λ (s : Lanes). start_waiting s.m) c.start_lanes.ensures
 
 wait_values-r-requires : tie.Need-wait_values-r-requires
 wait_values-r-requires c κs =
-    let s = c.before.before.before.before in
-    simp (to_z-of_z w64 s.args.start s.ranges.start, to_z-of_z w64 s.args.stride s.ranges.stride, to_z-of_z w64 s.args.eight s.ranges.eight)
-    (ap (λ (w : Waiting). length w.m) (begun c), ap (λ (w : Waiting). length w.least) (begun c), s.requires.0, s.requires.1)
+    simp (to_z-of_z w64 c.args.start c.ranges.start, to_z-of_z w64 c.args.stride c.ranges.stride, to_z-of_z w64 c.args.eight c.ranges.eight)
+    (ap (λ (w : Waiting). length w.m) (begun c), ap (λ (w : Waiting). length w.least) (begun c), c.requires.0, c.requires.1)
 
 -- the entry, and the values of the piece
 abbrev entry : tie.After-wait_values-r → tie.Start
@@ -88,7 +87,7 @@ returns c ok =
     let fits : SFits w64 f.split_fields-q.result.e = record { sfits = c.struct_told-1.given.1.0.1 } in
     ap (λ (z : ℤ). record { m = f.split_fields-q.result.m; e = z; bad = false }) (to_z-of_z w64 f.split_fields-q.result.e fits)
     ∙ short-product true (piece s)
-    (strided-values s.args.values.now e.before.shared_slice_known-1.given s.args.start s.args.stride s.args.len) l.short_least-least.result
+    (strided-values s.args.values.now e.shared_slice_known-1.given s.args.start s.args.stride s.args.len) l.short_least-least.result
     (subst (λ (n : ℕ). ShortLeast true n l.short_least-least.result)
     (sym (length-strided s.args.values.now s.args.start s.args.stride s.args.len)) (l.short_least-least.ensures e.if-len-gt-MOST_SHORT.false))
     w.wait_values-r.result.lanes (waited w) f.split_fields-q.result

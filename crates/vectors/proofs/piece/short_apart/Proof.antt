@@ -57,7 +57,7 @@ loop-left-init : tie.Need-loop-left-init invariant-loop-left decreases-loop-left
 loop-left-init c =
     let s = c.before.before.before in
     subst (λ (w : Waiting). Walk false begun (values s) (first s) (apart s) s.args.vectors w (first s) (first s) s.args.vectors)
-    (sym (c.start_waiting-lanes.ensures ∙ ap (λ (l : Lanes). start_waiting l.m) c.before.start_lanes.ensures))
+    (sym (c.start_waiting-lanes.ensures ∙ ap (λ (l : Lanes). start_waiting l.m) c.start_lanes.ensures))
     (walk-begin false begun (values s) (first s) (apart s) s.args.vectors)
 
 -- a turn of the loop
@@ -69,8 +69,7 @@ vector_of-vector-requires c κs = let t = c.before in (omega arith, walk_inside 
 
 wait_vector-lanes-requires : tie.Need-wait_vector-lanes-requires invariant-loop-left decreases-loop-left
 wait_vector-lanes-requires c κs =
-    let t = c.before.before in
-    (walk-m-long _ _ _ _ _ _ _ _ _ _ t.loop-left.invariant refl, walk-least-long _ _ _ _ _ _ _ _ _ _ t.loop-left.invariant refl, ap length c.vector_of-vector.ensures ∙ vector-long _)
+    (walk-m-long _ _ _ _ _ _ _ _ _ _ c.loop-left.invariant refl, walk-least-long _ _ _ _ _ _ _ _ _ _ c.loop-left.invariant refl, ap length c.vector_of-vector.ensures ∙ vector-long _)
 
 overflow_sub-left : tie.Need-overflow_sub-left invariant-loop-left decreases-loop-left
 overflow_sub-left c = omega arith
@@ -91,7 +90,7 @@ fed : (c : tie.After-wait_vector-lanes invariant-loop-left decreases-loop-left) 
 fed c =
     let t = c.before.before.before in
     let s = entry t in
-    c.wait_vector-lanes.ensures ∙ ap (feed (wait_step false) 0 t.loop-left.lanes) (c.before.vector_of-vector.ensures ∙ vector-whole (values s) (to_z w64 t.loop-left.next-bits) (apart s))
+    c.wait_vector-lanes.ensures ∙ ap (feed (wait_step false) 0 t.loop-left.lanes) (c.vector_of-vector.ensures ∙ vector-whole (values s) (to_z w64 t.loop-left.next-bits) (apart s))
 
 loop-left-smaller : tie.Need-loop-left-smaller invariant-loop-left decreases-loop-left
 loop-left-smaller c = omega arith

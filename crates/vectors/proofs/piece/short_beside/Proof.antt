@@ -50,7 +50,7 @@ loop-left-init : tie.Need-loop-left-init invariant-loop-left decreases-loop-left
 loop-left-init c =
     let s = c.before.before.before in
     subst (λ (w : Waiting). Walk false begun (values s) (first s) (pos 1) s.args.vectors w (first s) (first s) s.args.vectors)
-    (sym (c.start_waiting-lanes.ensures ∙ ap (λ (l : Lanes). start_waiting l.m) c.before.start_lanes.ensures))
+    (sym (c.start_waiting-lanes.ensures ∙ ap (λ (l : Lanes). start_waiting l.m) c.start_lanes.ensures))
     (walk-begin false begun (values s) (first s) (pos 1) s.args.vectors)
 
 -- a turn of the loop
@@ -62,8 +62,7 @@ vector_beside-vector-requires c κs = let t = c.before in walk_inside _ _ _ _ _ 
 
 wait_vector-lanes-requires : tie.Need-wait_vector-lanes-requires invariant-loop-left decreases-loop-left
 wait_vector-lanes-requires c κs =
-    let t = c.before.before in
-    (walk-m-long _ _ _ _ _ _ _ _ _ _ t.loop-left.invariant refl, walk-least-long _ _ _ _ _ _ _ _ _ _ t.loop-left.invariant refl, ap length c.vector_beside-vector.ensures ∙ length-strided _ _ _ 8)
+    (walk-m-long _ _ _ _ _ _ _ _ _ _ c.loop-left.invariant refl, walk-least-long _ _ _ _ _ _ _ _ _ _ c.loop-left.invariant refl, ap length c.vector_beside-vector.ensures ∙ length-strided _ _ _ 8)
 
 overflow_sub-left : tie.Need-overflow_sub-left invariant-loop-left decreases-loop-left
 overflow_sub-left c = omega arith
@@ -83,7 +82,7 @@ fed : (c : tie.After-wait_vector-lanes invariant-loop-left decreases-loop-left) 
 fed c =
     let t = c.before.before.before in
     let s = entry t in
-    c.wait_vector-lanes.ensures ∙ ap (feed (wait_step false) 0 t.loop-left.lanes) c.before.vector_beside-vector.ensures
+    c.wait_vector-lanes.ensures ∙ ap (feed (wait_step false) 0 t.loop-left.lanes) c.vector_beside-vector.ensures
 
 loop-left-smaller : tie.Need-loop-left-smaller invariant-loop-left decreases-loop-left
 loop-left-smaller c = omega arith

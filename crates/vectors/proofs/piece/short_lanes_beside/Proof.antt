@@ -59,7 +59,7 @@ returns-then-rest-eq0 c =
     ∙ ap (feed (wait_step false) 0 begun) (vectors-padded s.args.values.now s.args.start (pos 1) s.args.len t.if-rest-eq0.true)
 
 -- ---- values are left
-held : (c : tie.After-struct_told-1) → let at = c.before.before.short_beside-r.result.at in to_z w64 (of_z w64 at) ≡ at
+held : (c : tie.After-struct_told-1) → let at = c.short_beside-r.result.at in to_z w64 (of_z w64 at) ≡ at
 held c = to_z-of_z w64 _ (record { sfits = c.struct_told-1.given.1.0.1 })
 
 behind-at-requires : tie.Need-behind-at-requires
@@ -68,7 +68,7 @@ behind-at-requires c κs l =
     let s = entry g in
     let xs = s.args.values.now in
     let some : 0 < whole s = omega arith in
-    let left : whole s < s.args.len = omega (arith, c.before.if-rest-eq0.false) in
+    let left : whole s < s.args.len = omega (arith, c.if-rest-eq0.false) in
     subst (λ (z : ℤ). PlacesFit z (pos 8) 2) (sym (held c))
     (behind-fits s.args.start (pos 1) g.short_beside-r.result.at (pos 8) (whole s) (omega arith) (last g) (length xs) s.args.len
     s.requires (omega (arith, s.well_formed.0.1)) left some refl)
@@ -79,7 +79,7 @@ at-is c =
     let q = c.before in
     let g = q.before.before in
     let s = entry g in
-    let left : whole s < s.args.len = omega (arith, q.before.if-rest-eq0.false) in
+    let left : whole s < s.args.len = omega (arith, q.if-rest-eq0.false) in
     to_z-of_z w64 c.behind-at.result (record { sfits = c.behind-at.type_inv })
     ∙ behind-is s.args.start (pos 1) g.short_beside-r.result.at (pos 8) (whole s) (omega arith) (last g) c.behind-at.result
     (λ h. c.behind-at.ensures.0 (omega arith) ∙ held q)
@@ -112,7 +112,7 @@ returns c =
     let s = entry t in
     let n = s.args.len in
     let xs = s.args.values.now in
-    let vector = c.before.vector_of-vector.ensures ∙ ap (λ (z : ℤ). vector_of (strided xs z (pos 1) (n % 8))) (at-is p) in
+    let vector = c.vector_of-vector.ensures ∙ ap (λ (z : ℤ). vector_of (strided xs z (pos 1) (n % 8))) (at-is p) in
     rest-fed false begun xs s.args.start (pos 1) n t.short_beside-r.result.lanes c.wait_vector.result q.if-rest-eq0.false (vectors t)
     (c.wait_vector.ensures ∙ ap (feed (wait_step false) 0 t.short_beside-r.result.lanes) vector)
 

@@ -13,7 +13,7 @@ least_of-requires c κs = let d = c.short_depth.ensures in (d.0, le_trans d.1 (l
 
 returns : tie.Need-returns
 returns c h =
-    let d = c.before.short_depth in
+    let d = c.short_depth in
     record { depth = d.result; some = d.ensures.0; few = d.ensures.1; room = d.ensures.2 h; is = c.least_of.ensures }
 
 pub short_least_spec : {M : Type 1} → statement M

@@ -29,23 +29,20 @@ use Rattle.vectors.proofs.piece.short_piece.Statement.{statement}
 use Rattle.vectors.proofs.piece.short_piece.Tie as tie
 
 far_stride-eight-requires : tie.Need-far_stride-eight-requires
-far_stride-eight-requires c κs =
-    let s = c.before in (
-      lit≤ tt,
-      λ l. simp (to_z-of_z w64 s.args.stride s.ranges.stride)
-          (step_fits (length s.args.values.now) s.args.start s.args.stride s.args.len s.requires.0 8 l (omega (arith, s.well_formed.0.1))),
-    )
+far_stride-eight-requires c κs = (
+  lit≤ tt,
+  λ l. simp (to_z-of_z w64 c.args.stride c.ranges.stride)
+      (step_fits (length c.args.values.now) c.args.start c.args.stride c.args.len c.requires.0 8 l (omega (arith, c.well_formed.0.1))),
+)
 
 -- the stride of eight values, as the code holds it
-eight : (c : tie.After-far_stride-eight) → let s = c.before.before in EightApart s.args.stride s.args.len (to_z w64 (of_z w64 c.far_stride-eight.result))
+eight : (c : tie.After-far_stride-eight) → EightApart c.args.stride c.args.len (to_z w64 (of_z w64 c.far_stride-eight.result))
 eight c l =
-    let s = c.before.before in
-    to_z-of_z w64 _ (record { sfits = c.far_stride-eight.type_inv }) ∙ simp (to_z-of_z w64 s.args.stride s.ranges.stride) at (c.far_stride-eight.ensures l)
+    to_z-of_z w64 _ (record { sfits = c.far_stride-eight.type_inv }) ∙ simp (to_z-of_z w64 c.args.stride c.ranges.stride) at (c.far_stride-eight.ensures l)
 
 short_lanes-w-requires : tie.Need-short_lanes-w-requires
 short_lanes-w-requires c κs =
-    let s = c.before.before in
-    simp (to_z-of_z w64 s.args.start s.ranges.start, to_z-of_z w64 s.args.stride s.ranges.stride) (eight c, s.requires.0)
+    simp (to_z-of_z w64 c.args.start c.ranges.start, to_z-of_z w64 c.args.stride c.ranges.stride) (eight c, c.requires.0)
 
 -- the entry, and the values of the piece
 abbrev entry : tie.After-short_lanes-w → tie.Start
@@ -83,7 +80,7 @@ returns c ok =
     let t = and_both b.none_below.result p.not_past.result ok in
     let fits : SFits w64 f.split_fields-q.result.e = record { sfits = c.struct_told-1.given.1.0.1 } in
     ap (λ (z : ℤ). record { m = f.split_fields-q.result.m; e = z; bad = false }) (to_z-of_z w64 f.split_fields-q.result.e fits)
-    ∙ short-product false (piece s) (strided-values s.args.values.now w.before.before.shared_slice_known-1.given s.args.start s.args.stride s.args.len)
+    ∙ short-product false (piece s) (strided-values s.args.values.now w.shared_slice_known-1.given s.args.start s.args.stride s.args.len)
     s.args.least
     (subst (λ (n : ℕ). ShortLeast false n s.args.least) (sym (length-strided s.args.values.now s.args.start s.args.stride s.args.len)) s.requires.1)
     w.short_lanes-w.result (waited w) f.split_fields-q.result

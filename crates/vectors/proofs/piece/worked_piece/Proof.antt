@@ -34,26 +34,23 @@ abbrev piece : tie.Start → List Float
 piece s = strided s.args.values.now s.args.start s.args.stride s.args.len
 
 values : (c : tie.After-shared_slice_known-1) → Each Value (piece c.before)
-values c = let s = c.before in strided-values s.args.values.now c.shared_slice_known-1.given s.args.start s.args.stride s.args.len
+values c = strided-values c.args.values.now c.shared_slice_known-1.given c.args.start c.args.stride c.args.len
 
 far_stride-eight-requires : tie.Need-far_stride-eight-requires
-far_stride-eight-requires c κs =
-    let s = c.before in (
-      lit≤ tt,
-      λ l. simp (to_z-of_z w64 s.args.stride s.ranges.stride)
-          (step_fits (length s.args.values.now) s.args.start s.args.stride s.args.len s.requires.2 8 l (omega (arith, s.well_formed.0.1))),
-    )
+far_stride-eight-requires c κs = (
+  lit≤ tt,
+  λ l. simp (to_z-of_z w64 c.args.stride c.ranges.stride)
+      (step_fits (length c.args.values.now) c.args.start c.args.stride c.args.len c.requires.2 8 l (omega (arith, c.well_formed.0.1))),
+)
 
 -- the stride of eight values, as the code holds it
-eight : (c : tie.After-far_stride-eight) → let s = c.before.before in EightApart s.args.stride s.args.len (to_z w64 (of_z w64 c.far_stride-eight.result))
+eight : (c : tie.After-far_stride-eight) → EightApart c.args.stride c.args.len (to_z w64 (of_z w64 c.far_stride-eight.result))
 eight c l =
-    let s = c.before.before in
-    to_z-of_z w64 _ (record { sfits = c.far_stride-eight.type_inv }) ∙ simp (to_z-of_z w64 s.args.stride s.ranges.stride) at (c.far_stride-eight.ensures l)
+    to_z-of_z w64 _ (record { sfits = c.far_stride-eight.type_inv }) ∙ simp (to_z-of_z w64 c.args.stride c.ranges.stride) at (c.far_stride-eight.ensures l)
 
 middle_piece-q-requires : tie.Need-middle_piece-q-requires
 middle_piece-q-requires c κs =
-    let s = c.before.before in
-    simp (to_z-of_z w64 s.args.start s.ranges.start, to_z-of_z w64 s.args.stride s.ranges.stride) (eight c, s.requires.2)
+    simp (to_z-of_z w64 c.args.start c.ranges.start, to_z-of_z w64 c.args.stride c.ranges.stride) (eight c, c.requires.2)
 
 returns-then-q : tie.Need-returns-then-q
 returns-then-q c =
@@ -71,8 +68,7 @@ returns-then-q c =
 soon_bad-requires : tie.Need-soon_bad-requires
 soon_bad-requires c κs =
     let f = c.before.before.before in
-    let s = f.before.before in
-    simp (to_z-of_z w64 s.args.start s.ranges.start, to_z-of_z w64 s.args.stride s.ranges.stride) (eight f, s.requires.2)
+    simp (to_z-of_z w64 f.args.start f.ranges.start, to_z-of_z w64 f.args.stride f.ranges.stride) (eight f, f.requires.2)
 
 returns-then-soon_bad : tie.Need-returns-then-soon_bad
 unfolding of_bits
@@ -80,7 +76,7 @@ returns-then-soon_bad c =
     let f = c.before in
     let k = f.before.before.before.before.before in
     let s = k.before in
-    stepped-worked s.args.in_blocks (piece s) _ f.before.if-not-in_blocks.true-raw
+    stepped-worked s.args.in_blocks (piece s) _ f.if-not-in_blocks.true-raw
     (sym
     (stepped-first (piece s) (values k)
     (simp (to_z-of_z w64 s.args.start s.ranges.start, to_z-of_z w64 s.args.stride s.ranges.stride) at (f.soon_bad.ensures c.if-soon_bad.true))))
@@ -88,8 +84,7 @@ returns-then-soon_bad c =
 fed_lanes-s-requires : tie.Need-fed_lanes-s-requires
 fed_lanes-s-requires c κs =
     let f = c.before.before.before in
-    let s = f.before.before in
-    simp (to_z-of_z w64 s.args.start s.ranges.start, to_z-of_z w64 s.args.stride s.ranges.stride) (s.requires.1, eight f, s.requires.2)
+    simp (to_z-of_z w64 f.args.start f.ranges.start, to_z-of_z w64 f.args.stride f.ranges.stride) (f.requires.1, eight f, f.requires.2)
 
 -- what the function was called with, from where its lanes are fed
 abbrev entry : tie.After-fed_lanes-s → tie.Start
@@ -128,7 +123,7 @@ returns-then-in_blocks-s c =
     let q = c.before in
     let f = q.before.before.before in
     let s = entry f in
-    let t = and_both (not s.args.in_blocks) f.fed_lanes-s.result.bad q.before.if-in_blocks-s.true in
+    let t = and_both (not s.args.in_blocks) f.fed_lanes-s.result.bad q.if-in_blocks-s.true in
     stepped-worked s.args.in_blocks (piece s) _ t.0
     (c.product_before.ensures
     ∙ ap (product_before f.fed_lanes-s.result) (first q)
@@ -142,7 +137,7 @@ returns c =
     let f = c.before.before.before in
     let s = entry f in
     c.lanes_product.ensures
-    ∙ fed-worked s.args.in_blocks (piece s) f.fed_lanes-s.result (fed f) (values f.before.before.before.before.before) c.before.if-in_blocks-s.false
+    ∙ fed-worked s.args.in_blocks (piece s) f.fed_lanes-s.result (fed f) (values f.before.before.before.before.before) c.if-in_blocks-s.false
 
 pub worked_piece_spec : {M : Type 1} → statement M
 worked_piece_spec = tie.close (tie.spec far_stride-eight-requires middle_piece-q-requires returns-then-q soon_bad-requires returns-then-soon_bad fed_lanes-s-requires first_bad-first-requires product_before-requires returns-then-in_blocks-s lanes_product-requires returns)

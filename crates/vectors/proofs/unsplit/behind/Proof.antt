@@ -7,20 +7,18 @@ use Rattle.vectors.proofs.unsplit.behind.Statement.{statement}
 use Rattle.vectors.proofs.unsplit.behind.Tie as tie
 
 returns-then-n-eq0 : tie.Need-returns-then-n-eq0
-returns-then-n-eq0 c = let s = c.before in (λ h. to_z-of_z w64 s.args.at s.ranges.at, λ h. absurd (omega (arith, c.if-n-eq0.true)))
+returns-then-n-eq0 c = (λ h. to_z-of_z w64 c.args.at c.ranges.at, λ h. absurd (omega (arith, c.if-n-eq0.true)))
 
 next_place-requires : tie.Need-next_place-requires
 next_place-requires c κs =
-    let s = c.before in
-    simp (to_z-of_z w64 s.args.at s.ranges.at, to_z-of_z w64 s.args.eight s.ranges.eight) (λ l. s.requires (omega (arith, c.if-n-eq0.false)))
+    simp (to_z-of_z w64 c.args.at c.ranges.at, to_z-of_z w64 c.args.eight c.ranges.eight) (λ l. c.requires (omega (arith, c.if-n-eq0.false)))
 
 returns : tie.Need-returns
-returns c =
-    let s = c.before.before in (
-      λ h. absurd (c.before.if-n-eq0.false h),
-      λ h. to_z-of_z w64 c.next_place.result (record { sfits = c.next_place.type_inv })
-          ∙ simp (to_z-of_z w64 s.args.at s.ranges.at, to_z-of_z w64 s.args.eight s.ranges.eight) at (c.next_place.ensures.0 (omega arith)),
-    )
+returns c = (
+  λ h. absurd (c.if-n-eq0.false h),
+  λ h. to_z-of_z w64 c.next_place.result (record { sfits = c.next_place.type_inv })
+      ∙ simp (to_z-of_z w64 c.args.at c.ranges.at, to_z-of_z w64 c.args.eight c.ranges.eight) at (c.next_place.ensures.0 (omega arith)),
+)
 
 pub behind_spec : {M : Type 1} → statement M
 behind_spec = tie.close (tie.spec returns-then-n-eq0 next_place-requires returns)

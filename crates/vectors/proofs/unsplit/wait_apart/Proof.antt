@@ -75,7 +75,7 @@ fed : (c : tie.After-wait_vector-lanes invariant-loop-left decreases-loop-left) 
 fed c =
     let t = c.before.before.before in
     let s = entry t in
-    c.wait_vector-lanes.ensures ∙ ap (feed (wait_step s.args.signs) 0 t.loop-left.lanes) (c.before.vector_of-vector.ensures ∙ vector-whole (values s) (to_z w64 t.loop-left.next-bits) (apart s))
+    c.wait_vector-lanes.ensures ∙ ap (feed (wait_step s.args.signs) 0 t.loop-left.lanes) (c.vector_of-vector.ensures ∙ vector-whole (values s) (to_z w64 t.loop-left.next-bits) (apart s))
 
 loop-left-smaller : tie.Need-loop-left-smaller invariant-loop-left decreases-loop-left
 loop-left-smaller c = omega arith

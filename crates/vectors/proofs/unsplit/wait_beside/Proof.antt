@@ -67,7 +67,7 @@ fed : (c : tie.After-wait_vector-lanes invariant-loop-left decreases-loop-left) 
 fed c =
     let t = c.before.before.before in
     let s = entry t in
-    c.wait_vector-lanes.ensures ∙ ap (feed (wait_step s.args.signs) 0 t.loop-left.lanes) c.before.vector_beside-vector.ensures
+    c.wait_vector-lanes.ensures ∙ ap (feed (wait_step s.args.signs) 0 t.loop-left.lanes) c.vector_beside-vector.ensures
 
 loop-left-smaller : tie.Need-loop-left-smaller invariant-loop-left decreases-loop-left
 loop-left-smaller c = omega arith

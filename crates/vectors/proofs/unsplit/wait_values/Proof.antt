@@ -61,7 +61,7 @@ returns-then-rest-eq0 c =
     )
 
 -- ---- values are left
-held : (c : tie.After-struct_told-1) → let at = c.before.before.wait_vectors-r.result.at in to_z w64 (of_z w64 at) ≡ at
+held : (c : tie.After-struct_told-1) → let at = c.wait_vectors-r.result.at in to_z w64 (of_z w64 at) ≡ at
 held c = to_z-of_z w64 _ (record { sfits = c.struct_told-1.given.1.0.1 })
 
 behind-at-requires : tie.Need-behind-at-requires
@@ -70,7 +70,7 @@ behind-at-requires c κs l =
     let s = entry g in
     let xs = s.args.values.now in
     let some : 0 < whole s = omega arith in
-    let left : whole s < s.args.len = omega (arith, c.before.if-rest-eq0.false) in
+    let left : whole s < s.args.len = omega (arith, c.if-rest-eq0.false) in
     subst (λ (z : ℤ). PlacesFit z (to_z w64 (of_z w64 s.args.eight)) 2) (sym (held c))
     (subst (λ (z : ℤ). PlacesFit g.wait_vectors-r.result.at z 2) (sym (to_z-of_z w64 s.args.eight s.fits.eight))
     (behind-fits s.args.start s.args.stride g.wait_vectors-r.result.at s.args.eight (whole s) (omega arith) (last g) (length xs) s.args.len
@@ -82,7 +82,7 @@ at-is c =
     let q = c.before in
     let g = q.before.before in
     let s = entry g in
-    let left : whole s < s.args.len = omega (arith, q.before.if-rest-eq0.false) in
+    let left : whole s < s.args.len = omega (arith, q.if-rest-eq0.false) in
     to_z-of_z w64 c.behind-at.result (record { sfits = c.behind-at.type_inv })
     ∙ behind-is s.args.start s.args.stride g.wait_vectors-r.result.at s.args.eight (whole s) (omega arith) (last g) c.behind-at.result
     (λ h. c.behind-at.ensures.0 (omega arith) ∙ held q)
@@ -121,7 +121,7 @@ returns c =
     let n = s.args.len in
     let xs = s.args.values.now in
     let vector =
-    c.before.vector_of-vector.ensures
+    c.vector_of-vector.ensures
     ∙ ap (λ (z : ℤ). vector_of (strided xs z (to_z w64 (of_z w64 s.args.stride)) (n % 8))) (at-is p)
     ∙ ap (λ (z : ℤ). vector_of (strided xs (rest s) z (n % 8))) (to_z-of_z w64 s.args.stride s.fits.stride) in
     let left = q.if-rest-eq0.false in (

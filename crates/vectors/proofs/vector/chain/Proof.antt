@@ -40,12 +40,11 @@ loop-k-smaller c = omega arith
 
 loop-k-preserved : tie.Need-loop-k-preserved invariant-loop-k decreases-loop-k
 loop-k-preserved c =
-    let t = c.before.before in
-    worked-more t.loop-k.invariant c.before.loop-k-test.true (mul-binary64 t.loop-k.p (get_or t.before.args.t1.v t.loop-k.k nan))
+    worked-more c.loop-k.invariant c.loop-k-test.true (mul-binary64 c.loop-k.p (get_or c.args.t1.v c.loop-k.k nan))
 
 returns : tie.Need-returns invariant-loop-k decreases-loop-k
 unfolding chained
-returns c = worked-all c.before.loop-k.invariant c.loop-k-test.false
+returns c = worked-all c.loop-k.invariant c.loop-k-test.false
 
 pub chain_spec : {M : Type 1} → statement M
 chain_spec = tie.close (tie.spec invariant-loop-k decreases-loop-k loop-k-init offset_bounds-vector-k bounds-vector-k overflow_add-k loop-k-smaller loop-k-preserved returns)

@@ -14,17 +14,16 @@ number_fits : (n : ℕ) → n ≤ 2 ^ 40 → SFits w64 (pos n)
 number_fits n = simp ints (simp atoms (omega arith))
 
 overflow_cast-result : tie.Need-overflow_cast-result
-overflow_cast-result c = let s = c.before in number_fits s.args.n s.requires.0
+overflow_cast-result c = number_fits c.args.n c.requires.0
 
 -- the product, of the numbers as the code holds them
-represent : (c : tie.Then-n-len) → let s = c.before in to_z w64 (of_z w64 s.args.stride) *ℤ to_z w64 s.args.n ≡ s.args.stride *ℤ pos s.args.n
+represent : (c : tie.Then-n-len) → to_z w64 (of_z w64 c.args.stride) *ℤ to_z w64 c.args.n ≡ c.args.stride *ℤ pos c.args.n
 represent c =
-    let s = c.before in
-    ap (λ (z : ℤ). z *ℤ to_z w64 s.args.n) (to_z-of_z w64 s.args.stride s.ranges.stride)
-    ∙ ap (λ (z : ℤ). s.args.stride *ℤ z) (to_z-of_z w64 (pos s.args.n) (overflow_cast-result c))
+    ap (λ (z : ℤ). z *ℤ to_z w64 c.args.n) (to_z-of_z w64 c.args.stride c.ranges.stride)
+    ∙ ap (λ (z : ℤ). c.args.stride *ℤ z) (to_z-of_z w64 (pos c.args.n) (overflow_cast-result c))
 
 overflow_mul-result : tie.Need-overflow_mul-result
-overflow_mul-result c = subst (SFits w64) (sym (represent c)) (c.before.requires.1 c.if-n-len.true)
+overflow_mul-result c = subst (SFits w64) (sym (represent c)) (c.requires.1 c.if-n-len.true)
 
 returns-then-n-len : tie.Need-returns-then-n-len
 returns-then-n-len c h = to_z-of_z w64 _ (overflow_mul-result c) ∙ represent c

@@ -56,11 +56,10 @@ returns c =
     let d = p.before in
     let e = d.before.before.before in
     let b = e.before.before.before in
-    let a = b.before.before.before in
-    let s = a.before.before.before.args in
-    least-tree s.over s.t1.v a.lesser_magnitude-a.result b.lesser_magnitude-b.result e.lesser_magnitude-c.result
+    let s = b.args in
+    least-tree s.over s.t1.v b.lesser_magnitude-a.result b.lesser_magnitude-b.result e.lesser_magnitude-c.result
     d.lesser_magnitude-d.result p.lesser.result q.lesser-2.result c.lesser-3.result
-    a.lesser_magnitude-a.ensures b.lesser_magnitude-b.ensures e.lesser_magnitude-c.ensures d.lesser_magnitude-d.ensures p.lesser.ensures
+    b.lesser_magnitude-a.ensures b.lesser_magnitude-b.ensures e.lesser_magnitude-c.ensures d.lesser_magnitude-d.ensures p.lesser.ensures
     q.lesser-2.ensures c.lesser-3.ensures
 
 pub least_magnitude_spec : {M : Type 1} → statement M

@@ -30,21 +30,20 @@ pattern signs (suc k) f h l (inr c) =
     )
 
 overflow_mul-field : tie.Need-overflow_mul-field
-overflow_mul-field c = let h = c.before.requires.1 in omega arith
+overflow_mul-field c = let h = c.requires.1 in omega arith
 
 overflow_sub-field : tie.Need-overflow_sub-field
-overflow_sub-field c = let h = c.before.requires.1 in omega arith
+overflow_sub-field c = let h = c.requires.1 in omega arith
 
 overflow_sub-field-else-signs : tie.Need-overflow_sub-field-else-signs
-overflow_sub-field-else-signs c = let h = c.before.requires.1 in omega arith
+overflow_sub-field-else-signs c = let h = c.requires.1 in omega arith
 
-field_of : (c : tie.Joined-signs) → let s = c.before in Field s.args.signs s.args.depth c.if-signs.field
+field_of : (c : tie.Joined-signs) → Field c.args.signs c.args.depth c.if-signs.field
 field_of c = ⊎_elim (λ p. inl (p.0.taken, p.1)) (λ p. inr (p.0.left, p.1)) c.if-signs.branch
 
-is : (c : tie.Joined-signs) → let s = c.before in
-    (of_bits binary64 (c.if-signs.field * 2 ^ 52 % 2 ^ 64) ≡ least_of s.args.signs s.args.depth)
+is : (c : tie.Joined-signs) → (of_bits binary64 (c.if-signs.field * 2 ^ 52 % 2 ^ 64) ≡ least_of c.args.signs c.args.depth)
     × T (not (nan_bits binary64 (c.if-signs.field * 2 ^ 52 % 2 ^ 64)))
-is c = let s = c.before in pattern s.args.signs s.args.depth c.if-signs.field s.requires.0 s.requires.1 (field_of c)
+is c = pattern c.args.signs c.args.depth c.if-signs.field c.requires.0 c.requires.1 (field_of c)
 
 float_from_bits-result : tie.Need-float_from_bits-result
 float_from_bits-result c = (is c.before).1

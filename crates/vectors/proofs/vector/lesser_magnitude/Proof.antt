@@ -17,10 +17,9 @@ lesser-requires c κs = search rules
 returns : tie.Need-returns
 returns c =
     let q = c.before in
-    let p = q.before in
-    let s = p.before.args in
-    lessers (magnitude_but s.over s.x) (magnitude_but s.over s.y) p.magnitude_but.result q.magnitude_but-2.result c.lesser.result
-    p.magnitude_but.ensures q.magnitude_but-2.ensures c.lesser.ensures
+    let s = q.args in
+    lessers (magnitude_but s.over s.x) (magnitude_but s.over s.y) q.magnitude_but.result q.magnitude_but-2.result c.lesser.result
+    q.magnitude_but.ensures q.magnitude_but-2.ensures c.lesser.ensures
 
 pub lesser_magnitude_spec : {M : Type 1} → statement M
 lesser_magnitude_spec = tie.close (tie.spec magnitude_but-requires magnitude_but-requires-2 lesser-requires returns)

@@ -32,14 +32,12 @@ loop-k-smaller c = omega arith
 
 loop-k-preserved : tie.Need-loop-k-preserved invariant-loop-k decreases-loop-k
 loop-k-preserved c =
-    let t = c.before.before in
-    worked-more t.loop-k.invariant c.before.loop-k-test.true
+    worked-more c.loop-k.invariant c.loop-k-test.true
     refl
 
 returns : tie.Need-returns invariant-loop-k decreases-loop-k
 returns c =
-    let t = c.before in
-    worked-tested (not_below t.before.args.least) nan t.before.args.t1.least t.before.requires t.loop-k.invariant c.loop-k-test.false
+    worked-tested (not_below c.args.least) nan c.args.t1.least c.requires c.loop-k.invariant c.loop-k-test.false
 
 pub none_below_spec : {M : Type 1} → statement M
 none_below_spec = tie.close (tie.spec invariant-loop-k decreases-loop-k loop-k-init offset_bounds-w-k bounds-w-k overflow_add-k loop-k-smaller loop-k-preserved returns)

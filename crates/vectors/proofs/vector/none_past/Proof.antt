@@ -36,13 +36,11 @@ loop-k-smaller c = omega arith
 
 loop-k-preserved : tie.Need-loop-k-preserved invariant-loop-k decreases-loop-k
 loop-k-preserved c =
-    let t = c.before.before.before in
-    worked-more t.loop-k.invariant c.before.before.loop-k-test.true (ap (λ (b : Bool). t.loop-k.ok && b) c.not_past-ok.ensures)
+    worked-more c.loop-k.invariant c.loop-k-test.true (ap (λ (b : Bool). c.loop-k.ok && b) c.not_past-ok.ensures)
 
 returns : tie.Need-returns invariant-loop-k decreases-loop-k
 returns c =
-    let t = c.before in
-    worked-tested not_past nan t.before.args.t1.v t.before.requires t.loop-k.invariant c.loop-k-test.false
+    worked-tested not_past nan c.args.t1.v c.requires c.loop-k.invariant c.loop-k-test.false
 
 pub none_past_spec : {M : Type 1} → statement M
 none_past_spec = tie.close (tie.spec invariant-loop-k decreases-loop-k loop-k-init offset_bounds-vector-k bounds-vector-k not_past-ok-requires overflow_add-k loop-k-smaller loop-k-preserved returns)

@@ -29,7 +29,7 @@ bounds-vector-k : tie.Need-bounds-vector-k invariant-loop-k decreases-loop-k
 bounds-vector-k c = omega arith
 
 split_step-t-requires : tie.Need-split_step-t-requires invariant-loop-k decreases-loop-k
-split_step-t-requires c κs = let t = c.before.before in lanes-le (2 ^ 59 + farthest * t.loop-k.k) (2 ^ 60) t.loop-k.t (omega arith) t.loop-k.invariant.1
+split_step-t-requires c κs = lanes-le (2 ^ 59 + farthest * c.loop-k.k) (2 ^ 60) c.loop-k.t (omega arith) c.loop-k.invariant.1
 
 overflow_add-k : tie.Need-overflow_add-k invariant-loop-k decreases-loop-k
 overflow_add-k c = omega arith
@@ -39,19 +39,17 @@ loop-k-smaller c = omega arith
 
 loop-k-preserved : tie.Need-loop-k-preserved invariant-loop-k decreases-loop-k
 loop-k-preserved c =
-    let t = c.before.before.before in
-    let k = t.loop-k.k in
-    let x = get_or t.before.args.t2.v k nan in (
-      worked-more t.loop-k.invariant.0 c.before.before.loop-k-test.true c.split_step-t.ensures,
+    let k = c.loop-k.k in
+    let x = get_or c.args.t2.v k nan in (
+      worked-more c.loop-k.invariant.0 c.loop-k-test.true c.split_step-t.ensures,
       subst (SmallLanes (2 ^ 59 + farthest * (k + 1))) (sym c.split_step-t.ensures)
-          (lanes-le (2 ^ 59 + farthest * k + farthest) (2 ^ 59 + farthest * (k + 1)) (split_step k t.loop-k.t x) (omega arith)
-          (step_small (2 ^ 59 + farthest * k) t.loop-k.t t.loop-k.invariant.1 k x)),
+          (lanes-le (2 ^ 59 + farthest * k + farthest) (2 ^ 59 + farthest * (k + 1)) (split_step k c.loop-k.t x) (omega arith)
+          (step_small (2 ^ 59 + farthest * k) c.loop-k.t c.loop-k.invariant.1 k x)),
     )
 
 returns : tie.Need-returns invariant-loop-k decreases-loop-k
 returns c =
-    let t = c.before in
-    worked-fed split_step nan t.before.args.t2.v t.before.requires.1 t.loop-k.invariant.0 c.loop-k-test.false
+    worked-fed split_step nan c.args.t2.v c.requires.1 c.loop-k.invariant.0 c.loop-k-test.false
 
 pub split_mixed_spec : {M : Type 1} → statement M
 split_mixed_spec = tie.close (tie.spec invariant-loop-k decreases-loop-k loop-k-init offset_bounds-vector-k bounds-vector-k split_step-t-requires overflow_add-k loop-k-smaller loop-k-preserved returns)

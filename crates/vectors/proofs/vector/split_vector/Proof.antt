@@ -10,8 +10,7 @@ vector_ordinary-requires c κs = search rules
 split_ordinaries-requires : tie.Need-split_ordinaries-requires
 split_ordinaries-requires c κs =
     let q = c.before in
-    let s = q.before in
-    (s.requires.0, s.requires.1, sym q.vector_ordinary.ensures ∙ c.if-vector_ordinary.true)
+    (q.requires.0, q.requires.1, sym q.vector_ordinary.ensures ∙ c.if-vector_ordinary.true)
 
 returns-then-vector_ordinary : tie.Need-returns-then-vector_ordinary
 returns-then-vector_ordinary c = c.split_ordinaries.ensures
@@ -22,8 +21,7 @@ vector_subnormal-requires c κs = search rules
 split_subnormals-requires : tie.Need-split_subnormals-requires
 split_subnormals-requires c κs =
     let q = c.before in
-    let s = q.before.before.before in
-    (s.requires.0, s.requires.1, sym q.vector_subnormal.ensures ∙ c.if-vector_subnormal.true)
+    (q.requires.0, q.requires.1, sym q.vector_subnormal.ensures ∙ c.if-vector_subnormal.true)
 
 returns-then-vector_subnormal : tie.Need-returns-then-vector_subnormal
 returns-then-vector_subnormal c = c.split_subnormals.ensures

@@ -46,17 +46,15 @@ loop-k-smaller c = omega arith
 loop-k-preserved : tie.Need-loop-k-preserved invariant-loop-k decreases-loop-k
 loop-k-preserved c =
     let t = c.before.before in
-    let s = t.before in
-    let l = c.before.loop-k-test.true in
-    worked-more t.loop-k.invariant l (ap (set t.loop-k.r.v t.loop-k.k) (sym (window-at s.args.values.now s.args.at 8 t.loop-k.k nan l)))
+    let l = c.loop-k-test.true in
+    worked-more t.loop-k.invariant l (ap (set t.loop-k.r.v t.loop-k.k) (sym (window-at t.args.values.now t.args.at 8 t.loop-k.k nan l)))
 
 returns : tie.Need-returns invariant-loop-k decreases-loop-k
 unfolding vector_of
 returns c =
     let t = c.before in
-    let s = t.before in
-    let xs = window s.args.values.now s.args.at 8 in
-    let e = window-length s.args.values.now s.args.at 8 s.requires in
+    let xs = window t.args.values.now t.args.at 8 in
+    let e = window-length t.args.values.now t.args.at 8 t.requires in
     worked-fed put nan xs e t.loop-k.invariant c.loop-k-test.false ∙ vector-full xs e
 
 pub vector_at_spec : {M : Type 1} → statement M

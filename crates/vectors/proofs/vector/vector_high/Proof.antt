@@ -27,20 +27,18 @@ from_is r vector b q e h = twice-test r ∙ ap (not_below (least_of false 1021))
 
 returns-then-least_magnitude : tie.Need-returns-then-least_magnitude
 returns-then-least_magnitude c =
-    let q = c.before.before in
-    let v = q.before.args.vector.v in
+    let v = c.args.vector.v in
     from_is c.least_magnitude-then-least_magnitude.result v false (not (not_below (least_of false 1074) (least_magnitude false v))) c.least_magnitude-then-least_magnitude.ensures
-    (over-is q.least_magnitude.result v true q.least_magnitude.ensures c.before.if-least_magnitude.true)
+    (over-is c.least_magnitude.result v true c.least_magnitude.ensures c.if-least_magnitude.true)
 
 least_magnitude-requires-2 : tie.Need-least_magnitude-requires-2
 least_magnitude-requires-2 c κs = search rules
 
 returns : tie.Need-returns
 returns c =
-    let q = c.before.before in
-    let v = q.before.args.vector.v in
+    let v = c.args.vector.v in
     from_is c.least_magnitude-2.result v true (not (not_below (least_of false 1074) (least_magnitude false v))) c.least_magnitude-2.ensures
-    (over-is q.least_magnitude.result v false q.least_magnitude.ensures c.before.if-least_magnitude.false)
+    (over-is c.least_magnitude.result v false c.least_magnitude.ensures c.if-least_magnitude.false)
 
 pub vector_high_spec : {M : Type 1} → statement M
 vector_high_spec = tie.close (tie.spec least_magnitude-requires least_magnitude-requires-then-least_magnitude returns-then-least_magnitude least_magnitude-requires-2 returns)

@@ -31,13 +31,12 @@ decreases-loop-k values at stride n r₀ place₀ k₀ r place k = 8 - k
 
 loop-k-init : tie.Need-loop-k-init invariant-loop-k decreases-loop-k
 unfolding of_bits vector_of strided feed
-loop-k-init c =
-    let s = c.before in (
-      omega arith,
-      ap (λ (k : ℕ). vector_of (strided s.args.values.now (to_z w64 (of_z w64 s.args.at)) (to_z w64 (of_z w64 s.args.stride)) k))
-          (let e : 0 ≡ min 0 s.args.n = omega arith in e),
-      λ h. place-first (to_z w64 (of_z w64 s.args.at)) (to_z w64 (of_z w64 s.args.stride)),
-    )
+loop-k-init c = (
+  omega arith,
+  ap (λ (k : ℕ). vector_of (strided c.args.values.now (to_z w64 (of_z w64 c.args.at)) (to_z w64 (of_z w64 c.args.stride)) k))
+      (let e : 0 ≡ min 0 c.args.n = omega arith in e),
+  λ h. place-first (to_z w64 (of_z w64 c.args.at)) (to_z w64 (of_z w64 c.args.stride)),
+)
 
 -- a turn of the loop, as it is entered: the entry, its values, and its numbers as the code holds them
 abbrev entry : tie.At-loop-k invariant-loop-k decreases-loop-k → tie.Start invariant-loop-k decreases-loop-k
@@ -78,16 +77,16 @@ offset_bounds-values-index : tie.Need-offset_bounds-values-index invariant-loop-
 offset_bounds-values-index c = let t = c.before.before in omega (arith, here t c.if-k-n.true, (entry t).well_formed.0.1)
 
 bounds-values-index : tie.Need-bounds-values-index invariant-loop-k decreases-loop-k
-bounds-values-index c = here c.before.before.before c.before.if-k-n.true
+bounds-values-index c = here c.before.before.before c.if-k-n.true
 
 offset_bounds-r-k : tie.Need-offset_bounds-r-k invariant-loop-k decreases-loop-k
-offset_bounds-r-k c = let l = c.before.before.loop-k-test.true in omega arith
+offset_bounds-r-k c = let l = c.loop-k-test.true in omega arith
 
 bounds-r-k : tie.Need-bounds-r-k invariant-loop-k decreases-loop-k
-bounds-r-k c = let l = c.before.before.loop-k-test.true in omega arith
+bounds-r-k c = let l = c.loop-k-test.true in omega arith
 
 overflow_add-k : tie.Need-overflow_add-k invariant-loop-k decreases-loop-k
-overflow_add-k c = let l = c.before.loop-k-test.true in omega arith
+overflow_add-k c = let l = c.loop-k-test.true in omega arith
 
 -- the value is in, if there is one
 more : (c : tie.Joined-k-n invariant-loop-k decreases-loop-k) → let t = c.before.before in
@@ -127,27 +126,27 @@ next : (c : tie.After-next_place-place invariant-loop-k decreases-loop-k) → le
     to_z w64 (of_z w64 c.next_place-place.result) ≡ first t +ℤ apart t *ℤ pos (t.loop-k.k + 1)
 next c =
     let t = c.before.before.before.before in
-    let l = c.before.if-k-n-2.true in
+    let l = c.if-k-n-2.true in
     to_z-of_z w64 c.next_place-place.result (record { sfits = c.next_place-place.type_inv })
     ∙ c.next_place-place.ensures.0 (omega arith)
     ∙ ap (λ (z : ℤ). z +ℤ apart t) (t.loop-k.invariant.2 (omega arith))
     ∙ place-next (first t) (apart t) t.loop-k.k
 
 loop-k-smaller-then-k-n-2 : tie.Need-loop-k-smaller-then-k-n-2 invariant-loop-k decreases-loop-k
-loop-k-smaller-then-k-n-2 c = let l = c.before.before.before.loop-k-test.true in omega arith
+loop-k-smaller-then-k-n-2 c = let l = c.loop-k-test.true in omega arith
 
 loop-k-preserved-then-k-n-2 : tie.Need-loop-k-preserved-then-k-n-2 invariant-loop-k decreases-loop-k
 loop-k-preserved-then-k-n-2 c =
-    let l = c.before.before.before.loop-k-test.true in
+    let l = c.loop-k-test.true in
     (omega arith, more c.before.before, λ h. next c)
 
 loop-k-smaller : tie.Need-loop-k-smaller invariant-loop-k decreases-loop-k
-loop-k-smaller c = let l = c.before.before.loop-k-test.true in omega arith
+loop-k-smaller c = let l = c.loop-k-test.true in omega arith
 
 -- the last value, and what is past it: no further place is formed
 loop-k-preserved : tie.Need-loop-k-preserved invariant-loop-k decreases-loop-k
 loop-k-preserved c =
-    let l = c.before.before.loop-k-test.true in
+    let l = c.loop-k-test.true in
     let g = c.if-k-n-2.false in
     (omega arith, more c.before, λ h. absurd (omega arith))
 

@@ -15,15 +15,13 @@ none_past-requires c κs = search rules
 
 returns-then-vector_high : tie.Need-returns-then-vector_high
 returns-then-vector_high c =
-    let q = c.before.before in
-    let v = q.before.args.vector.v in
-    c.none_past.ensures ∙ sym (ap (λ (t : Bool). t && every not_past v) (sym q.vector_high.ensures ∙ c.before.if-vector_high.true))
+    let v = c.args.vector.v in
+    c.none_past.ensures ∙ sym (ap (λ (t : Bool). t && every not_past v) (sym c.vector_high.ensures ∙ c.if-vector_high.true))
 
 returns : tie.Need-returns
 returns c =
-    let q = c.before in
-    let v = q.before.args.vector.v in
-    sym (ap (λ (t : Bool). t && every not_past v) (sym q.vector_high.ensures ∙ c.if-vector_high.false))
+    let v = c.args.vector.v in
+    sym (ap (λ (t : Bool). t && every not_past v) (sym c.vector_high.ensures ∙ c.if-vector_high.false))
 
 pub vector_ordinary_spec : {M : Type 1} → statement M
 vector_ordinary_spec = tie.close (tie.spec vector_high-requires none_past-requires returns-then-vector_high returns)

@@ -16,18 +16,16 @@ none_normal-requires c κs = search rules
 
 returns-then-least_magnitude : tie.Need-returns-then-least_magnitude
 returns-then-least_magnitude c =
-    let q = c.before.before in
-    let v = q.before.args.vector.v in
+    let v = c.args.vector.v in
     c.none_normal.ensures
     ∙ sym (ap (λ (t : Bool). t && every below_normal v)
-    (sym (positive-test q.least_magnitude.result ∙ ap (not_below (least_of false 1074)) q.least_magnitude.ensures) ∙ c.before.if-least_magnitude.true))
+    (sym (positive-test c.least_magnitude.result ∙ ap (not_below (least_of false 1074)) c.least_magnitude.ensures) ∙ c.if-least_magnitude.true))
 
 returns : tie.Need-returns
 returns c =
-    let q = c.before in
-    let v = q.before.args.vector.v in
+    let v = c.args.vector.v in
     sym (ap (λ (t : Bool). t && every below_normal v)
-    (sym (positive-test q.least_magnitude.result ∙ ap (not_below (least_of false 1074)) q.least_magnitude.ensures) ∙ c.if-least_magnitude.false))
+    (sym (positive-test c.least_magnitude.result ∙ ap (not_below (least_of false 1074)) c.least_magnitude.ensures) ∙ c.if-least_magnitude.false))
 
 pub vector_subnormal_spec : {M : Type 1} → statement M
 vector_subnormal_spec = tie.close (tie.spec least_magnitude-requires none_normal-requires returns-then-least_magnitude returns)

@@ -50,11 +50,10 @@ loop-k-smaller c = omega arith
 
 loop-k-preserved : tie.Need-loop-k-preserved invariant-loop-k decreases-loop-k
 loop-k-preserved c =
-    let t = c.before.before.before in
-    beside-more _ _ _ _ t.loop-k.invariant c.before.before.loop-k-test.true
+    beside-more _ _ _ _ c.loop-k.invariant c.loop-k-test.true
 
 returns : tie.Need-returns invariant-loop-k decreases-loop-k
-returns c = beside-all _ _ _ _ c.before.loop-k.invariant c.loop-k-test.false
+returns c = beside-all _ _ _ _ c.loop-k.invariant c.loop-k-test.false
 
 pub beside_spec : {M : Type 1} → statement M
 beside_spec = tie.close (tie.spec invariant-loop-k decreases-loop-k loop-k-init offset_bounds-a-k bounds-a-k offset_bounds-r-k bounds-r-k offset_bounds-b-k bounds-b-k overflow_add-r offset_bounds-r-k-in-loop-k bounds-r-k-in-loop-k overflow_add-k loop-k-smaller loop-k-preserved returns)

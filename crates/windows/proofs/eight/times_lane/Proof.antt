@@ -43,11 +43,10 @@ loop-t-smaller c = omega arith
 
 loop-t-preserved : tie.Need-loop-t-preserved invariant-loop-t decreases-loop-t
 loop-t-preserved c =
-    let t = c.before.before.before in
-    lane-more _ _ _ _ _ t.loop-t.invariant c.before.before.loop-t-test.true
+    lane-more _ _ _ _ _ c.loop-t.invariant c.loop-t-test.true
 
 returns : tie.Need-returns invariant-loop-t decreases-loop-t
-returns c = lane-all _ _ _ _ _ c.before.loop-t.invariant c.loop-t-test.false
+returns c = lane-all _ _ _ _ _ c.loop-t.invariant c.loop-t-test.false
 
 pub times_lane_spec : {M : Type 1} → statement M
 times_lane_spec = tie.close (tie.spec invariant-loop-t decreases-loop-t loop-t-init offset_bounds-r-t bounds-r-t overflow_add-r offset_bounds-lanes-t bounds-lanes-t offset_bounds-r-t-in-loop-t bounds-r-t-in-loop-t overflow_add-t loop-t-smaller loop-t-preserved returns)

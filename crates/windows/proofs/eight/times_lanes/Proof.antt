@@ -19,8 +19,7 @@ loop-k-init c = (omega arith, c.requires.2, lanes-none _ _ _ c.requires.0)
 times_lane-r-requires : tie.Need-times_lane-r-requires invariant-loop-k decreases-loop-k
 times_lane-r-requires c κs =
     let t = c.before in
-    let s = t.before in
-    (t.loop-k.invariant.2.long, s.requires.1, omega (arith, c.loop-k-test.true, s.requires.3))
+    (t.loop-k.invariant.2.long, t.requires.1, omega (arith, c.loop-k-test.true, t.requires.3))
 
 overflow_add-k : tie.Need-overflow_add-k invariant-loop-k decreases-loop-k
 overflow_add-k c = omega arith
@@ -31,15 +30,13 @@ loop-k-smaller c = omega arith
 loop-k-preserved : tie.Need-loop-k-preserved invariant-loop-k decreases-loop-k
 loop-k-preserved c =
     let l = c.before in
-    let t = l.before in
-    (omega arith, omega (arith, l.loop-k-test.true), lanes-more _ _ _ _ _ _ t.loop-k.invariant.2 c.times_lane-r.ensures t.loop-k.invariant.0)
+    (omega arith, omega (arith, l.loop-k-test.true), lanes-more _ _ _ _ _ _ l.loop-k.invariant.2 c.times_lane-r.ensures l.loop-k.invariant.0)
 
 returns : tie.Need-returns invariant-loop-k decreases-loop-k
 returns c =
     let t = c.before in
-    let s = t.before in
-    subst (λ (n : ℕ). TimesLanes s.args.c.v s.args.lanes.v s.args.first n t.loop-k.r.v)
-    (let e : t.loop-k.k ≡ s.args.n = omega (arith, t.loop-k.invariant.1, c.loop-k-test.false) in e) t.loop-k.invariant.2
+    subst (λ (n : ℕ). TimesLanes t.args.c.v t.args.lanes.v t.args.first n t.loop-k.r.v)
+    (let e : t.loop-k.k ≡ t.args.n = omega (arith, t.loop-k.invariant.1, c.loop-k-test.false) in e) t.loop-k.invariant.2
 
 pub times_lanes_spec : {M : Type 1} → statement M
 times_lanes_spec = tie.close (tie.spec invariant-loop-k decreases-loop-k loop-k-init times_lane-r-requires overflow_add-k loop-k-smaller loop-k-preserved returns)

@@ -31,34 +31,30 @@ loop-i-init : tie.Need-loop-i-init invariant-loop-i decreases-loop-i
 loop-i-init c = advancing-none _ _ c.requires.2
 
 -- the axis at i, and those after it
-here : (c : tie.In-loop-i invariant-loop-i decreases-loop-i) → let s = c.before.before in
-    drop c.before.loop-i.i (take s.args.count s.args.t3)
-    ≡ get_or s.args.t3 c.before.loop-i.i no_axis ∷ drop (c.before.loop-i.i + 1) (take s.args.count s.args.t3)
+here : (c : tie.In-loop-i invariant-loop-i decreases-loop-i) → drop c.loop-i.i (take c.args.count c.args.t3)
+    ≡ get_or c.args.t3 c.loop-i.i no_axis ∷ drop (c.loop-i.i + 1) (take c.args.count c.args.t3)
 here c =
-    let s = c.before.before in
-    take-from s.args.t3 s.args.count no_axis c.before.loop-i.i c.loop-i-test.true (omega (arith, s.requires.0, s.requires.1))
+    take-from c.args.t3 c.args.count no_axis c.loop-i.i c.loop-i-test.true (omega (arith, c.requires.0, c.requires.1))
 
-counted : (c : tie.In-loop-i invariant-loop-i decreases-loop-i) → length (take c.before.before.args.count c.before.before.args.t3) ≡ c.before.before.args.count
-counted c = let s = c.before.before in length-take-le s.args.count s.args.t3 (omega (arith, s.requires.0, s.requires.1))
+counted : (c : tie.In-loop-i invariant-loop-i decreases-loop-i) → length (take c.args.count c.args.t3) ≡ c.args.count
+counted c = length-take-le c.args.count c.args.t3 (omega (arith, c.requires.0, c.requires.1))
 
-axis : (c : tie.In-loop-i invariant-loop-i decreases-loop-i) → Axis (get_or c.before.before.args.t3 c.before.loop-i.i no_axis)
-axis c = advance-axis _ _ _ _ c.before.loop-i.invariant _ (here c)
+axis : (c : tie.In-loop-i invariant-loop-i decreases-loop-i) → Axis (get_or c.args.t3 c.loop-i.i no_axis)
+axis c = advance-axis _ _ _ _ c.loop-i.invariant _ (here c)
 
 digit : (c : tie.In-loop-i invariant-loop-i decreases-loop-i)
-    → get_or c.before.loop-i.c.digits c.before.loop-i.i 0
-    ≡ c.before.loop-i.invariant.index % (get_or c.before.before.args.t3 c.before.loop-i.i no_axis).extent
-digit c = advance-digit _ _ _ _ c.before.loop-i.invariant _ (here c)
+    → get_or c.loop-i.c.digits c.loop-i.i 0
+    ≡ c.loop-i.invariant.index % (get_or c.args.t3 c.loop-i.i no_axis).extent
+digit c = advance-digit _ _ _ _ c.loop-i.invariant _ (here c)
 
-from-here : (c : tie.In-loop-i invariant-loop-i decreases-loop-i) → Small c.before.loop-i.c.source_offset
-from-here c = advance-here _ _ _ _ c.before.loop-i.invariant _ (here c)
+from-here : (c : tie.In-loop-i invariant-loop-i decreases-loop-i) → Small c.loop-i.c.source_offset
+from-here c = advance-here _ _ _ _ c.loop-i.invariant _ (here c)
 
 -- a step, where the digit has room
-room : (c : tie.Then-d-a invariant-loop-i decreases-loop-i) → let k = c.before.before.before.before.before in let s = k.before in
-    k.loop-i.invariant.index % (get_or s.args.t3 k.loop-i.i no_axis).extent + 1 < (get_or s.args.t3 k.loop-i.i no_axis).extent
+room : (c : tie.Then-d-a invariant-loop-i decreases-loop-i) → let k = c.before.before.before.before.before in k.loop-i.invariant.index % (get_or k.args.t3 k.loop-i.i no_axis).extent + 1 < (get_or k.args.t3 k.loop-i.i no_axis).extent
 room c = omega (arith, digit c.before.before.before.before, c.if-d-a.true)
 
-full : (c : tie.Else-d-a invariant-loop-i decreases-loop-i) → let k = c.before.before.before.before.before in let s = k.before in
-    (get_or s.args.t3 k.loop-i.i no_axis).extent ≤ k.loop-i.invariant.index % (get_or s.args.t3 k.loop-i.i no_axis).extent + 1
+full : (c : tie.Else-d-a invariant-loop-i decreases-loop-i) → let k = c.before.before.before.before.before in (get_or k.args.t3 k.loop-i.i no_axis).extent ≤ k.loop-i.invariant.index % (get_or k.args.t3 k.loop-i.i no_axis).extent + 1
 full c = omega (arith, digit c.before.before.before.before, c.if-d-a.false)
 
 offset_bounds-axes-i : tie.Need-offset_bounds-axes-i invariant-loop-i decreases-loop-i
@@ -74,7 +70,7 @@ bounds-c-i : tie.Need-bounds-c-i invariant-loop-i decreases-loop-i
 bounds-c-i c = omega arith
 
 overflow_add-d : tie.Need-overflow_add-d invariant-loop-i decreases-loop-i
-overflow_add-d c = let t = c.before.before in omega (arith, digit t, mod-lt t.before.loop-i.invariant.index (axis t).1, axis-small _ (axis t))
+overflow_add-d c = let t = c.before.before in omega (arith, digit t, mod-lt t.loop-i.invariant.index (axis t).1, axis-small _ (axis t))
 
 offset_bounds-c-i-then-d-a : tie.Need-offset_bounds-c-i-then-d-a invariant-loop-i decreases-loop-i
 offset_bounds-c-i-then-d-a c = omega arith
@@ -86,19 +82,19 @@ overflow_add-c : tie.Need-overflow_add-c invariant-loop-i decreases-loop-i
 overflow_add-c c =
     let u = c.before.before.before in
     let t = u.before.before.before.before in
-    let a = get_or t.before.before.args.t3 t.before.loop-i.i no_axis in
+    let a = get_or t.args.t3 t.loop-i.i no_axis in
     let f : SFits w64 a.source_step = record { sfits = c.struct_told-then-d-a-1.given.1.0.1 } in
-    simp (to_z-of_z f, to_z-of_z (small-fits _ (from-here t))) (small-fits _ (step-in-bounds _ _ _ _ t.before.loop-i.invariant a (here t) (room u)))
+    simp (to_z-of_z f, to_z-of_z (small-fits _ (from-here t))) (small-fits _ (step-in-bounds _ _ _ _ t.loop-i.invariant a (here t) (room u)))
 
 returns-then-d-a : tie.Need-returns-then-d-a invariant-loop-i decreases-loop-i
 returns-then-d-a c =
     let u = c.before.before.before in
     let t = u.before.before.before.before in
-    let a = get_or t.before.before.args.t3 t.before.loop-i.i no_axis in
+    let a = get_or t.args.t3 t.loop-i.i no_axis in
     let f : SFits w64 a.source_step = record { sfits = c.struct_told-then-d-a-1.given.1.0.1 } in
-    simp (to_z-of_z f, to_z-of_z (small-fits _ (from-here t)), to_z-of_z (small-fits _ (step-in-bounds _ _ _ _ t.before.loop-i.invariant a (here t) (room u))))
-    (advanced-step _ _ _ _ t.before.loop-i.invariant a (here t) (room u) _ refl
-    (ap (λ (n : ℕ). set t.before.loop-i.c.digits t.before.loop-i.i (n + 1)) (digit t)))
+    simp (to_z-of_z f, to_z-of_z (small-fits _ (from-here t)), to_z-of_z (small-fits _ (step-in-bounds _ _ _ _ t.loop-i.invariant a (here t) (room u))))
+    (advanced-step _ _ _ _ t.loop-i.invariant a (here t) (room u) _ refl
+    (ap (λ (n : ℕ). set t.loop-i.c.digits t.loop-i.i (n + 1)) (digit t)))
 
 offset_bounds-c-i-in-loop-i : tie.Need-offset_bounds-c-i-in-loop-i invariant-loop-i decreases-loop-i
 offset_bounds-c-i-in-loop-i c = omega arith
@@ -110,9 +106,9 @@ overflow_add-c-in-loop-i : tie.Need-overflow_add-c-in-loop-i invariant-loop-i de
 overflow_add-c-in-loop-i c =
     let u = c.before.before.before in
     let t = u.before.before.before.before in
-    let a = get_or t.before.before.args.t3 t.before.loop-i.i no_axis in
+    let a = get_or t.args.t3 t.loop-i.i no_axis in
     let f : SFits w64 a.source_reset = record { sfits = c.struct_told-in-loop-i-2-1.given.1.1.0.1 } in
-    simp (to_z-of_z f, to_z-of_z (small-fits _ (from-here t))) (small-fits _ (reset-in-bounds _ _ _ _ t.before.loop-i.invariant a (here t) (full u)))
+    simp (to_z-of_z f, to_z-of_z (small-fits _ (from-here t))) (small-fits _ (reset-in-bounds _ _ _ _ t.loop-i.invariant a (here t) (full u)))
 
 overflow_add-i : tie.Need-overflow_add-i invariant-loop-i decreases-loop-i
 overflow_add-i c = omega arith
@@ -124,15 +120,14 @@ loop-i-preserved : tie.Need-loop-i-preserved invariant-loop-i decreases-loop-i
 loop-i-preserved c =
     let u = c.before.before.before in
     let t = u.before.before.before.before in
-    let a = get_or t.before.before.args.t3 t.before.loop-i.i no_axis in
+    let a = get_or t.args.t3 t.loop-i.i no_axis in
     let f : SFits w64 a.source_reset = record { sfits = c.struct_told-in-loop-i-2-1.given.1.1.0.1 } in
-    simp (to_z-of_z f, to_z-of_z (small-fits _ (from-here t)), to_z-of_z (small-fits _ (reset-in-bounds _ _ _ _ t.before.loop-i.invariant a (here t) (full u))))
-    (advancing-more _ _ _ _ t.before.loop-i.invariant a (here t) (full u) (omega (arith, t.loop-i-test.true, counted t)) _ refl refl)
+    simp (to_z-of_z f, to_z-of_z (small-fits _ (from-here t)), to_z-of_z (small-fits _ (reset-in-bounds _ _ _ _ t.loop-i.invariant a (here t) (full u))))
+    (advancing-more _ _ _ _ t.loop-i.invariant a (here t) (full u) (omega (arith, t.loop-i-test.true, counted t)) _ refl refl)
 
 returns : tie.Need-returns invariant-loop-i decreases-loop-i
 returns c =
-    let s = c.before.before in
-    advanced-all (take s.args.count s.args.t3) _ _ c.before.loop-i.i c.before.loop-i.invariant (simp length-take (omega (arith, c.loop-i-test.false)))
+    advanced-all (take c.args.count c.args.t3) _ _ c.loop-i.i c.loop-i.invariant (simp length-take (omega (arith, c.loop-i-test.false)))
 
 pub advance_spec : {M : Type 1} → statement M
 advance_spec = tie.close (tie.spec invariant-loop-i decreases-loop-i loop-i-init offset_bounds-axes-i bounds-axes-i offset_bounds-c-i bounds-c-i overflow_add-d offset_bounds-c-i-then-d-a bounds-c-i-then-d-a overflow_add-c returns-then-d-a offset_bounds-c-i-in-loop-i bounds-c-i-in-loop-i overflow_add-c-in-loop-i overflow_add-i loop-i-smaller loop-i-preserved returns)

@@ -34,35 +34,32 @@ loop-i-init c =
     simp (to_z-of_z f) (decoded-none (take c.args.count c.args.t4) c.args.base c.args.index _ c.requires.2 c.requires.3 refl refl)
 
 -- the axis at i, and those after it
-here : (c : tie.In-loop-i invariant-loop-i decreases-loop-i) → let s = c.before.before in
-    drop c.before.loop-i.i (take s.args.count s.args.t4)
-    ≡ get_or s.args.t4 c.before.loop-i.i no_axis ∷ drop (c.before.loop-i.i + 1) (take s.args.count s.args.t4)
+here : (c : tie.In-loop-i invariant-loop-i decreases-loop-i) → drop c.loop-i.i (take c.args.count c.args.t4)
+    ≡ get_or c.args.t4 c.loop-i.i no_axis ∷ drop (c.loop-i.i + 1) (take c.args.count c.args.t4)
 here c =
-    let s = c.before.before in
-    take-from s.args.t4 s.args.count no_axis c.before.loop-i.i c.loop-i-test.true (omega (arith, s.requires.0, s.requires.1))
+    take-from c.args.t4 c.args.count no_axis c.loop-i.i c.loop-i-test.true (omega (arith, c.requires.0, c.requires.1))
 
-room : (c : tie.In-loop-i invariant-loop-i decreases-loop-i) → c.before.loop-i.i < PLACES
-room c = omega (arith, c.before.before.requires.1)
+room : (c : tie.In-loop-i invariant-loop-i decreases-loop-i) → c.loop-i.i < PLACES
+room c = omega (arith, c.requires.1)
 
-axis : (c : tie.In-loop-i invariant-loop-i decreases-loop-i) → Axis (get_or c.before.before.args.t4 c.before.loop-i.i no_axis)
-axis c = decode-axis _ _ _ _ _ _ c.before.loop-i.invariant _ (room c) (here c)
+axis : (c : tie.In-loop-i invariant-loop-i decreases-loop-i) → Axis (get_or c.args.t4 c.loop-i.i no_axis)
+axis c = decode-axis _ _ _ _ _ _ c.loop-i.invariant _ (room c) (here c)
 
 small-digit : (c : tie.In-loop-i invariant-loop-i decreases-loop-i)
-    → c.before.loop-i.rest % (get_or c.before.before.args.t4 c.before.loop-i.i no_axis).extent < 2 ^ 63
-small-digit c = let w = axis c in omega (arith, mod-lt c.before.loop-i.rest w.1, axis-small _ w)
+    → c.loop-i.rest % (get_or c.args.t4 c.loop-i.i no_axis).extent < 2 ^ 63
+small-digit c = let w = axis c in omega (arith, mod-lt c.loop-i.rest w.1, axis-small _ w)
 
 -- the offset so far, the share of the digit, and their sum fit i64
-from-here : (c : tie.In-loop-i invariant-loop-i decreases-loop-i) → Small c.before.loop-i.c.source_offset
-from-here c = decode-here _ _ _ _ _ _ c.before.loop-i.invariant _ (room c) (here c)
+from-here : (c : tie.In-loop-i invariant-loop-i decreases-loop-i) → Small c.loop-i.c.source_offset
+from-here c = decode-here _ _ _ _ _ _ c.loop-i.invariant _ (room c) (here c)
 
-to-next : (c : tie.In-loop-i invariant-loop-i decreases-loop-i) → let s = c.before.before in
-    Small (c.before.loop-i.c.source_offset
-    +ℤ (get_or s.args.t4 c.before.loop-i.i no_axis).source_step
-    *ℤ pos (c.before.loop-i.rest % (get_or s.args.t4 c.before.loop-i.i no_axis).extent))
-to-next c = decode-next _ _ _ _ _ _ c.before.loop-i.invariant _ (room c) (here c)
+to-next : (c : tie.In-loop-i invariant-loop-i decreases-loop-i) → Small (c.loop-i.c.source_offset
+    +ℤ (get_or c.args.t4 c.loop-i.i no_axis).source_step
+    *ℤ pos (c.loop-i.rest % (get_or c.args.t4 c.loop-i.i no_axis).extent))
+to-next c = decode-next _ _ _ _ _ _ c.loop-i.invariant _ (room c) (here c)
 
-counted : (c : tie.In-loop-i invariant-loop-i decreases-loop-i) → length (take c.before.before.args.count c.before.before.args.t4) ≡ c.before.before.args.count
-counted c = let s = c.before.before in length-take-le s.args.count s.args.t4 (omega (arith, s.requires.0, s.requires.1))
+counted : (c : tie.In-loop-i invariant-loop-i decreases-loop-i) → length (take c.args.count c.args.t4) ≡ c.args.count
+counted c = length-take-le c.args.count c.args.t4 (omega (arith, c.requires.0, c.requires.1))
 
 offset_bounds-axes-i : tie.Need-offset_bounds-axes-i invariant-loop-i decreases-loop-i
 offset_bounds-axes-i c = omega arith
@@ -88,22 +85,22 @@ overflow_cast-c c = pos-fits _ (small-digit c.before.before.before.before)
 overflow_mul-c : tie.Need-overflow_mul-c invariant-loop-i decreases-loop-i
 overflow_mul-c c =
     let t = c.before.before.before.before.before.before in
-    let a = get_or t.before.before.args.t4 t.before.loop-i.i no_axis in
+    let a = get_or t.args.t4 t.loop-i.i no_axis in
     let f : SFits w64 a.source_step = record { sfits = c.struct_told-in-loop-i-1.given.1.0.1 } in
     simp (to_z-of_z f, to_z-small _ (small-digit t))
-    (share-fits t.before.loop-i.c.source_offset (a.source_step *ℤ pos (t.before.loop-i.rest % a.extent)) (from-here t) (to-next t))
+    (share-fits t.loop-i.c.source_offset (a.source_step *ℤ pos (t.loop-i.rest % a.extent)) (from-here t) (to-next t))
 
 overflow_add-c : tie.Need-overflow_add-c invariant-loop-i decreases-loop-i
 overflow_add-c c =
     let t = c.before.before.before.before.before.before in
-    let a = get_or t.before.before.args.t4 t.before.loop-i.i no_axis in
+    let a = get_or t.args.t4 t.loop-i.i no_axis in
     let f : SFits w64 a.source_step = record { sfits = c.struct_told-in-loop-i-1.given.1.0.1 } in
-    let o = t.before.loop-i.c.source_offset in
+    let o = t.loop-i.c.source_offset in
     simp (
       to_z-of_z f,
       to_z-small _ (small-digit t),
       to_z-of_z (small-fits o (from-here t)),
-      to_z-of_z (share-fits o (a.source_step *ℤ pos (t.before.loop-i.rest % a.extent)) (from-here t) (to-next t)),
+      to_z-of_z (share-fits o (a.source_step *ℤ pos (t.loop-i.rest % a.extent)) (from-here t) (to-next t)),
     )
     (small-fits _ (to-next t))
 
@@ -116,24 +113,22 @@ loop-i-smaller c = omega arith
 loop-i-preserved : tie.Need-loop-i-preserved invariant-loop-i decreases-loop-i
 loop-i-preserved c =
     let t = c.before.before.before.before.before.before in
-    let s = t.before.before in
-    let a = get_or s.args.t4 t.before.loop-i.i no_axis in
+    let a = get_or t.args.t4 t.loop-i.i no_axis in
     let f : SFits w64 a.source_step = record { sfits = c.struct_told-in-loop-i-1.given.1.0.1 } in
-    let o = t.before.loop-i.c.source_offset in
+    let o = t.loop-i.c.source_offset in
     simp (
       to_z-of_z f,
       to_z-small _ (small-digit t),
       to_z-of_z (small-fits o (from-here t)),
-      to_z-of_z (share-fits o (a.source_step *ℤ pos (t.before.loop-i.rest % a.extent)) (from-here t) (to-next t)),
+      to_z-of_z (share-fits o (a.source_step *ℤ pos (t.loop-i.rest % a.extent)) (from-here t) (to-next t)),
       to_z-of_z (small-fits _ (to-next t)),
     )
-    (decoded-more _ _ _ _ _ _ t.before.loop-i.invariant a (room t) (here t) (omega (arith, t.loop-i-test.true, counted t)) _ refl refl)
+    (decoded-more _ _ _ _ _ _ t.loop-i.invariant a (room t) (here t) (omega (arith, t.loop-i-test.true, counted t)) _ refl refl)
 
 returns : tie.Need-returns invariant-loop-i decreases-loop-i
 returns c =
-    let s = c.before.before in
-    decoded-all (take s.args.count s.args.t4) s.args.base s.args.index c.before.loop-i.c c.before.loop-i.rest c.before.loop-i.i
-    (simp (to_z-of_z s.ranges.base) at c.before.loop-i.invariant)
+    decoded-all (take c.args.count c.args.t4) c.args.base c.args.index c.loop-i.c c.loop-i.rest c.loop-i.i
+    (simp (to_z-of_z c.ranges.base) at c.loop-i.invariant)
     (simp length-take (omega (arith, c.loop-i-test.false)))
 
 pub decode_spec : {M : Type 1} → statement M

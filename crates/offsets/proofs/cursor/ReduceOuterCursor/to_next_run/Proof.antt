@@ -144,7 +144,7 @@ overflow_add-c-then-e-second c =
     let p = carried s u.if-count-gt0.true (full t.before) in
     let h = here s 0 u.if-count-gt0.true in
     let k = here s 1 t.if-count-gt1.true in
-    let f : SFits w64 (axis s 0).source_reset = record { sfits = v.before.before.before.before.struct_told-then-count-gt1-2-1.given.1.1.0.1 } in
+    let f : SFits w64 (axis s 0).source_reset = record { sfits = v.struct_told-then-count-gt1-2-1.given.1.1.0.1 } in
     let g : SFits w64 (axis s 1).source_step = record { sfits = c.struct_told-then-e-second-2-1.given.1.0.1 } in
     simp (
       to_z-of_z f,
@@ -162,7 +162,7 @@ returns-then-e-second c =
     let p = carried s u.if-count-gt0.true (full t.before) in
     let h = here s 0 u.if-count-gt0.true in
     let k = here s 1 t.if-count-gt1.true in
-    let f : SFits w64 (axis s 0).source_reset = record { sfits = v.before.before.before.before.struct_told-then-count-gt1-2-1.given.1.1.0.1 } in
+    let f : SFits w64 (axis s 0).source_reset = record { sfits = v.struct_told-then-count-gt1-2-1.given.1.1.0.1 } in
     let g : SFits w64 (axis s 1).source_step = record { sfits = c.struct_told-then-e-second-2-1.given.1.0.1 } in
     simp (
       to_z-of_z f,
