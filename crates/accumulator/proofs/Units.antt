@@ -55,15 +55,15 @@ module _ (a b : StableProductFloatAcc) (fa : T (fits binary64 a.m)) (fb : T (fit
     is : p ≡ split raw
     is = fields raw-other
 
-    m-is : p.m ≡ (multiplied a b).m
+    m_is : p.m ≡ (multiplied a b).m
     m_is =
         ap (λ (s : Split). s.m) is ∙ split-m raw ∙ ap (λ (f : Factor). float_of 11 52 (with_exponent f (pos 0))) raw-rate ∙ sym (settled a b fa fb ua ub).m_is
 
-    e-is : to_z w64 (of_z w64 p.e) ≡ pos c
+    e_is : to_z w64 (of_z w64 p.e) ≡ pos c
     e_is = to_z-of_z w64 p.e pe ∙ ap (λ (s : Split). s.e) is ∙ split-e raw ∙ ap (λ (f : Factor). f.exp) raw-rate
 
     pub split-fits : SFits w64 (to_z w64 (of_z w64 (sum a.e b.e hx hy)) +ℤ to_z w64 (of_z w64 p.e))
-    split-fits = near_fits a.e b.e hx hy c (to_z w64 (of_z w64 p.e)) c-le e-is
+    split-fits = near_fits a.e b.e hx hy c (to_z w64 (of_z w64 p.e)) c-le e_is
 
     pub code-split : (a.bad || b.bad) ≡ false
         → ◌≡◌ {A = StableProductFloatAcc}
@@ -72,6 +72,6 @@ module _ (a b : StableProductFloatAcc) (fa : T (fits binary64 a.m)) (fb : T (fit
         let r = multiplied a b in
         let s = settled a b fa fb ua ub in
         let e = to_z w64 (of_z w64 (to_z w64 (of_z w64 (sum a.e b.e hx hy)) +ℤ to_z w64 (of_z w64 p.e))) in
-        acc-same p.m r.m e r.e false r.bad m-is (near-exact a.e b.e hx hy c (to_z w64 (of_z w64 p.e)) c-le e-is ∙ sym s.e_is)
+        acc-same p.m r.m e r.e false r.bad m_is (near-exact a.e b.e hx hy c (to_z w64 (of_z w64 p.e)) c-le e_is ∙ sym s.e_is)
         (sym s.mark)
         ∙ sym (combined-good a b h)

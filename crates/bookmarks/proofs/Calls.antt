@@ -92,7 +92,7 @@ module _ (ns : List ℕ) (ss : List ℤ) (base : ℤ) (start end : ℕ) (values 
   -- it is 0 exactly of a call that keeps to the rules
   pub record Allowed : Type 0 where
     pub range : range_code ns ss base start end (length values) ≡ 0
-    pub some-piece : 1 ≤ n
+    pub some_piece : 1 ≤ n
     pub begins : begins_piece l.run_len start end mark.next ≡ true
     pub stands : (not (eqb mark.next start) && not (in_limits mark.acc)) ≡ false
 

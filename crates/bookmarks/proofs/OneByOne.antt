@@ -55,7 +55,7 @@ module _ (a b : StableProductFloatAcc) (A : in_limits a ≡ true) (B : in_limits
 pub record Joining (l : FullTraversal) (base : ℤ) (values : List Float) (end : ℕ) (whole : Answer) (acc : StableProductFloatAcc) (c : RangeCursor) : Type 0
   where
     pub upto : c.at ≤ end
-    pub cursor-is : c.at < end → c ≡ range_at l base c.at
+    pub cursor_is : c.at < end → c ≡ range_at l base c.at
     pub within : in_limits acc ≡ true
     pub sound : Sound acc
     pub rest : joined_within acc (pieces_of l base values c.at end) ≡ whole

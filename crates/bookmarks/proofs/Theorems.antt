@@ -51,7 +51,7 @@ module _ (ns : List ℕ) (ss : List ℤ) (base : ℤ) (start end : ℕ) (values 
     range-is : Checked ns ss base start end (length values) l
     range-is = accepted-range ns ss base start end (length values) w.range
 
-    some-len : 1 ≤ l.run_len
+    some_len : 1 ≤ l.run_len
     some_len = run-some l range-is.traversal
 
     inside : (start ≤ mark.next) × (mark.next < end)
@@ -60,7 +60,7 @@ module _ (ns : List ℕ) (ss : List ℤ) (base : ℤ) (start end : ℕ) (values 
     stop_is : mark.next + length (rates_of ps) ≡ stop
     stop_is = portion-stop l range-is.traversal base range-is.bounded values end n mark.next w.some_piece inside.1
 
-    count-is : length ps ≡ min n (pieces_left l.run_len end mark.next)
+    count_is : length ps ≡ min n (pieces_left l.run_len end mark.next)
     count_is = portion-count l range-is.traversal base range-is.bounded values end n mark.next w.some_piece inside.1
 
     pieces_are : ps ≡ pieces_of l base values mark.next stop
@@ -76,8 +76,8 @@ module _ (ns : List ℕ) (ss : List ℤ) (base : ℤ) (start end : ℕ) (values 
         → Worked l base values start end mark stop (length ps) a
     all-worked a e =
         record {
-          forward = stop-forward l.run_len end mark.next some-len inside.1 n w.some_piece;
-          upto = stop-upto l.run_len end mark.next some-len inside.1 n;
+          forward = stop-forward l.run_len end mark.next some_len inside.1 n w.some_piece;
+          upto = stop-upto l.run_len end mark.next some_len inside.1 n;
           count =
               portion-between l range-is.traversal base range-is.bounded values start end n mark.next w.some_piece inside.0 inside.1
               w.begins;
@@ -91,7 +91,7 @@ module _ (ns : List ℕ) (ss : List ℤ) (base : ℤ) (start end : ℕ) (values 
       let w = allowed ns ss base start end values mark n d.0 in
       let r = all-worked w a d.1 in
       let s : stop ≡ end = omega (arith, stop_is w, d.2, r.upto) in
-      (omega (arith, count-is w, d.3), rw (s, d.3) at r)
+      (omega (arith, count_is w, d.3), rw (s, d.3) at r)
 
   more-worked : (to : Bookmark) (pieces : ℕ) → step_of ns ss base start end values mark n ≡ More to pieces
       → (pieces ≡ n) × (to.next < end) × (begins_piece l.run_len start end to.next ≡ true)
@@ -102,9 +102,9 @@ module _ (ns : List ℕ) (ss : List ℤ) (base : ℤ) (start end : ℕ) (values 
       let s : stop ≡ to.next = sym (stop_is w) ∙ d.2 in
       let q : stop < end = omega (arith, s, d.3) in
       let i = inside w in (
-        omega (arith, count-is w, d.4, stop-inside l.run_len end n mark.next q),
+        omega (arith, count_is w, d.4, stop-inside l.run_len end n mark.next q),
         d.3,
-        rw s at (stop-begins l.run_len start end (some-len w) n mark.next w.some_piece i.0 i.1 q),
+        rw s at (stop-begins l.run_len start end (some_len w) n mark.next w.some_piece i.0 i.1 q),
         rw (s, d.4) at (all-worked w to.acc d.1),
       )
 
@@ -122,7 +122,7 @@ calls-more q r n h e =
     omega (arith, add-div_right (r + (n - 1)) h, ap (λ (x : ℕ). x / n) z)
 
 -- a loop of calls: behind m of all the pieces, a call goes on behind n more, or is done with the last
-module _ (call : Bookmark → Step) (n all : ℕ) (some-piece : 1 ≤ n) (product : StableProductFloatAcc) (Behind : ℕ → Bookmark → Type 0)
+module _ (call : Bookmark → Step) (n all : ℕ) (some_piece : 1 ≤ n) (product : StableProductFloatAcc) (Behind : ℕ → Bookmark → Type 0)
     (goes_on : (m : ℕ) (mark : Bookmark) → Behind m mark → m + n < all
     → (to : Bookmark) × (pieces : ℕ) × (call mark ≡ More to pieces) × Behind (m + n) to)
     (ends : (m : ℕ) (mark : Bookmark) → Behind m mark → all ≤ m + n → (pieces : ℕ) × (call mark ≡ Done product pieces)) where
@@ -140,12 +140,12 @@ module _ (call : Bookmark → Step) (n all : ℕ) (some-piece : 1 ≤ n) (produc
       go false t f =
           let q = leb-false all (m + n) t in
           let r = goes_on m mark b q in
-          subst (λ (c : ℕ). Loop call mark c product) (calls-more (all - m) (all - (m + n)) n some-piece (omega arith))
+          subst (λ (c : ℕ). Loop call mark c product) (calls-more (all - m) (all - (m + n)) n some_piece (omega arith))
           (again r.2 (f r.0 (omega arith) q r.3))
 
 -- ---- rule B4: the calls over an accepted range
 module _ (ns : List ℕ) (ss : List ℤ) (base : ℤ) (start end : ℕ) (values : List Float) (n : ℕ) (v : Each (λ (x : Float). T (fits binary64 x)) values)
-    (e : range_code ns ss base start end (length values) ≡ 0) (some-piece : 1 ≤ n) where
+    (e : range_code ns ss base start end (length values) ≡ 0) (some_piece : 1 ≤ n) where
   abbrev layout : FullTraversal
   layout = (compile_of PLACES ns ss).traversal
 
@@ -194,12 +194,12 @@ module _ (ns : List ℕ) (ss : List ℤ) (base : ℤ) (start end : ℕ) (values 
       let z = code-allowed ns ss base start end values (record { next = start; acc = any }) n
       (record {
         range = e;
-        some_piece = some-piece;
+        some_piece = some_piece;
         begins = begins-start layout.run_len start end;
         stands = ap (λ (b : Bool). not b && not (in_limits any)) q;
       }) in
       step-tells ns ss base start end values (record { next = start; acc = any }) n z (reach n) (answer_of (Acc (joined_pieces (first n))))
-      (portion-stop layout c.traversal base c.bounded values end n start some-piece c.forward)
+      (portion-stop layout c.traversal base c.bounded values end n start some_piece c.forward)
       (ap (λ (b : Bool). portion_of b any (first n)) q)
 
   -- a call behind m pieces
@@ -211,7 +211,7 @@ module _ (ns : List ℕ) (ss : List ℤ) (base : ℤ) (start end : ℕ) (values 
       let z = code-allowed ns ss base start end values (marked m) n
       (record {
         range = e;
-        some_piece = some-piece;
+        some_piece = some_piece;
         begins = stop-begins layout.run_len start end one-run m start h (le_refl start) c.forward s;
         stands =
             ap (λ (b : Bool). not (eqb (reach m) start) && not b)
@@ -230,7 +230,7 @@ module _ (ns : List ℕ) (ss : List ℤ) (base : ℤ) (start end : ℕ) (values 
   whole-loop : (any : StableProductFloatAcc)
       → Loop call (record { next = start; acc = any }) ((all - 0 + (n - 1)) / n) (range_product ns ss base start end values)
   whole-loop any =
-      looped call n all some-piece (range_product ns ss base start end values) Behind
+      looped call n all some_piece (range_product ns ss base start end values) Behind
       (λ m mark b l. (marked (m + n), b.0, b.1 ∙ tells_more (m + n) b.0 l, (_, call_next (m + n) (omega arith) l)))
       (λ m mark b l. (b.0, b.1 ∙ tells-done (m + n) b.0 l)) all 0 (record { next = start; acc = any }) (omega arith) (omega arith)
       (length (first n), call-first any ∙ ap (λ (k : ℕ). tells k (length (first n))) (sym (zero-add n)))
@@ -244,4 +244,4 @@ module _ (ns : List ℕ) (ss : List ℤ) (base : ℤ) (start end : ℕ) (values 
       (sub-zero all ∙ count-all layout.run_len start end one-run c.forward) (whole-loop any)
 
 pub rule-B4 : RuleB4Law
-rule-B4 ns ss base start end values any n v e some_piece = counted-loop ns ss base start end values n v e some-piece any
+rule-B4 ns ss base start end values any n v e some_piece = counted-loop ns ss base start end values n v e some_piece any

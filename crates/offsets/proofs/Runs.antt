@@ -24,7 +24,7 @@ use Rattle.offsets.specs.InnerLists.{steps, runs_places}
 use Rattle.offsets.specs.Pieces.{run_of, outer_of}
 use Rattle.offsets.specs.InnerPieces.{range_at, piece_of, skipped, OnRange, StripHere}
 use Rattle.offsets.proofs.Stepping.{axes-at}
-use Rattle.offsets.proofs.Walking.{PieceHere, piece-here, first-is}
+use Rattle.offsets.proofs.Walking.{PieceHere, piece-here, first_is}
 use Rattle.offsets.proofs.Writing.{offsets-append}
 use Rattle.offsets.proofs.Visiting.{element-inside}
 use Rattle.offsets.proofs.Skipping.{first_axis, first-axis, runs-lie, first-digit, skipped-is}
@@ -49,7 +49,7 @@ runs-ahead l t c o end r h some-axis z a k =
 
 -- ---- n whole runs from a cursor on
 module _ (l : FullTraversal) (t : Traversal l) (base : ℤ) (b : Bounded (run_of l ∷ outer_of l) base) (end : ℕ)
-    (c : RangeCursor) (cursor-is : c ≡ range_at l base c.at) (n : ℕ)
+    (c : RangeCursor) (cursor_is : c ≡ range_at l base c.at) (n : ℕ)
     (some-axis : 0 < l.axis_count) (at-run : c.at % l.run_len ≡ 0) (left : c.at / l.run_len % (first_axis l).extent + n ≤ (first_axis l).extent)
     (room : c.at + n * l.run_len ≤ end) where
   pub runs-begin : c.at ≡ c.at / l.run_len * l.run_len
@@ -60,18 +60,18 @@ module _ (l : FullTraversal) (t : Traversal l) (base : ℤ) (b : Bounded (run_of
 
   from_is : c.runs.source_offset ≡ offset (outer_of l) base (c.at / l.run_len)
   unfolding range_at cursor_at
-  from_is = ap (λ (x : RangeCursor). x.runs.source_offset) cursor-is
+  from_is = ap (λ (x : RangeCursor). x.runs.source_offset) cursor_is
 
   pub runs-at : (j : ℕ) → j < n → c.runs.source_offset +ℤ (first_axis l).source_step *ℤ pos j ≡ offset (outer_of l) base (c.at / l.run_len + j)
   runs-at j k = ap (λ (z : ℤ). z +ℤ (first_axis l).source_step *ℤ pos j) from_is ∙ runs-lie l t some-axis base b (c.at / l.run_len) n left j k
 
   -- the last of the runs, and the cursor at it
   pub last-digit : 1 ≤ n → get_or c.runs.digits 0 0 + (n - 1) < (first_axis l).extent
-  last-digit one = omega (arith, first-digit l t some-axis base b c cursor-is)
+  last-digit one = omega (arith, first-digit l t some-axis base b c cursor_is)
 
   module _ (one : 1 ≤ n) (d : RangeCursor) (e : d ≡ skipped l (n - 1) c) where
     last-is : d ≡ range_at l base (c.at + (n - 1) * l.run_len)
-    last-is = e ∙ skipped-is l t some-axis base b c cursor-is (n - 1) (last-digit one)
+    last-is = e ∙ skipped-is l t some-axis base b c cursor_is (n - 1) (last-digit one)
 
     last-at : d.at ≡ c.at + (n - 1) * l.run_len
     unfolding range_at
@@ -111,7 +111,7 @@ module _ (l : FullTraversal) (t : Traversal l) (base : ℤ) (b : Bounded (run_of
       ∙ ap (λ (q : ℕ). offset (outer_of l) base q +ℤ l.run_stride *ℤ pos i) (sym (ap (λ (m : ℕ). m / l.run_len) split ∙ digits_div (q₀ + j) h))
       ∙ ap (λ (d : ℕ). offset (outer_of l) base ((c.at + j * l.run_len + i) / l.run_len) +ℤ l.run_stride *ℤ pos d)
       (sym (ap (λ (m : ℕ). m % l.run_len) split ∙ digits_mod (q₀ + j) h))
-      ∙ first-is l t base b (c.at + j * l.run_len + i)
+      ∙ first_is l t base b (c.at + j * l.run_len + i)
     where
       q₀ : ℕ
       q₀ = c.at / l.run_len

@@ -124,7 +124,7 @@ module _ (l : FullTraversal) (t : Traversal l) (base : ℤ) (b : Bounded (run_of
   first_is = at-column (axis_of l.run_len l.run_stride) (outer_of l) base k some_left
 
   pub first_small : Small (offset (outer_of l) base (k / l.run_len) +ℤ l.run_stride *ℤ pos (k % l.run_len))
-  first_small = rw first-is (bounded-offset (run_of l ∷ outer_of l) base k t.axes b)
+  first_small = rw first_is (bounded-offset (run_of l ∷ outer_of l) base k t.axes b)
 
   pub run-at-element : AtElement (outer_of l) (cursor_at (outer_of l) base (k / l.run_len))
   unfolding outer_of
@@ -154,7 +154,7 @@ module _ (l : FullTraversal) (t : Traversal l) (base : ℤ) (b : Bounded (run_of
     -- the piece at the cursor of k
     pub piece-first : (piece_of l end (range_at l base k)).first ≡ offset (run_of l ∷ outer_of l) base k
     unfolding piece_of range_at cursor_at
-    piece-first = first-is
+    piece-first = first_is
 
     pub piece-len : (piece_of l end (range_at l base k)).len ≡ piece_length l.run_len end k
     unfolding piece_of range_at

@@ -197,7 +197,7 @@ module _ (l : FullTraversal) (t : Traversal l) (base : ℤ) (b : Bounded (run_of
   first_fits = rw here.first_is (small-fits _ (bounded-offset (run_of l ∷ outer_of l) base c.at t.axes b))
 
   offsets_fit : (i : ℕ) → i < p.len → SFits w64 (p.first +ℤ l.run_stride *ℤ pos i)
-  offsets-fit i k = rw (here.offsets i k) (small-fits _ (bounded-offset (run_of l ∷ outer_of l) base (c.at + i) t.axes b))
+  offsets_fit i k = rw (here.offsets i k) (small-fits _ (bounded-offset (run_of l ∷ outer_of l) base (c.at + i) t.axes b))
 
   listing-more : (r : List ℤ) → r ≡ take (c.at - start) out ++ steps p.first l.run_stride p.len ++ drop (c.at - start + p.len) out
       → Listing l base start end out₀ r p.next
@@ -226,4 +226,4 @@ module _ (l : FullTraversal) (t : Traversal l) (base : ℤ) (b : Bounded (run_of
 
   pub listing-taken : ListTaken l base start end out₀ out c p
   listing-taken =
-      record { some_len = here.some_len; enough = enough; first_fits = first_fits; offsets_fit = offsets-fit; next_at = here.next_at; more = listing-more }
+      record { some_len = here.some_len; enough = enough; first_fits = first_fits; offsets_fit = offsets_fit; next_at = here.next_at; more = listing-more }

@@ -118,7 +118,7 @@ module _ (l : FullTraversal) (t : Traversal l) (base : ℤ) (b : Bounded (run_of
     len_is : (piece_of l end (range_at l base (q * l.run_len))).len ≡ l.run_len
     len_is = piece-len l t base b (q * l.run_len) end before-end ∙ omega (arith, run-mod)
 
-    first-is : (piece_of l end (range_at l base (q * l.run_len))).first ≡ offset (outer_of l) base q
+    first_is : (piece_of l end (range_at l base (q * l.run_len))).first ≡ offset (outer_of l) base q
     unfolding piece_of range_at cursor_at
     first_is =
         ap (λ (n : ℕ). offset (outer_of l) base (q * l.run_len / l.run_len) +ℤ l.run_stride *ℤ pos n) run-mod
@@ -131,8 +131,8 @@ module _ (l : FullTraversal) (t : Traversal l) (base : ℤ) (b : Bounded (run_of
     pub run : Run l base values end q
     run =
         record {
-          inside = rw (len_is, first-is) at run-taken.inside;
-          worked_is = (rw (len_is, first-is) at run-taken.worked_is) ∙ ap (λ (k : ℕ). worked_piece (piece_at l base values end k)) at-is;
+          inside = rw (len_is, first_is) at run-taken.inside;
+          worked_is = (rw (len_is, first_is) at run-taken.worked_is) ∙ ap (λ (k : ℕ). worked_piece (piece_at l base values end k)) at-is;
           pieces = rw (next-is, at-is) at run-taken.pieces;
         }
 
@@ -170,14 +170,14 @@ module _ (l : FullTraversal) (t : Traversal l) (base : ℤ) (b : Bounded (run_of
 -- ---- n whole runs from a cursor on
 module _ (l : FullTraversal) (t : Traversal l) (base : ℤ) (b : Bounded (run_of l ∷ outer_of l) base) (values : List Float)
     (w : all_inside (run_of l ∷ outer_of l) l.total base (length values) ≡ true) (end : ℕ) (few : end ≤ l.total)
-    (c : RangeCursor) (cursor-is : c ≡ range_at l base c.at) (n : ℕ)
+    (c : RangeCursor) (cursor_is : c ≡ range_at l base c.at) (n : ℕ)
     (some-axis : 0 < l.axis_count) (at-run : c.at % l.run_len ≡ 0) (left : c.at / l.run_len % (first_axis l).extent + n ≤ (first_axis l).extent)
     (room : c.at + n * l.run_len ≤ end) where
   ends : (c.at / l.run_len + n) * l.run_len ≡ c.at + n * l.run_len
-  ends = runs-end l t base b end c cursor-is n some-axis at-run left room
+  ends = runs-end l t base b end c cursor_is n some-axis at-run left room
 
   lie : (j : ℕ) → j < n → c.runs.source_offset +ℤ (first_axis l).source_step *ℤ pos j ≡ offset (outer_of l) base (c.at / l.run_len + j)
-  lie = runs-at l t base b end c cursor-is n some-axis at-run left room
+  lie = runs-at l t base b end c cursor_is n some-axis at-run left room
 
   pub runs-inside : (j : ℕ) → j < n
       → PlacesInside (length values) (c.runs.source_offset +ℤ (first_axis l).source_step *ℤ pos j) l.run_stride l.run_len
@@ -188,23 +188,23 @@ module _ (l : FullTraversal) (t : Traversal l) (base : ℤ) (b : Bounded (run_of
       → Reducing l base values end whole acc c → (r : StableProductFloatAcc)
       → r ≡ strip values (first_axis l).source_step l.run_stride l.run_len n c.runs.source_offset acc
       → (d : RangeCursor) → d.at ≡ c.at + n * l.run_len → (d.at < end → d ≡ range_at l base d.at) → Reducing l base values end whole r d
-  reducing-strip v whole acc s r g d next-at e =
+  reducing-strip v whole acc s r g d next_at e =
       record {
         upto = omega arith;
         cursor_is = e;
         small =
             subst (λ (a : StableProductFloatAcc). nat_abs a.e ≤ 2 ^ 53 + in_list * d.at) (sym g)
-            (le_trans (strip-small values v _ _ _ (run-some l t) n _ acc) (omega (arith, next-at, s.small)));
+            (le_trans (strip-small values v _ _ _ (run-some l t) n _ acc) (omega (arith, next_at, s.small)));
         sound =
             subst Sound (sym g)
             (strip-sound values v (first_axis l).source_step l.run_stride l.run_len n c.runs.source_offset acc s.sound);
         rest =
             ap (λ (a : StableProductFloatAcc). joined_onto a (pieces_of l base values d.at end)) g
             ∙ ap (λ (k : ℕ). joined_onto (strip values (first_axis l).source_step l.run_stride l.run_len n c.runs.source_offset acc)
-            (pieces_of l base values k end)) (next-at ∙ sym ends)
+            (pieces_of l base values k end)) (next_at ∙ sym ends)
             ∙ strip-joins l t base b values w end few (first_axis l).source_step n (c.at / l.run_len) c.runs.source_offset acc (omega (arith, ends))
             lie
             ∙ ap (λ (k : ℕ). joined_onto acc (pieces_of l base values k end))
-            (sym (runs-begin l t base b end c cursor-is n some-axis at-run left room))
+            (sym (runs-begin l t base b end c cursor_is n some-axis at-run left room))
             ∙ s.rest;
       }

@@ -18,7 +18,7 @@ use Rattle.vectors.specs.declared.vector.Waiting.{Waiting}
 use Rattle.vectors.specs.InnerWaiting.{wait_step, least_of, not_below, not_past}
 use Rattle.vectors.proofs.Waiting.{LostLane, fed-good, guards, none-lost}
 
-module _ (signs : Bool) (w : Waiting) (m-long : length w.m ≡ 8) (least-long : length w.least ≡ 8) (xs : List Float) (v : Each Value xs) where
+module _ (signs : Bool) (w : Waiting) (m_long : length w.m ≡ 8) (least-long : length w.least ≡ 8) (xs : List Float) (v : Each Value xs) where
   abbrev fed : Waiting
   fed = feed (wait_step signs) 0 w xs
 
@@ -27,7 +27,7 @@ module _ (signs : Bool) (w : Waiting) (m-long : length w.m ≡ 8) (least-long : 
   unfolding wait_step
   outcome b =
       fed-good (wait_step signs) (λ (w : Waiting). w.m) (λ (w : Waiting). replicate 8 (pos 0)) (λ i w x. refl) (λ i w x. refl) 510 0 (lit≤ tt) (lit≤ tt)
-      0 w m-long (guards signs 510 (lit≤ tt) 0 w v least-long b).1
+      0 w m_long (guards signs 510 (lit≤ tt) 0 w v least-long b).1
 
   pub passed-good : every (not_below (least_of signs 511)) fed.least ≡ true → every not_past fed.m ≡ true → some is_bad xs ≡ false
   passed-good b p = go (outcome b)

@@ -119,17 +119,17 @@ module _ (c n : ℕ) (room : c * n ≤ 1022) where
 
 -- ---- a step that multiplies value i, as it is, into lane i mod 8
 module _ {S : Type 0} (step : ℕ → S → Float → S) (m : S → List Float) (e : S → List ℤ)
-    (m-is : (i : ℕ) (s : S) (x : Float) → m (step i s x) ≡ set (m s) (lane_of i) (product_of 11 52 (get_or (m s) (lane_of i) nan) x))
-    (e-is : (i : ℕ) (s : S) (x : Float) → e (step i s x) ≡ e s) where
+    (m_is : (i : ℕ) (s : S) (x : Float) → m (step i s x) ≡ set (m s) (lane_of i) (product_of 11 52 (get_or (m s) (lane_of i) nan) x))
+    (e_is : (i : ℕ) (s : S) (x : Float) → e (step i s x) ≡ e s) where
   step-long : (i : ℕ) (s : S) (x : Float) → length (m s) ≡ 8 → length (m (step i s x)) ≡ 8
-  step-long i s x l = ap length (m-is i s x) ∙ length-set (m s) (lane_of i) (product_of 11 52 (get_or (m s) (lane_of i) nan) x) ∙ l
+  step-long i s x l = ap length (m_is i s x) ∙ length-set (m s) (lane_of i) (product_of 11 52 (get_or (m s) (lane_of i) nan) x) ∙ l
 
   step-lost : (i : ℕ) (s : S) (x : Float) → LostLane (m s) → LostLane (m (step i s x))
-  step-lost i s x h = subst LostLane (sym (m-is i s x)) (lost-stays (m s) (lane_of i) (lane-lt i) x h)
+  step-lost i s x h = subst LostLane (sym (m_is i s x)) (lost-stays (m s) (lane_of i) (lane-lt i) x h)
 
   -- a value that is lost takes its lane with it
   value-lost : (i : ℕ) (s : S) (x : Float) → length (m s) ≡ 8 → is_lost x ≡ true → LostLane (m (step i s x))
-  value-lost i s x l h = subst LostLane (sym (m-is i s x)) (lost-here (m s) (lane_of i) (lane-lt i) _ l (lost-factor (get_or (m s) (lane_of i) nan) x h))
+  value-lost i s x l h = subst LostLane (sym (m_is i s x)) (lost-here (m s) (lane_of i) (lane-lt i) _ l (lost-factor (get_or (m s) (lane_of i) nan) x h))
 
   pub fed-lost : (i : ℕ) (s : S) (xs : List Float) → LostLane (m s) → LostLane (m (feed step i s xs))
   fed-lost = feed-holds step (λ (s : S). LostLane (m s)) step-lost
@@ -162,8 +162,8 @@ module _ {S : Type 0} (step : ℕ → S → Float → S) (m : S → List Float) 
         go : Good k x ⊎ (is_lost x ≡ true) → Out (suc k) (suc i) (m (step i s x)) (e (step i s x)) (lane_times 52 i fs (rate_factor x))
         go (inr b) = inr (value-lost i s x h.m_long b)
         go (inl p) =
-            subst (λ (es : List ℤ). Out (suc k) (suc i) (m (step i s x)) es (lane_times 52 i fs (rate_factor x))) (sym (e-is i s x))
-            (subst (λ (ms : List Float). Out (suc k) (suc i) ms (e s) (lane_times 52 i fs (rate_factor x))) (sym (m-is i s x))
+            subst (λ (es : List ℤ). Out (suc k) (suc i) (m (step i s x)) es (lane_times 52 i fs (rate_factor x))) (sym (e_is i s x))
+            (subst (λ (ms : List Float). Out (suc k) (suc i) ms (e s) (lane_times 52 i fs (rate_factor x))) (sym (m_is i s x))
             (subst
             (λ (es : List ℤ). Out (suc k) (suc i) (set (m s) (lane_of i) (product_of 11 52 (get_or (m s) (lane_of i) nan) x)) es (lane_times 52 i fs (rate_factor x)))
             (exponents-same (e s) (lane_of i)) (value_out (suc k) n room i (m s) (e s) fs x (pos 0) (rate_factor x) l p.1 h)))

@@ -52,7 +52,7 @@ place_inside : (len n : ℕ) → n < len → len ≤ 2 ^ 63 → inside_values le
 unfolding inside_values
 place_inside len n h few = rw (le-leb 0 n (omega arith), lt-ltb n (2 ^ 63) (omega arith), lt-ltb n len h)
 
-module _ (w : ℕ) (some-rate : 0 < w) (few : w ≤ 2 ^ 40) where
+module _ (w : ℕ) (some_rate : 0 < w) (few : w ≤ 2 ^ 40) where
   abbrev sizes : List ℕ
   sizes = w ∷ []
 
@@ -92,7 +92,7 @@ module _ (w : ℕ) (some-rate : 0 < w) (few : w ≤ 2 ^ 40) where
     unfolding offset shift digits axes_in axis_of
     element-inside k =
         ap (inside_values (length values)) (at (k % w))
-        ∙ place_inside (length values) (i + k % w) (let l : k % w < w = mod-lt k some-rate in omega arith) short
+        ∙ place_inside (length values) (i + k % w) (let l : k % w < w = mod-lt k some_rate in omega arith) short
       where
         at : (d : ℕ) → pos i +ℤ (pos 1 *ℤ pos d +ℤ pos 0) ≡ pos (i + d)
         at d = simp ints (simp atoms (omega arith))
@@ -104,7 +104,7 @@ module _ (w : ℕ) (some-rate : 0 < w) (few : w ≤ 2 ^ 40) where
     accepted : range_code sizes strides (pos i) 0 w (length values) ≡ 0
     unfolding first_of
     accepted =
-        range-places sizes strides (pos i) 0 w (length values) clears some-rate (omega (arith, total-is))
+        range-places sizes strides (pos i) 0 w (length values) clears some_rate (omega (arith, total-is))
         ∙ place-0 sizes strides (pos i) (length values)
         (tested sizes strides (pos i) (length values) clears (omega (arith, total-is)) true (sym all-inside)) []
 
@@ -118,7 +118,7 @@ module _ (w : ℕ) (some-rate : 0 < w) (few : w ≤ 2 ^ 40) where
     one_piece =
         line-joined layout (ranged-accepted sizes strides (pos i) 0 w (length values) range).traversal no_outer (pos i)
         (ranged-bounded sizes strides (pos i) 0 w (length values) range) values
-        (ranged-inside sizes strides (pos i) 0 w (length values) range) w (omega (arith, total-is)) 0 some-rate
+        (ranged-inside sizes strides (pos i) 0 w (length values) range) w (omega (arith, total-is)) 0 some_rate
 
     in_blocks : worked (eq_z layout.run_stride (pos 1))
         (strided values (pos i +ℤ layout.run_stride *ℤ pos 0) layout.run_stride (w - 0))
@@ -136,6 +136,6 @@ module _ (w : ℕ) (some-rate : 0 < w) (few : w ≤ 2 ^ 40) where
 pub one-axis : (values : List Float) (w i : ℕ) → 0 < w → w ≤ 2 ^ 40 → i + w ≤ length values → length values ≤ 2 ^ 63
     → reduce_of (w ∷ []) (pos 1 ∷ []) (pos i) 0 w values
     ≡ accumulator (contiguous (take w (drop i values))).m (contiguous (take w (drop i values))).e (contiguous (take w (drop i values))).bad
-one-axis values w i some-rate few inside short =
-    reduce-accepted (w ∷ []) (pos 1 ∷ []) (pos i) 0 w values (accepted w some-rate few values i inside short)
-    ∙ ap (λ (a : StableProductFloatAcc). accumulator a.m a.e a.bad) (product w some-rate few values i inside short)
+one-axis values w i some_rate few inside short =
+    reduce-accepted (w ∷ []) (pos 1 ∷ []) (pos i) 0 w values (accepted w some_rate few values i inside short)
+    ∙ ap (λ (a : StableProductFloatAcc). accumulator a.m a.e a.bad) (product w some_rate few values i inside short)

@@ -57,7 +57,7 @@ join_pieces-r-requires c κs =
       t.requires.3,
       t.requires.4,
       t.requires.5,
-      λ h. cursor-is,
+      λ h. cursor_is,
       omega (arith, near c.before),
       sound t,
     )

@@ -37,13 +37,13 @@ module _ (s : tie.Start invariant-loop-k decreases-loop-k invariant-loop-k-2 dec
   e_is = to_z-of_z w64 s.args.e s.fits.e
 
   limit : within_limit e ≡ true
-  limit = ap (λ (z : ℤ). within_limit z) e-is ∙ s.requires.1
+  limit = ap (λ (z : ℤ). within_limit z) e_is ∙ s.requires.1
 
   float : T (fits binary64 s.args.m)
   float = subst T (sym s.well_formed.0.1) tt
 
   answer : (x : Float) → x ≡ rounded_once (factor_at 52 s.args.m e) → x ≡ rounded_once (factor_at 52 s.args.m s.args.e)
-  answer x h = h ∙ ap (λ (z : ℤ). rounded_once (factor_at 52 s.args.m z)) e-is
+  answer x h = h ∙ ap (λ (z : ℤ). rounded_once (factor_at 52 s.args.m z)) e_is
 
 loop-k-init : tie.Need-loop-k-init invariant-loop-k decreases-loop-k invariant-loop-k-2 decreases-loop-k-2
 loop-k-init c = scaling-none c.args.m (e c)

@@ -34,18 +34,18 @@ no_axis-requires c κs = search rules
 returns-in-One : tie.Need-returns-in-One
 unfolding next_of next_from
 returns-in-One c =
-    ap (next_from c.args.f.done c.args.b) (sym c.j-1.given.1 ∙ c.join_axes-j.ensures)
+    ap (next_from c.args.f.done c.args.b) (sym c.in-One.is ∙ c.join_axes-j.ensures)
 
 returns-in-Two : tie.Need-returns-in-Two
 unfolding next_of next_from
 returns-in-Two c =
-    ap (next_from c.args.f.done c.args.b) (sym c.enum_told-1.given.1 ∙ c.join_axes-j.ensures)
+    ap (next_from c.args.f.done c.args.b) (sym c.in-Two.is ∙ c.join_axes-j.ensures)
 
 returns-in-Overflow : tie.Need-returns-in-Overflow
 unfolding next_of next_from
 returns-in-Overflow c =
     ap (λ (a : ReduceOuterAxis). record { ok = false; done = 0; last = a }) c.no_axis.ensures
-    ∙ ap (next_from c.args.f.done c.args.b) (sym c.enum_told-in-Overflow-1.given.1 ∙ c.join_axes-j.ensures)
+    ∙ ap (next_from c.args.f.done c.args.b) (sym c.in-Overflow.is ∙ c.join_axes-j.ensures)
 
 pub fuse_next_spec : {M : Type 1} → statement M
 fuse_next_spec = tie.close (tie.spec join_axes-j-requires enum_known-j enum_told-1 overflow_add-result enum_told-in-Overflow no_axis-requires returns-in-One returns-in-Two returns-in-Overflow)

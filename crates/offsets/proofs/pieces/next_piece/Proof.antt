@@ -50,9 +50,9 @@ overflow_mul-first c =
 first_fits : (c : tie.After-struct_told-2-1) → SFits w64 (c.args.c.runs.source_offset +ℤ c.args.l.run_stride *ℤ pos c.args.c.col)
 first_fits c = small-fits _ (on-first c.args.l c.requires.0 c.args.c c.requires.2)
 
-first-is : (c : tie.After-struct_told-2-1) → to_z w64 (of_z w64 c.args.c.runs.source_offset) +ℤ to_z w64 (of_z w64 (to_z w64 (of_z w64 c.args.l.run_stride) *ℤ to_z w64 c.args.c.col))
+first_is : (c : tie.After-struct_told-2-1) → to_z w64 (of_z w64 c.args.c.runs.source_offset) +ℤ to_z w64 (of_z w64 (to_z w64 (of_z w64 c.args.l.run_stride) *ℤ to_z w64 c.args.c.col))
     ≡ c.args.c.runs.source_offset +ℤ c.args.l.run_stride *ℤ pos c.args.c.col
-first-is c =
+first_is c =
     let here = on-run c.args.l c.requires.0 c.args.c c.requires.2 in
     simp (
       to_z-of_z (stride-fits c.before.before),
@@ -65,10 +65,10 @@ first-is c =
 first-told : (c : tie.After-struct_told-2-1) → to_z w64 (of_z w64
     (to_z w64 (of_z w64 c.args.c.runs.source_offset) +ℤ to_z w64 (of_z w64 (to_z w64 (of_z w64 c.args.l.run_stride) *ℤ to_z w64 c.args.c.col))))
     ≡ c.args.c.runs.source_offset +ℤ c.args.l.run_stride *ℤ pos c.args.c.col
-first-told c = ap (λ (z : ℤ). to_z w64 (of_z w64 z)) (first-is c) ∙ to_z-of_z (first_fits c)
+first-told c = ap (λ (z : ℤ). to_z w64 (of_z w64 z)) (first_is c) ∙ to_z-of_z (first_fits c)
 
 overflow_add-first : tie.Need-overflow_add-first
-overflow_add-first c = subst (SFits w64) (sym (first-is c)) (first_fits c)
+overflow_add-first c = subst (SFits w64) (sym (first_is c)) (first_fits c)
 
 overflow_add-k : tie.Need-overflow_add-k
 overflow_add-k c = search rules

@@ -36,10 +36,10 @@ sum_is : (s : tie.Start)
     ≡ s.args.base +ℤ s.args.stride *ℤ pos s.args.start
 sum_is s = simp (to_z-of_z s.ranges.base, to_z-of_z s.ranges.stride, to_z-small _ (start_small s), to_z-of_z (product-fits s)) refl
 
-first-is : (s : tie.Start)
+first_is : (s : tie.Start)
     → to_z w64 (of_z w64 (to_z w64 (of_z w64 s.args.base) +ℤ to_z w64 (of_z w64 (to_z w64 (of_z w64 s.args.stride) *ℤ to_z w64 s.args.start))))
     ≡ s.args.base +ℤ s.args.stride *ℤ pos s.args.start
-first-is s = ap (λ (z : ℤ). to_z w64 (of_z w64 z)) (sum_is s) ∙ to_z-of_z (sum_fits s)
+first_is s = ap (λ (z : ℤ). to_z w64 (of_z w64 z)) (sum_is s) ∙ to_z-of_z (sum_fits s)
 
 overflow_cast-first : tie.Need-overflow_cast-first
 overflow_cast-first c = search rules
@@ -58,10 +58,10 @@ reduce_piece-requires c κs =
     let s = c.before in
     let n = s.args.end - s.args.start in
     let inside = inside-part _ s.args.base s.args.stride s.args.end s.args.start n s.requires.1 (omega (arith, s.requires.0)) in
-    rw (first-is s, to_z-of_z s.ranges.stride) (omega (arith, s.requires.0), inside, omega (arith, s.requires.2))
+    rw (first_is s, to_z-of_z s.ranges.stride) (omega (arith, s.requires.0), inside, omega (arith, s.requires.2))
 
 returns : tie.Need-returns
-returns c = let s = c.before.before in rw (first-is s, to_z-of_z s.ranges.stride) at c.reduce_piece.ensures
+returns c = let s = c.before.before in rw (first_is s, to_z-of_z s.ranges.stride) at c.reduce_piece.ensures
 
 pub reduce_line_spec : {M : Type 1} → statement M
 reduce_line_spec = tie.close (tie.spec overflow_cast-first overflow_mul-first overflow_add-first overflow_sub-end reduce_piece-requires returns)

@@ -27,21 +27,21 @@ start_is : (c : tie.After-begin) → c.begin.result.at ≡ c.args.start
 unfolding range_at
 start_is c = ap (λ (x : RangeCursor). x.at) (began c)
 
-cursor-is : (c : tie.After-begin) → c.begin.result ≡ range_at c.args.l c.args.base c.begin.result.at
-cursor-is c = began c ∙ ap (range_at c.args.l c.args.base) (sym (start_is c))
+cursor_is : (c : tie.After-begin) → c.begin.result ≡ range_at c.args.l c.args.base c.begin.result.at
+cursor_is c = began c ∙ ap (range_at c.args.l c.args.base) (sym (start_is c))
 
 before-end : (c : tie.After-begin) → c.begin.result.at < c.args.end
 before-end c = omega (arith, start_is c, c.requires.2)
 
 next_piece-p-requires : tie.Need-next_piece-p-requires
 next_piece-p-requires c κs =
-    (c.requires.0, before-end c, record { base = c.args.base; bounded = c.requires.1; cursor_is = cursor-is c })
+    (c.requires.0, before-end c, record { base = c.args.base; bounded = c.requires.1; cursor_is = cursor_is c })
 
 first_taken : (c : tie.After-next_piece-p)
     → PieceTaken c.args.l c.args.base c.args.values.now c.args.end c.begin.result c.next_piece-p.result
 first_taken c =
     taken c.args.l c.requires.0 c.args.base c.requires.1 c.args.values.now c.requires.5 c.args.end c.requires.3 c.begin.result
-    (cursor-is c.before) (before-end c.before) c.next_piece-p.result c.next_piece-p.ensures
+    (cursor_is c.before) (before-end c.before) c.next_piece-p.result c.next_piece-p.ensures
 
 first_fits : (c : tie.After-struct_told-2-1) → SFits w64 c.next_piece-p.result.first
 first_fits c = record { sfits = c.struct_told-1.given.0.1 }
