@@ -40,7 +40,7 @@ returns c =
     let e1 = p.before.before.before in
     let k = e1.before in
     code-split k.args.lhs k.args.rhs k.struct_known-1.given.0 k.struct_known-2-1.given.0 k.requires.2 k.requires.3 p.split_fields-p.result
-    p.split_fields-p.ensures k.requires.0 k.requires.1 (split-e c) e1.if-lhs-rhs.left
+    p.split_fields-p.ensures k.requires.0 k.requires.1 (split-e c) e1.if-lhs-rhs.false
 
 pub combine_units_spec : {M : Type 1} → statement M
 combine_units_spec = tie.close (tie.spec returns-then-lhs-rhs split_fields-p-requires overflow_add-e overflow_add-raised returns)

@@ -122,7 +122,7 @@ loop-c-smaller : tie.Need-loop-c-smaller invariant-loop-c decreases-loop-c
 loop-c-smaller c =
     let n = (at_join c).before.before.before in
     let p = next-taken n in
-    omega (arith, n.loop-c-test.taken, p.next_at, p.some_len)
+    omega (arith, n.loop-c-test.true, p.next_at, p.some_len)
 
 loop-c-preserved : tie.Need-loop-c-preserved invariant-loop-c decreases-loop-c
 loop-c-preserved c =

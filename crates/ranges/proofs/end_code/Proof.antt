@@ -5,15 +5,15 @@ use Rattle.ranges.proofs.end_code.Statement.{statement}
 use Rattle.ranges.proofs.end_code.Tie as tie
 
 returns-then-end-start : tie.Need-returns-then-end-start
-returns-then-end-start c = sym (ends-5 c.args.total c.args.start c.args.end c.if-end-start.taken)
+returns-then-end-start c = sym (ends-5 c.args.total c.args.start c.args.end c.if-end-start.true)
 
 returns-then-total-end : tie.Need-returns-then-total-end
 returns-then-total-end c =
-    sym (ends-6 c.args.total c.args.start c.args.end c.if-end-start.left c.if-total-end.taken)
+    sym (ends-6 c.args.total c.args.start c.args.end c.if-end-start.false c.if-total-end.true)
 
 returns : tie.Need-returns
 returns c =
-    sym (ends-0 c.args.total c.args.start c.args.end c.if-end-start.left c.if-total-end.left)
+    sym (ends-0 c.args.total c.args.start c.args.end c.if-end-start.false c.if-total-end.false)
 
 pub end_code_spec : {M : Type 1} → statement M
 end_code_spec = tie.close (tie.spec returns-then-end-start returns-then-total-end returns)

@@ -16,13 +16,13 @@ use Rattle.ranges.proofs.place_code.Tie as tie
 
 returns-then-total-eq0 : tie.Need-returns-then-total-eq0
 returns-then-total-eq0 c =
-    sym (place-empty c.args.sizes.now c.args.strides.now c.args.base c.args.length (sym c.requires.1 ∙ c.if-total-eq0.taken))
+    sym (place-empty c.args.sizes.now c.args.strides.now c.args.base c.args.length (sym c.requires.1 ∙ c.if-total-eq0.true))
 
 cleared : (s : tie.Start) → Clear s.args.sizes.now s.args.strides.now
 cleared s = clear s.args.sizes.now s.args.strides.now s.requires.0
 
 some-element : (c : tie.Else-total-eq0) → 0 < (compile_of PLACES c.args.sizes.now c.args.strides.now).traversal.total
-some-element c = let n = c.if-total-eq0.left in omega (arith, c.requires.1, n)
+some-element c = let n = c.if-total-eq0.false in omega (arith, c.requires.1, n)
 
 inside-requires : tie.Need-inside-requires
 inside-requires c κs =
@@ -44,7 +44,7 @@ returns-then-inside c =
     let s = t.before.before.before in
     sym (place-0 s.args.sizes.now s.args.strides.now s.args.base s.args.length
     (tested s.args.sizes.now s.args.strides.now s.args.base s.args.length (cleared s) (some-element t.before) _
-    (sym (told t ∙ c.if-inside.taken))) [])
+    (sym (told t ∙ c.if-inside.true))) [])
 
 returns : tie.Need-returns
 returns c =
@@ -52,7 +52,7 @@ returns c =
     let s = t.before.before.before in
     sym (place-7 s.args.sizes.now s.args.strides.now s.args.base s.args.length
     (tested s.args.sizes.now s.args.strides.now s.args.base s.args.length (cleared s) (some-element t.before) _
-    (sym (told t ∙ c.if-inside.left))))
+    (sym (told t ∙ c.if-inside.false))))
 
 pub place_code_spec : {M : Type 1} → statement M
 place_code_spec = tie.close (tie.spec returns-then-total-eq0 inside-requires returns-then-inside returns)

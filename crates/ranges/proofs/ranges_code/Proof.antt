@@ -23,10 +23,10 @@ returns-then-refusal-ne0 c =
     e
     ∙ code-compile c.args.sizes.now c.args.strides.now c.args.base c.args.starts.now c.args.ends.now c.args.len
     (not c.args.fit)
-    (λ z. c.if-refusal-ne0.taken (e ∙ z))
+    (λ z. c.if-refusal-ne0.true (e ∙ z))
 
 compiled : (c : tie.Else-refusal-ne0) → let s = entry c in (compile_of PLACES s.args.sizes.now s.args.strides.now).code ≡ 0
-compiled c = sym (entry c).requires.0 ∙ c.if-refusal-ne0.left
+compiled c = sym (entry c).requires.0 ∙ c.if-refusal-ne0.false
 
 cleared : (c : tie.Else-refusal-ne0) → let s = entry c in Clear s.args.sizes.now s.args.strides.now
 cleared c = let s = entry c in clear s.args.sizes.now s.args.strides.now (compiled c)
@@ -37,11 +37,11 @@ returns-then-not-fit c =
     let s = entry c.before in
     code-16 s.args.sizes.now s.args.strides.now s.args.base s.args.starts.now s.args.ends.now s.args.len
     (not s.args.fit)
-    (cleared c.before) c.if-not-fit.taken
+    (cleared c.before) c.if-not-fit.true
 
 -- ---- 5 and 6
 each_code-fault-requires : tie.Need-each_code-fault-requires
-each_code-fault-requires c κs = let s = entry c.before in s.requires.2 (not-false s.args.fit c.if-not-fit.left)
+each_code-fault-requires c κs = let s = entry c.before in s.requires.2 (not-false s.args.fit c.if-not-fit.false)
 
 each-is : (c : tie.After-each_code-fault) → let s = entry c.before.before in
     c.each_code-fault.result
@@ -60,7 +60,7 @@ returns-then-fault-ne0 c =
     e
     ∙ code-each s.args.sizes.now s.args.strides.now s.args.base s.args.starts.now s.args.ends.now s.args.len
     (not s.args.fit)
-    (cleared t.before) t.if-not-fit.left (λ z. c.if-fault-ne0.taken (e ∙ z))
+    (cleared t.before) t.if-not-fit.false (λ z. c.if-fault-ne0.true (e ∙ z))
 
 -- ---- 7
 place_code-requires : tie.Need-place_code-requires
@@ -75,7 +75,7 @@ returns c =
     (simp (to_z-of_z s.fits.base) at c.place_code.ensures)
     ∙ code-places s.args.sizes.now s.args.strides.now s.args.base s.args.starts.now s.args.ends.now s.args.len
     (not s.args.fit)
-    (cleared t.before) t.if-not-fit.left (sym (each-is f) ∙ n.if-fault-ne0.left)
+    (cleared t.before) t.if-not-fit.false (sym (each-is f) ∙ n.if-fault-ne0.false)
 
 pub ranges_code_spec : {M : Type 1} → statement M
 ranges_code_spec = tie.close (tie.spec returns-then-refusal-ne0 returns-then-not-fit each_code-fault-requires returns-then-fault-ne0 place_code-requires returns)

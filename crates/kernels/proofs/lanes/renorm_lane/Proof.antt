@@ -31,8 +31,8 @@ overflow_add-t c =
     let p = c.before.before.before in
     added-fits p.args.s p.requires.1 p.split_fields-p.result (split-near (m_of p.args.s p.args.k) p.split_fields-p.result (p.split_fields-p.ensures p.requires.2)) p.args.k
 
-mul-t15 : tie.Need-overflow-mul-t15
-mul-t15 c = search rules
+offset_bounds-t-k-4 : tie.Need-offset_bounds-t-k-4
+offset_bounds-t-k-4 c = search rules
 
 bounds-t-k-4 : tie.Need-bounds-t-k-4
 bounds-t-k-4 c = search rules

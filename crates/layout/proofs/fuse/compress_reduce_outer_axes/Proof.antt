@@ -35,13 +35,13 @@ abbrev from-loop : tie.At-loop-i invariant-loop-i decreases-loop-i → tie.Start
 from-loop c = c.before.before.before
 
 -- the tables after the step
-next : (c : tie.Else-not-f invariant-loop-i decreases-loop-i) → let g = c.before.before in let k = g.before.before.before.before.before in let s = from-loop k in
+next : (c : tie.Else-not-f invariant-loop-i decreases-loop-i) → let g = c.before.before in let k = g.before.before.before in let s = from-loop k in
     Fused s.args.extents.now s.args.steps.now s.args.count
     (set k.loop-i.extents g.fuse_next-f.result.done g.fuse_next-f.result.last.extent)
     (set k.loop-i.steps g.fuse_next-f.result.done g.fuse_next-f.result.last.source_step) g.fuse_next-f.result (k.loop-i.i + 1)
 next c =
     let g = c.before.before in
-    let k = g.before.before.before.before.before in
+    let k = g.before.before.before in
     let s = from-loop k in
     fused-more s.args.extents.now s.args.steps.now s.args.count k.loop-i.extents k.loop-i.steps k.loop-i.f k.loop-i.i
     g.loop-i-test.true (omega (arith, s.requires.0, s.requires.1.0)) (omega (arith, s.requires.0, s.requires.1.1)) k.loop-i.invariant.1
@@ -52,7 +52,7 @@ room : (c : tie.After-struct_told-1 invariant-loop-i decreases-loop-i) → c.fus
 room c =
     let e = c.before.before in
     let g = e.before.before in
-    let k = g.before.before.before.before.before in
+    let k = g.before.before.before in
     omega (arith, (next e).few, g.loop-i-test.true, (from-loop k).requires.0)
 
 nothing : (es : List ℕ) (ts : List ℤ) (n : ℕ) → n ≡ 0 → fuse (held n es ts) ≡ held_if true n es ts
@@ -75,18 +75,16 @@ loop-i-init c = (
 )
 
 axis_at-b-requires : tie.Need-axis_at-b-requires invariant-loop-i decreases-loop-i
-axis_at-b-requires c κs = let k = c.before.before.before in omega (arith, c.loop-i-test.true, (from-loop k).requires.0)
+axis_at-b-requires c κs = let k = c.before in omega (arith, c.loop-i-test.true, (from-loop k).requires.0)
 
 fuse_next-f-requires : tie.Need-fuse_next-f-requires invariant-loop-i decreases-loop-i
-fuse_next-f-requires c κs =
-    let k = c.before.before.before.before in
-    omega (arith, k.loop-i.invariant.1.few, c.loop-i-test.true, (from-loop k).requires.0)
+fuse_next-f-requires c κs = omega (arith, c.loop-i.invariant.1.few, c.loop-i-test.true, c.requires.0)
 
 returns-then-not-f : tie.Need-returns-then-not-f invariant-loop-i decreases-loop-i
 unfolding held_if
 returns-then-not-f c =
     let g = c.before.before in
-    let k = g.before.before.before.before.before in
+    let k = g.before.before.before in
     let s = from-loop k in (
       k.loop-i.invariant.0,
       (
@@ -102,13 +100,13 @@ offset_bounds-extents-done : tie.Need-offset_bounds-extents-done invariant-loop-
 offset_bounds-extents-done c = omega (arith, room c)
 
 bounds-extents-done : tie.Need-bounds-extents-done invariant-loop-i decreases-loop-i
-bounds-extents-done c = omega (arith, room c)
+bounds-extents-done c = omega (arith, room c.before)
 
 offset_bounds-steps-done : tie.Need-offset_bounds-steps-done invariant-loop-i decreases-loop-i
-offset_bounds-steps-done c = omega (arith, room c)
+offset_bounds-steps-done c = omega (arith, room c.before)
 
 bounds-steps-done : tie.Need-bounds-steps-done invariant-loop-i decreases-loop-i
-bounds-steps-done c = omega (arith, room c)
+bounds-steps-done c = omega (arith, room c.before)
 
 overflow_add-i : tie.Need-overflow_add-i invariant-loop-i decreases-loop-i
 overflow_add-i c = omega arith
@@ -123,11 +121,11 @@ loop-i-preserved c =
     let f : SFits w64 g.fuse_next-f.result.last.source_step = record { sfits = c.struct_told-1.given.1.0.1 } in
     simp (to_z-of_z f) (
       (length-set g.loop-i.extents _ _ ∙ g.loop-i.invariant.0.0, length-set g.loop-i.steps _ _ ∙ g.loop-i.invariant.0.1),
-      next e,
+      next e.before,
     )
 
-add-t22 : tie.Need-overflow-add-t22 invariant-loop-i decreases-loop-i
-add-t22 c = omega arith
+overflow_add-result : tie.Need-overflow_add-result invariant-loop-i decreases-loop-i
+overflow_add-result c = omega arith
 
 returns : tie.Need-returns invariant-loop-i decreases-loop-i
 unfolding held_if

@@ -74,7 +74,7 @@ returns-else-left-len c = λ _.
     let room = s.args.end - s.args.c.at in
     let len = s.args.l.run_len in
     let d : room / len * len ≤ room = div-mul-le_self room len in
-    runs-ahead s.args.l s.requires.0 s.args.c s.requires.2 s.args.end (room / len) s.requires.1 (some-axis e) e.if-c-ne0.left
+    runs-ahead s.args.l s.requires.0 s.args.c s.requires.2 s.args.end (room / len) s.requires.1 (some-axis e) e.if-c-ne0.false
     (le_of_mul-le-mul_right (omega (arith, d, c.if-left-len.false)) (run-some s.args.l s.requires.0)) d
 
 pub whole_runs_spec : {M : Type 1} → statement M

@@ -233,7 +233,7 @@ behind c =
     let a = ahead e in
     behind-strip s.args.l s.requires.0 s.args.base s.requires.1 s.args.end k.loop-c.c
     (strip-cursor-is e)
-    e.whole_runs-n.result a.0 a.1 a.2 a.3 (omega (arith, e.if-n-lt2.left)) c.Skip-runs.result c.Skip-runs.ensures
+    e.whole_runs-n.result a.0 a.1 a.2 a.3 (omega (arith, e.if-n-lt2.false)) c.Skip-runs.result c.Skip-runs.ensures
     c.next_piece-q-else-n-lt2.result c.next_piece-q-else-n-lt2.ensures
 
 loop-c-smaller : tie.Need-loop-c-smaller invariant-loop-c decreases-loop-c
@@ -243,9 +243,9 @@ loop-c-smaller c =
     let s = from-loop k in
     let n = e.whole_runs-n.result in
     let len = s.args.l.run_len in
-    let one : 1 ≤ n = omega (arith, e.if-n-lt2.left) in
+    let one : 1 ≤ n = omega (arith, e.if-n-lt2.false) in
     let m : 1 * len ≤ n * len = mul-le-mul_right len one in
-    omega (arith, e.loop-c-test.taken, (behind c.before).0, m, run-some s.args.l s.requires.0)
+    omega (arith, e.loop-c-test.true, (behind c.before).0, m, run-some s.args.l s.requires.0)
 
 loop-c-preserved : tie.Need-loop-c-preserved invariant-loop-c decreases-loop-c
 loop-c-preserved c =

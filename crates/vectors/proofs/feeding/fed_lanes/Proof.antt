@@ -127,7 +127,7 @@ overflow_add-i c =
     let p = c.before in
     let i = turn p in
     let h = (entry i.before).requires.0 in
-    let l = i.loop-i-test.taken in
+    let l = i.loop-i-test.true in
     let u = (step p).next_step-t.ensures.1.0.upto in
     omega arith
 

@@ -123,7 +123,7 @@ next_place-at-requires c κs l =
     subst (λ (z : ℤ). PlacesFit (to_z w64 t.loop-i.at-bits) z ((s.args.len + 7) / 8 - (t.loop-i.i + 1) + 1)) (sym (eight_is c l))
     (fit-eighths (to_z w64 t.loop-i.at-bits) (apart t) (s.args.len - 8 * t.loop-i.i) _ (omega arith)
     (fits-from (size t) (first t) (apart t) s.args.len (inside t) (omega (arith, s.well_formed.1.1)) (to_z w64 t.loop-i.at-bits) (8 * t.loop-i.i)
-    (s.args.len - 8 * t.loop-i.i) (t.loop-i.invariant.2 i.loop-i-test.taken) (omega arith)))
+    (s.args.len - 8 * t.loop-i.i) (t.loop-i.invariant.2 i.loop-i-test.true) (omega arith)))
 
 -- the place a vector further, if one is left; else that of the last
 next : (c : tie.After-next_place-at invariant-loop-i decreases-loop-i) → let t = (turn c.before).before in t.loop-i.i + 1 < ((entry t).args.len + 7) / 8
@@ -169,10 +169,10 @@ more c =
     (c.some_vector-vector.ensures ∙ ap (λ (z : ℤ). vector_of (strided xs z (apart t) (min 8 (n - 8 * i)))) (t.loop-i.invariant.2 q.loop-i-test.true))))
 
 loop-i-smaller : tie.Need-loop-i-smaller invariant-loop-i decreases-loop-i
-loop-i-smaller c = let l = (turn c.before).loop-i-test.taken in omega arith
+loop-i-smaller c = let l = (turn c.before).loop-i-test.true in omega arith
 
 loop-i-preserved : tie.Need-loop-i-preserved invariant-loop-i decreases-loop-i
-loop-i-preserved c = let l = (turn c.before).loop-i-test.taken in (omega arith, more (worked c.before), next c, last c)
+loop-i-preserved c = let l = (turn c.before).loop-i-test.true in (omega arith, more (worked c.before), next c, last c)
 
 returns : tie.Need-returns invariant-loop-i decreases-loop-i
 returns c =

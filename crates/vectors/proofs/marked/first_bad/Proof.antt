@@ -136,7 +136,7 @@ next_place-at-requires c κs h =
     (here (turn c)) (omega arith)
 
 loop-i-smaller : tie.Need-loop-i-smaller invariant-loop-i decreases-loop-i
-loop-i-smaller c = let l = (turn c.before).loop-i-test.taken in omega arith
+loop-i-smaller c = let l = (turn c.before).loop-i-test.true in omega arith
 
 loop-i-preserved : tie.Need-loop-i-preserved invariant-loop-i decreases-loop-i
 loop-i-preserved c =

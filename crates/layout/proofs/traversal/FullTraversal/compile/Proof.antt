@@ -140,7 +140,7 @@ returns-then-not-ordered c =
     let m = t.before.before in
     let e = m.before.before.before in
     c.refused-then-not-ordered.ensures
-    ∙ sym (code-3 e.args.sizes.now e.args.strides.now e.if-sizes-strides.false m.if-sizes-gt-PLACES.left
+    ∙ sym (code-3 e.args.sizes.now e.args.strides.now e.if-sizes-strides.false m.if-sizes-gt-PLACES.false
     (no-resets e.args.sizes.now e.args.strides.now m.checked_total-total.result.value (counted t) (some_left o) o.ordered_axes-ordered.result
     o.ordered_axes-ordered.ensures.1.0 (not-true _ c.if-not-ordered.true)))
 
@@ -162,7 +162,7 @@ returns-then-not-fused c =
     let e = m.before.before.before in
     let q = not-false _ k.if-not-ordered.false in
     c.refused-then-not-fused.ensures
-    ∙ sym (code-3 e.args.sizes.now e.args.strides.now e.if-sizes-strides.false m.if-sizes-gt-PLACES.left
+    ∙ sym (code-3 e.args.sizes.now e.args.strides.now e.if-sizes-strides.false m.if-sizes-gt-PLACES.false
     (no-fusing e.args.sizes.now e.args.strides.now m.checked_total-total.result.value (counted t) (some_left o) o.ordered_axes-ordered.result
     o.ordered_axes-ordered.ensures.1.0 q _ _ (o.ordered_axes-ordered.ensures.1.1 q).0 f.compress_reduce_outer_axes-fused.result _ _
     f.compress_reduce_outer_axes-fused.ensures.1.0 (not-true _ c.if-not-fused.true)))
@@ -178,7 +178,7 @@ returns-then-t-gt-MOST_ELEMENTS c =
     let e = m.before.before.before in
     c.refused-then-t-gt-MOST_ELEMENTS.ensures
     ∙ sym
-    (code-4 e.args.sizes.now e.args.strides.now e.if-sizes-strides.left m.if-sizes-gt-PLACES.left _ m.checked_total-total.result.value (compiled k).0 (counted t)
+    (code-4 e.args.sizes.now e.args.strides.now e.if-sizes-strides.false m.if-sizes-gt-PLACES.false _ m.checked_total-total.result.value (compiled k).0 (counted t)
     c.if-t-gt-MOST_ELEMENTS.true)
 
 bounds-extents-0 : tie.Need-bounds-extents-0
