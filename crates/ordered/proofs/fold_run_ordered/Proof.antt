@@ -58,7 +58,7 @@ abbrev entry : tie.At-loop-left invariant-loop-left decreases-loop-left → tie.
 entry t = t.before.before
 
 abbrev done : tie.At-loop-left invariant-loop-left decreases-loop-left → ℕ
-done t = (entry t).args.len - t.loop-left.false
+done t = (entry t).args.len - t.loop-left.left
 
 -- the place of the next value
 here : (c : tie.In-loop-left invariant-loop-left decreases-loop-left) → let t = c.before in to_z w64 t.loop-left.at-bits ≡ first (entry t) +ℤ stride (entry t) *ℤ pos (done t)
@@ -82,11 +82,11 @@ overflow_sub-left : tie.Need-overflow_sub-left invariant-loop-left decreases-loo
 overflow_sub-left c = omega arith
 
 -- one more value is in
-more : (c : tie.In-loop-left invariant-loop-left decreases-loop-left) → let t = c.before in done t + 1 ≡ (entry t).args.len - (t.loop-left.false - 1)
+more : (c : tie.In-loop-left invariant-loop-left decreases-loop-left) → let t = c.before in done t + 1 ≡ (entry t).args.len - (t.loop-left.left - 1)
 more c = omega (arith, c.loop-left.invariant.0, c.loop-left-test.true)
 
 product : (c : tie.In-loop-left invariant-loop-left decreases-loop-left) → let t = c.before in let s = entry t in
-    mul binary64 t.loop-left.product (value_at (values s) (to_z w64 t.loop-left.at-bits)) ≡ folded s (s.args.len - (t.loop-left.false - 1))
+    mul binary64 t.loop-left.product (value_at (values s) (to_z w64 t.loop-left.at-bits)) ≡ folded s (s.args.len - (t.loop-left.left - 1))
 product c =
     let t = c.before in
     let s = entry t in
@@ -103,8 +103,8 @@ next_place-at-requires c κs l =
     fit-later (first s) (stride s) _ s.args.len (done t) _ (here i) (omega (arith, t.loop-left.invariant.0, i.loop-left-test.true)) (λ j h. (index s j h).in_i64)
 
 -- the place of the value behind it, if there is one, as the code holds it
-next : (c : tie.After-next_place-at invariant-loop-left decreases-loop-left) → let t = c.before.before.before in let s = entry t in 0 < t.loop-left.false - 1
-    → to_z w64 (of_z w64 c.next_place-at.result) ≡ first s +ℤ stride s *ℤ pos (s.args.len - (t.loop-left.false - 1))
+next : (c : tie.After-next_place-at invariant-loop-left decreases-loop-left) → let t = c.before.before.before in let s = entry t in 0 < t.loop-left.left - 1
+    → to_z w64 (of_z w64 c.next_place-at.result) ≡ first s +ℤ stride s *ℤ pos (s.args.len - (t.loop-left.left - 1))
 next c l =
     let i = c.before.before in
     let t = i.before in

@@ -72,14 +72,14 @@ write_offsets-requires : tie.Need-write_offsets-requires
 write_offsets-requires c κs =
     let t = c.before in
     let e = t.before in
-    let a = accepted e in
+    let a = accepted e.before in
     simp (to_z-of_z e.ranges.base) (a.traversal, a.bounded, a.forward, a.inside, t.if-out-end.false)
 
 shape_of-out : tie.Need-shape_of-out
 shape_of-out c = search rules
 
 -- what was written, over rule L2's axes
-wrote : (c : tie.After-write_offsets) → c.write_offsets.new.1.1.1.1.0
+wrote : (c : tie.After-write_offsets) → c.write_offsets.new.out
     ≡ offsets_from (axes_of c.args.sizes.now c.args.strides.now) c.args.base c.args.start (c.args.end - c.args.start)
     ++ drop (c.args.end - c.args.start) c.args.out.now
 wrote c =
@@ -87,13 +87,13 @@ wrote c =
     let e = t.before in
     simp (to_z-of_z e.ranges.base) at c.write_offsets.ensures
     ∙ ap (λ (o : List ℤ). o ++ drop (e.args.end - e.args.start) e.args.out.now)
-    ((accepted e).offsets (e.args.end - e.args.start) e.args.start)
+    ((accepted e.before).offsets (e.args.end - e.args.start) e.args.start)
 
 returns : tie.Need-returns
 returns c =
     let t = c.before.before.before in
     let e = t.before in
-    let k = list-0 e.args.sizes.now e.args.strides.now e.args.base e.args.start e.args.end e.args.length (accepted e).ranged
+    let k = list-0 e.args.sizes.now e.args.strides.now e.args.base e.args.start e.args.end e.args.length (accepted e.before).ranged
     (length e.args.out.now) t.if-out-end.false in (
       sym k,
       wrote c.before

@@ -68,7 +68,7 @@ loop-c-preserved c =
     let p = taken n in
     let k = n.before.before.before.before.before in
     let wrote = simp (to_z-of_z (stride-fits k), to_z-of_z p.first_fits) at c.write_run.ensures in
-    simp (to_z-of_z k.ranges.base) (p.more c.write_run.new.0 wrote)
+    simp (to_z-of_z k.ranges.base) (p.more c.write_run.new.out wrote)
 
 shape_of-out : tie.Need-shape_of-out invariant-loop-c decreases-loop-c
 shape_of-out c =

@@ -46,7 +46,7 @@ loop-left-init c =
 
 -- how many numbers a turn of the loop finds written
 abbrev done : tie.At-loop-left invariant-loop-left decreases-loop-left → ℕ
-done t = t.args.count - t.loop-left.false
+done t = t.args.count - t.loop-left.left
 
 -- the buffer's length stays
 long : (t : tie.At-loop-left invariant-loop-left decreases-loop-left) → length t.loop-left.out ≡ length t.args.out.now
@@ -75,11 +75,11 @@ here : (c : tie.In-loop-left invariant-loop-left decreases-loop-left) → let t 
 here c = c.loop-left.invariant.2 (omega (arith, c.loop-left-test.true))
 
 -- one more is written
-more : (c : tie.In-loop-left invariant-loop-left decreases-loop-left) → let t = c.before in done t + 1 ≡ t.args.count - (t.loop-left.false - 1)
+more : (c : tie.In-loop-left invariant-loop-left decreases-loop-left) → let t = c.before in done t + 1 ≡ t.args.count - (t.loop-left.left - 1)
 more c = omega (arith, c.loop-left.invariant.0, c.loop-left-test.true)
 
 written : (c : tie.In-loop-left invariant-loop-left decreases-loop-left) → let t = c.before in
-    set t.loop-left.out t.loop-left.i (to_z w64 t.loop-left.offset-bits) ≡ wrote t.before (t.args.count - (t.loop-left.false - 1))
+    set t.loop-left.out t.loop-left.i (to_z w64 t.loop-left.offset-bits) ≡ wrote t.before (t.args.count - (t.loop-left.left - 1))
 written c =
     let t = c.before in
     let s = t.before in
@@ -97,8 +97,8 @@ next_place-offset-requires c κs l =
     (simp (to_z-of_z s.ranges.first, to_z-of_z s.ranges.stride) s.requires.1)
 
 -- the next number, if there is one, as the code holds it
-next : (c : tie.After-next_place-offset invariant-loop-left decreases-loop-left) → let t = c.before.before in let s = t.before in 0 < t.loop-left.false - 1
-    → to_z w64 (of_z w64 c.next_place-offset.result) ≡ first s +ℤ stride s *ℤ pos (s.args.count - (t.loop-left.false - 1))
+next : (c : tie.After-next_place-offset invariant-loop-left decreases-loop-left) → let t = c.before.before in let s = t.before in 0 < t.loop-left.left - 1
+    → to_z w64 (of_z w64 c.next_place-offset.result) ≡ first s +ℤ stride s *ℤ pos (s.args.count - (t.loop-left.left - 1))
 next c l =
     let i = c.before in
     let s = i.before.before in
@@ -109,7 +109,7 @@ next c l =
     ∙ ap (λ (n : ℕ). first s +ℤ stride s *ℤ pos n) (more i)
 
 -- the place after it
-place : (c : tie.In-loop-left invariant-loop-left decreases-loop-left) → c.loop-left.i + 1 ≡ c.args.at + (c.args.count - (c.loop-left.false - 1))
+place : (c : tie.In-loop-left invariant-loop-left decreases-loop-left) → c.loop-left.i + 1 ≡ c.args.at + (c.args.count - (c.loop-left.left - 1))
 place c = omega (arith, c.loop-left.invariant.1, more c)
 
 loop-left-smaller : tie.Need-loop-left-smaller invariant-loop-left decreases-loop-left

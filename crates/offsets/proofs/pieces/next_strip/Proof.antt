@@ -70,7 +70,7 @@ next_piece-q-requires c κs =
     let o = s.requires.2 in
     let a = ahead e in
     let r = on-last s.args.l s.requires.0 o.base o.bounded s.args.end s.args.c o.cursor_is e.whole_runs-n.result a.0 a.1
-    a.2 a.3 (omega (arith, e.if-n-lt2.false)) c.Skip-runs.result c.Skip-runs.ensures in
+    a.2 a.3 (omega (arith, e.if-n-lt2.false)) c.skip_runs-last.result c.skip_runs-last.ensures in
     (s.requires.0, r.0, r.1)
 
 at-fits : (c : tie.Else-n-lt2) → SFits w64 (entry c).args.c.runs.source_offset
@@ -88,7 +88,7 @@ returns c = λ base b r.
     let a = ahead e in
     simp (to_z-of_z (at-fits e), to_z-of_z (step_fits c))
     (runs-strip s.args.l s.requires.0 base b s.args.end s.args.c r e.whole_runs-n.result a.0 a.1 a.2 a.3
-    (omega (arith, e.if-n-lt2.false)) k.Skip-runs.result k.Skip-runs.ensures q.next_piece-q.result q.next_piece-q.ensures)
+    (omega (arith, e.if-n-lt2.false)) k.skip_runs-last.result k.skip_runs-last.ensures q.next_piece-q.result q.next_piece-q.ensures)
 
 pub next_strip_spec : {M : Type 1} → statement M
 next_strip_spec = tie.close (tie.spec whole_runs-n-requires next_piece-p-requires returns-then-n-lt2 bounds-axes-0 overflow_sub-n skip_runs-last-requires next_piece-q-requires returns)

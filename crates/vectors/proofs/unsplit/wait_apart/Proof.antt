@@ -66,8 +66,8 @@ next_place-next-requires c κs l =
     let t = i.before in
     let s = entry t in
     let u = t.loop-left.invariant.upto in
-    subst (λ (z : ℤ). PlacesFit (to_z w64 t.loop-left.next-bits) z (t.loop-left.false - 1 + 1)) (sym (eight_is s (omega arith)))
-    (λ k b. walk-fits _ _ _ _ _ _ _ _ _ _ t.loop-left.invariant i.loop-left-test.true (inside s) (omega (arith, s.well_formed.1.1)) k (let h : k < t.loop-left.false = omega arith in h))
+    subst (λ (z : ℤ). PlacesFit (to_z w64 t.loop-left.next-bits) z (t.loop-left.left - 1 + 1)) (sym (eight_is s (omega arith)))
+    (λ k b. walk-fits _ _ _ _ _ _ _ _ _ _ t.loop-left.invariant i.loop-left-test.true (inside s) (omega (arith, s.well_formed.1.1)) k (let h : k < t.loop-left.left = omega arith in h))
 
 -- the vector is in
 fed : (c : tie.After-wait_vector-lanes invariant-loop-left decreases-loop-left) → let t = c.before.before.before in
@@ -97,7 +97,7 @@ returns : tie.Need-returns invariant-loop-left decreases-loop-left
 returns c =
     let t = c.before in
     let s = entry t in
-    let z : t.loop-left.false ≡ 0 = (let l = c.loop-left-test.false in omega arith) in
+    let z : t.loop-left.left ≡ 0 = (let l = c.loop-left-test.false in omega arith) in
     let e = walk-fed _ _ _ _ _ _ _ _ _ _ t.loop-left.invariant z in
     let p = walk-last _ _ _ _ _ _ _ _ _ _ t.loop-left.invariant z in
     (simp (to_z-of_z w64 s.args.start s.fits.start, to_z-of_z w64 s.args.stride s.fits.stride) at e, simp (to_z-of_z w64 s.args.start s.fits.start, to_z-of_z w64 s.args.stride s.fits.stride) at p)

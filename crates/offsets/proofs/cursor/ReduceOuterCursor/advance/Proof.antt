@@ -31,30 +31,30 @@ loop-i-init : tie.Need-loop-i-init invariant-loop-i decreases-loop-i
 loop-i-init c = advancing-none _ _ c.requires.2
 
 -- the axis at i, and those after it
-here : (c : tie.In-loop-i invariant-loop-i decreases-loop-i) → drop c.loop-i.i (take c.args.count c.args.t3)
-    ≡ get_or c.args.t3 c.loop-i.i no_axis ∷ drop (c.loop-i.i + 1) (take c.args.count c.args.t3)
+here : (c : tie.In-loop-i invariant-loop-i decreases-loop-i) → drop c.loop-i.i (take c.args.count c.args.axes)
+    ≡ get_or c.args.axes c.loop-i.i no_axis ∷ drop (c.loop-i.i + 1) (take c.args.count c.args.axes)
 here c =
-    take-from c.args.t3 c.args.count no_axis c.loop-i.i c.loop-i-test.true (omega (arith, c.requires.0, c.requires.1))
+    take-from c.args.axes c.args.count no_axis c.loop-i.i c.loop-i-test.true (omega (arith, c.requires.0, c.requires.1))
 
-counted : (c : tie.In-loop-i invariant-loop-i decreases-loop-i) → length (take c.args.count c.args.t3) ≡ c.args.count
-counted c = length-take-le c.args.count c.args.t3 (omega (arith, c.requires.0, c.requires.1))
+counted : (c : tie.In-loop-i invariant-loop-i decreases-loop-i) → length (take c.args.count c.args.axes) ≡ c.args.count
+counted c = length-take-le c.args.count c.args.axes (omega (arith, c.requires.0, c.requires.1))
 
-axis : (c : tie.In-loop-i invariant-loop-i decreases-loop-i) → Axis (get_or c.args.t3 c.loop-i.i no_axis)
+axis : (c : tie.In-loop-i invariant-loop-i decreases-loop-i) → Axis (get_or c.args.axes c.loop-i.i no_axis)
 axis c = advance-axis _ _ _ _ c.loop-i.invariant _ (here c)
 
 digit : (c : tie.In-loop-i invariant-loop-i decreases-loop-i)
     → get_or c.loop-i.c.digits c.loop-i.i 0
-    ≡ c.loop-i.invariant.index % (get_or c.args.t3 c.loop-i.i no_axis).extent
+    ≡ c.loop-i.invariant.index % (get_or c.args.axes c.loop-i.i no_axis).extent
 digit c = advance-digit _ _ _ _ c.loop-i.invariant _ (here c)
 
 from-here : (c : tie.In-loop-i invariant-loop-i decreases-loop-i) → Small c.loop-i.c.source_offset
 from-here c = advance-here _ _ _ _ c.loop-i.invariant _ (here c)
 
 -- a step, where the digit has room
-room : (c : tie.Then-d-a invariant-loop-i decreases-loop-i) → let k = c.before.before.before.before.before in k.loop-i.invariant.index % (get_or k.args.t3 k.loop-i.i no_axis).extent + 1 < (get_or k.args.t3 k.loop-i.i no_axis).extent
+room : (c : tie.Then-d-a invariant-loop-i decreases-loop-i) → let k = c.before.before.before.before.before in k.loop-i.invariant.index % (get_or k.args.axes k.loop-i.i no_axis).extent + 1 < (get_or k.args.axes k.loop-i.i no_axis).extent
 room c = omega (arith, digit c.before.before.before.before, c.if-d-a.true)
 
-full : (c : tie.Else-d-a invariant-loop-i decreases-loop-i) → let k = c.before.before.before.before.before in (get_or k.args.t3 k.loop-i.i no_axis).extent ≤ k.loop-i.invariant.index % (get_or k.args.t3 k.loop-i.i no_axis).extent + 1
+full : (c : tie.Else-d-a invariant-loop-i decreases-loop-i) → let k = c.before.before.before.before.before in (get_or k.args.axes k.loop-i.i no_axis).extent ≤ k.loop-i.invariant.index % (get_or k.args.axes k.loop-i.i no_axis).extent + 1
 full c = omega (arith, digit c.before.before.before.before, c.if-d-a.false)
 
 offset_bounds-axes-i : tie.Need-offset_bounds-axes-i invariant-loop-i decreases-loop-i
@@ -82,7 +82,7 @@ overflow_add-c : tie.Need-overflow_add-c invariant-loop-i decreases-loop-i
 overflow_add-c c =
     let u = c.before.before.before in
     let t = u.before.before.before.before in
-    let a = get_or t.args.t3 t.loop-i.i no_axis in
+    let a = get_or t.args.axes t.loop-i.i no_axis in
     let f : SFits w64 a.source_step = record { sfits = c.struct_told-then-d-a-1.given.1.0.1 } in
     simp (to_z-of_z f, to_z-of_z (small-fits _ (from-here t))) (small-fits _ (step-in-bounds _ _ _ _ t.loop-i.invariant a (here t) (room u)))
 
@@ -90,7 +90,7 @@ returns-then-d-a : tie.Need-returns-then-d-a invariant-loop-i decreases-loop-i
 returns-then-d-a c =
     let u = c.before.before.before in
     let t = u.before.before.before.before in
-    let a = get_or t.args.t3 t.loop-i.i no_axis in
+    let a = get_or t.args.axes t.loop-i.i no_axis in
     let f : SFits w64 a.source_step = record { sfits = c.struct_told-then-d-a-1.given.1.0.1 } in
     simp (to_z-of_z f, to_z-of_z (small-fits _ (from-here t)), to_z-of_z (small-fits _ (step-in-bounds _ _ _ _ t.loop-i.invariant a (here t) (room u))))
     (advanced-step _ _ _ _ t.loop-i.invariant a (here t) (room u) _ refl
@@ -106,7 +106,7 @@ overflow_add-c-in-loop-i : tie.Need-overflow_add-c-in-loop-i invariant-loop-i de
 overflow_add-c-in-loop-i c =
     let u = c.before.before.before in
     let t = u.before.before.before.before in
-    let a = get_or t.args.t3 t.loop-i.i no_axis in
+    let a = get_or t.args.axes t.loop-i.i no_axis in
     let f : SFits w64 a.source_reset = record { sfits = c.struct_told-in-loop-i-2-1.given.1.1.0.1 } in
     simp (to_z-of_z f, to_z-of_z (small-fits _ (from-here t))) (small-fits _ (reset-in-bounds _ _ _ _ t.loop-i.invariant a (here t) (full u)))
 
@@ -120,14 +120,14 @@ loop-i-preserved : tie.Need-loop-i-preserved invariant-loop-i decreases-loop-i
 loop-i-preserved c =
     let u = c.before.before.before in
     let t = u.before.before.before.before in
-    let a = get_or t.args.t3 t.loop-i.i no_axis in
+    let a = get_or t.args.axes t.loop-i.i no_axis in
     let f : SFits w64 a.source_reset = record { sfits = c.struct_told-in-loop-i-2-1.given.1.1.0.1 } in
     simp (to_z-of_z f, to_z-of_z (small-fits _ (from-here t)), to_z-of_z (small-fits _ (reset-in-bounds _ _ _ _ t.loop-i.invariant a (here t) (full u))))
     (advancing-more _ _ _ _ t.loop-i.invariant a (here t) (full u) (omega (arith, t.loop-i-test.true, counted t)) _ refl refl)
 
 returns : tie.Need-returns invariant-loop-i decreases-loop-i
 returns c =
-    advanced-all (take c.args.count c.args.t3) _ _ c.loop-i.i c.loop-i.invariant (simp length-take (omega (arith, c.loop-i-test.false)))
+    advanced-all (take c.args.count c.args.axes) _ _ c.loop-i.i c.loop-i.invariant (simp length-take (omega (arith, c.loop-i-test.false)))
 
 pub advance_spec : {M : Type 1} → statement M
 advance_spec = tie.close (tie.spec invariant-loop-i decreases-loop-i loop-i-init offset_bounds-axes-i bounds-axes-i offset_bounds-c-i bounds-c-i overflow_add-d offset_bounds-c-i-then-d-a bounds-c-i-then-d-a overflow_add-c returns-then-d-a offset_bounds-c-i-in-loop-i bounds-c-i-in-loop-i overflow_add-c-in-loop-i overflow_add-i loop-i-smaller loop-i-preserved returns)

@@ -31,22 +31,22 @@ decreases-loop-i index base count axes c₀ rest₀ i₀ c rest i = count - i
 loop-i-init : tie.Need-loop-i-init invariant-loop-i decreases-loop-i
 loop-i-init c =
     let f = c.ranges.base in
-    simp (to_z-of_z f) (decoded-none (take c.args.count c.args.t4) c.args.base c.args.index _ c.requires.2 c.requires.3 refl refl)
+    simp (to_z-of_z f) (decoded-none (take c.args.count c.args.axes) c.args.base c.args.index _ c.requires.2 c.requires.3 refl refl)
 
 -- the axis at i, and those after it
-here : (c : tie.In-loop-i invariant-loop-i decreases-loop-i) → drop c.loop-i.i (take c.args.count c.args.t4)
-    ≡ get_or c.args.t4 c.loop-i.i no_axis ∷ drop (c.loop-i.i + 1) (take c.args.count c.args.t4)
+here : (c : tie.In-loop-i invariant-loop-i decreases-loop-i) → drop c.loop-i.i (take c.args.count c.args.axes)
+    ≡ get_or c.args.axes c.loop-i.i no_axis ∷ drop (c.loop-i.i + 1) (take c.args.count c.args.axes)
 here c =
-    take-from c.args.t4 c.args.count no_axis c.loop-i.i c.loop-i-test.true (omega (arith, c.requires.0, c.requires.1))
+    take-from c.args.axes c.args.count no_axis c.loop-i.i c.loop-i-test.true (omega (arith, c.requires.0, c.requires.1))
 
 room : (c : tie.In-loop-i invariant-loop-i decreases-loop-i) → c.loop-i.i < PLACES
 room c = omega (arith, c.requires.1)
 
-axis : (c : tie.In-loop-i invariant-loop-i decreases-loop-i) → Axis (get_or c.args.t4 c.loop-i.i no_axis)
+axis : (c : tie.In-loop-i invariant-loop-i decreases-loop-i) → Axis (get_or c.args.axes c.loop-i.i no_axis)
 axis c = decode-axis _ _ _ _ _ _ c.loop-i.invariant _ (room c) (here c)
 
 small-digit : (c : tie.In-loop-i invariant-loop-i decreases-loop-i)
-    → c.loop-i.rest % (get_or c.args.t4 c.loop-i.i no_axis).extent < 2 ^ 63
+    → c.loop-i.rest % (get_or c.args.axes c.loop-i.i no_axis).extent < 2 ^ 63
 small-digit c = let w = axis c in omega (arith, mod-lt c.loop-i.rest w.1, axis-small _ w)
 
 -- the offset so far, the share of the digit, and their sum fit i64
@@ -54,12 +54,12 @@ from-here : (c : tie.In-loop-i invariant-loop-i decreases-loop-i) → Small c.lo
 from-here c = decode-here _ _ _ _ _ _ c.loop-i.invariant _ (room c) (here c)
 
 to-next : (c : tie.In-loop-i invariant-loop-i decreases-loop-i) → Small (c.loop-i.c.source_offset
-    +ℤ (get_or c.args.t4 c.loop-i.i no_axis).source_step
-    *ℤ pos (c.loop-i.rest % (get_or c.args.t4 c.loop-i.i no_axis).extent))
+    +ℤ (get_or c.args.axes c.loop-i.i no_axis).source_step
+    *ℤ pos (c.loop-i.rest % (get_or c.args.axes c.loop-i.i no_axis).extent))
 to-next c = decode-next _ _ _ _ _ _ c.loop-i.invariant _ (room c) (here c)
 
-counted : (c : tie.In-loop-i invariant-loop-i decreases-loop-i) → length (take c.args.count c.args.t4) ≡ c.args.count
-counted c = length-take-le c.args.count c.args.t4 (omega (arith, c.requires.0, c.requires.1))
+counted : (c : tie.In-loop-i invariant-loop-i decreases-loop-i) → length (take c.args.count c.args.axes) ≡ c.args.count
+counted c = length-take-le c.args.count c.args.axes (omega (arith, c.requires.0, c.requires.1))
 
 offset_bounds-axes-i : tie.Need-offset_bounds-axes-i invariant-loop-i decreases-loop-i
 offset_bounds-axes-i c = omega arith
@@ -85,7 +85,7 @@ overflow_cast-c c = pos-fits _ (small-digit c.before.before.before.before)
 overflow_mul-c : tie.Need-overflow_mul-c invariant-loop-i decreases-loop-i
 overflow_mul-c c =
     let t = c.before.before.before.before.before.before in
-    let a = get_or t.args.t4 t.loop-i.i no_axis in
+    let a = get_or t.args.axes t.loop-i.i no_axis in
     let f : SFits w64 a.source_step = record { sfits = c.struct_told-in-loop-i-1.given.1.0.1 } in
     simp (to_z-of_z f, to_z-small _ (small-digit t))
     (share-fits t.loop-i.c.source_offset (a.source_step *ℤ pos (t.loop-i.rest % a.extent)) (from-here t) (to-next t))
@@ -93,7 +93,7 @@ overflow_mul-c c =
 overflow_add-c : tie.Need-overflow_add-c invariant-loop-i decreases-loop-i
 overflow_add-c c =
     let t = c.before.before.before.before.before.before in
-    let a = get_or t.args.t4 t.loop-i.i no_axis in
+    let a = get_or t.args.axes t.loop-i.i no_axis in
     let f : SFits w64 a.source_step = record { sfits = c.struct_told-in-loop-i-1.given.1.0.1 } in
     let o = t.loop-i.c.source_offset in
     simp (
@@ -113,7 +113,7 @@ loop-i-smaller c = omega arith
 loop-i-preserved : tie.Need-loop-i-preserved invariant-loop-i decreases-loop-i
 loop-i-preserved c =
     let t = c.before.before.before.before.before.before in
-    let a = get_or t.args.t4 t.loop-i.i no_axis in
+    let a = get_or t.args.axes t.loop-i.i no_axis in
     let f : SFits w64 a.source_step = record { sfits = c.struct_told-in-loop-i-1.given.1.0.1 } in
     let o = t.loop-i.c.source_offset in
     simp (
@@ -127,7 +127,7 @@ loop-i-preserved c =
 
 returns : tie.Need-returns invariant-loop-i decreases-loop-i
 returns c =
-    decoded-all (take c.args.count c.args.t4) c.args.base c.args.index c.loop-i.c c.loop-i.rest c.loop-i.i
+    decoded-all (take c.args.count c.args.axes) c.args.base c.args.index c.loop-i.c c.loop-i.rest c.loop-i.i
     (simp (to_z-of_z c.ranges.base) at c.loop-i.invariant)
     (simp length-take (omega (arith, c.loop-i-test.false)))
 

@@ -27,13 +27,13 @@ use Rattle.offsets.proofs.cursor.ReduceOuterCursor.advance.Reads as advance-read
 
 -- the outer axes, and the one in a place
 abbrev outer : tie.Start → List ReduceOuterAxis
-outer s = take s.args.count s.args.t3
+outer s = take s.args.count s.args.axes
 
 abbrev axis : tie.Start → ℕ → ReduceOuterAxis
-axis s i = get_or s.args.t3 i no_axis
+axis s i = get_or s.args.axes i no_axis
 
 here : (s : tie.Start) (i : ℕ) → i < s.args.count → drop i (outer s) ≡ axis s i ∷ drop (i + 1) (outer s)
-here s i h = take-from s.args.t3 s.args.count no_axis i h (omega (arith, s.requires.0, s.requires.1))
+here s i h = take-from s.args.axes s.args.count no_axis i h (omega (arith, s.requires.0, s.requires.1))
 
 -- at the first axis
 begun : (s : tie.Start) → Advancing (outer s) s.args.self s.args.self 0
@@ -50,7 +50,7 @@ carried : (s : tie.Start) (h : 0 < s.args.count) → (axis s 0).extent ≤ (begu
     → Advancing (outer s) s.args.self (back s) 1
 carried s h k =
     advancing-more _ _ _ _ (begun s) (axis s 0) (here s 0 h) k
-    (let n = length-take-le s.args.count s.args.t3 (omega (arith, s.requires.0, s.requires.1)) in omega arith) (back s) refl refl
+    (let n = length-take-le s.args.count s.args.axes (omega (arith, s.requires.0, s.requires.1)) in omega arith) (back s) refl refl
 
 bounds-axes-0 : tie.Need-bounds-axes-0
 bounds-axes-0 c = search rules
