@@ -22,19 +22,17 @@ use Rattle.finishing.specs.Finishing.{FinalAnswer, value, refusal, value_of_acc,
 use Rattle.finishing.proofs.Once.{once_is}
 
 -- ---- by the tag of an answer: 0 is an accumulator, 1 a refusal
-pub code-none : (r : Reduced) → OneOf (0 ∷ []) (tag_of the_type r) → 0 ≡ code_of r
+pub code-none : (r : Reduced) (a : StableProductFloatAcc) → r ≡ Acc a → 0 ≡ code_of r
 unfolding code_of
-code-none (Acc a) h = refl
-code-none (Refused n) h = let z : ◌≡◌ {A = ℕ} 1 0 = h in absurd (omega arith)
+code-none r a h = sym (ap code_of h)
 
 pub code-some : (r : Reduced) (n : ℕ) → r ≡ Refused n → n ≡ code_of r
 unfolding code_of
 code-some r n h = sym (ap code_of h)
 
-pub handed_out : (r : Reduced) → OneOf (1 ∷ []) (tag_of the_type r) → refusal (code_of r) ≡ finished_of r
+pub handed_out : (r : Reduced) (n : ℕ) → r ≡ Refused n → refusal (code_of r) ≡ finished_of r
 unfolding code_of finished_of
-handed_out (Acc a) h = let z : ◌≡◌ {A = ℕ} 0 1 = h in absurd (omega arith)
-handed_out (Refused n) h = refl
+handed_out r n h = ap (λ (q : Reduced). refusal (code_of q)) h ∙ sym (ap finished_of h)
 
 -- ---- an accumulator
 module _ (r : Reduced) (a : StableProductFloatAcc) (p : r ≡ Acc a) where

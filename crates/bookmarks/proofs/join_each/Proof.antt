@@ -132,7 +132,7 @@ loop-c-preserved c =
     let k = n.before.before.before in
     let s = from-loop k in
     let p = next-taken n in
-    simp (to_z-of_z s.fits.base)
+    simp (to_z-of_z s.ranges.base)
     (joining-more s.args.l s.args.base s.args.values.now s.args.end k.loop-c.c n.next_piece-p.result p w.reduce_piece-b.result
     (piece-worked w) (loop-told k).shared_slice_known-1.given (omega (arith, p.ends, s.requires.3, s.requires.4)) (whole k) k.loop-c.acc (joining k)
     j.join-r.result j.join-r.ensures c.r-1.given.0.0 c.r-1.given.1)

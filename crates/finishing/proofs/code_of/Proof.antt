@@ -11,12 +11,10 @@ enum_known-answer : tie.Need-enum_known-answer
 enum_known-answer c = search rules
 
 returns-in-Acc : tie.Need-returns-in-Acc
-returns-in-Acc c = code-none c.args.answer c.in-Acc.keys1
+returns-in-Acc c = code-none c.args.answer c.in-Acc.field-0 c.in-Acc.is
 
 returns-in-Refused : tie.Need-returns-in-Refused
-returns-in-Refused c =
-    let g = c.answer-1.given in
-    code-some c.args.answer g.0.0 g.1
+returns-in-Refused c = code-some c.args.answer c.in-Refused.n c.in-Refused.is
 
 pub code_of_spec : {M : Type 1} → statement M
 code_of_spec = tie.close (tie.spec enum_told-1 enum_known-answer returns-in-Acc returns-in-Refused)

@@ -34,7 +34,7 @@ module _ (s : tie.Start invariant-loop-k decreases-loop-k invariant-loop-k-2 dec
   e = to_z w64 (of_z w64 s.args.e)
 
   e_is : e ≡ s.args.e
-  e_is = to_z-of_z w64 s.args.e s.fits.e
+  e_is = to_z-of_z w64 s.args.e s.ranges.e
 
   limit : within_limit e ≡ true
   limit = ap (λ (z : ℤ). within_limit z) e_is ∙ s.requires.1
@@ -57,7 +57,7 @@ overflow_sub-k : tie.Need-overflow_sub-k invariant-loop-k decreases-loop-k invar
 overflow_sub-k c =
     let l = c.loop-k in
     let s = c.before.before in
-    (scaling-fits s.args.m (e s) l.x (to_z w64 l.k) (limit s) l.invariant).0
+    (scaling-fits s.args.m (e s) l.x (to_z w64 l.k-bits) (limit s) l.invariant).0
 
 is_infinite-requires : tie.Need-is_infinite-requires invariant-loop-k decreases-loop-k invariant-loop-k-2 decreases-loop-k-2
 is_infinite-requires c κs = search rules
@@ -66,21 +66,21 @@ returns-then-is_infinite : tie.Need-returns-then-is_infinite invariant-loop-k de
 returns-then-is_infinite c =
     let l = c.loop-k in
     let s = c.before.before.before.before in
-    answer s _ (raised_all s.args.m (float s) s.requires.0 (e s) l.x (to_z w64 l.k) l.invariant c.loop-k-test.true
+    answer s _ (raised_all s.args.m (float s) s.requires.0 (e s) l.x (to_z w64 l.k-bits) l.invariant c.loop-k-test.true
     (sym c.is_infinite.ensures ∙ c.if-is_infinite.true))
 
 loop-k-smaller : tie.Need-loop-k-smaller invariant-loop-k decreases-loop-k invariant-loop-k-2 decreases-loop-k-2
 loop-k-smaller c =
     let l = c.loop-k in
     let s = c.before.before.before.before in
-    let k = to_z w64 l.k in
+    let k = to_z w64 l.k-bits in
     rw (to_z-of_z w64 (k -ℤ pos 1023) (scaling-fits s.args.m (e s) l.x k (limit s) l.invariant).0) (raised-less k c.loop-k-test.true)
 
 loop-k-preserved : tie.Need-loop-k-preserved invariant-loop-k decreases-loop-k invariant-loop-k-2 decreases-loop-k-2
 loop-k-preserved c =
     let l = c.loop-k in
     let s = c.before.before.before.before in
-    let k = to_z w64 l.k in
+    let k = to_z w64 l.k-bits in
     rw (to_z-of_z w64 (k -ℤ pos 1023) (scaling-fits s.args.m (e s) l.x k (limit s) l.invariant).0)
     (raised-more s.args.m (float s) s.requires.0 (e s) l.x k l.invariant c.loop-k-test.true
     (sym c.is_infinite.ensures ∙ c.if-is_infinite.false))
@@ -97,20 +97,20 @@ overflow_add-k : tie.Need-overflow_add-k invariant-loop-k decreases-loop-k invar
 overflow_add-k c =
     let l = c.loop-k-2 in
     let s = c.before.before.before.before in
-    (scaling-fits s.args.m (e s) l.x (to_z w64 l.k) (limit s) l.invariant.0).1
+    (scaling-fits s.args.m (e s) l.x (to_z w64 l.k-bits) (limit s) l.invariant.0).1
 
 returns-then-x : tie.Need-returns-then-x invariant-loop-k decreases-loop-k invariant-loop-k-2 decreases-loop-k-2
 returns-then-x c =
     let l = c.loop-k-2 in
     let s = c.before.before.before.before.before in
-    let k = to_z w64 l.k in
+    let k = to_z w64 l.k-bits in
     answer s _ (lowered-all s.args.m (float s) s.requires.0 (e s) l.x k l.invariant.0 (under-taken k c.loop-k-2-test.true) c.if-x.true)
 
 loop-k-2-smaller : tie.Need-loop-k-2-smaller invariant-loop-k decreases-loop-k invariant-loop-k-2 decreases-loop-k-2
 loop-k-2-smaller c =
     let l = c.loop-k-2 in
     let s = c.before.before.before.before.before in
-    let k = to_z w64 l.k in
+    let k = to_z w64 l.k-bits in
     rw (to_z-of_z w64 (k +ℤ pos 1022) (scaling-fits s.args.m (e s) l.x k (limit s) l.invariant.0).1)
     (lowered-less k (under-taken k c.loop-k-2-test.true))
 
@@ -118,7 +118,7 @@ loop-k-2-preserved : tie.Need-loop-k-2-preserved invariant-loop-k decreases-loop
 loop-k-2-preserved c =
     let l = c.loop-k-2 in
     let s = c.before.before.before.before.before in
-    let k = to_z w64 l.k in
+    let k = to_z w64 l.k-bits in
     let h = under-taken k c.loop-k-2-test.true in
     rw (to_z-of_z w64 (k +ℤ pos 1022) (scaling-fits s.args.m (e s) l.x k (limit s) l.invariant.0).1)
     (lowered-more s.args.m (float s) s.requires.0 (e s) l.x k l.invariant.0 h c.if-x.false, lowered-below k h)
@@ -127,13 +127,13 @@ loop-k-2-preserved c =
 power_of_two-requires : tie.Need-power_of_two-requires invariant-loop-k decreases-loop-k invariant-loop-k-2 decreases-loop-k-2
 power_of_two-requires c κs =
     let l = c.loop-k-2 in
-    (l.invariant.1, under_left (to_z w64 l.k) c.loop-k-2-test.false)
+    (l.invariant.1, under_left (to_z w64 l.k-bits) c.loop-k-2-test.false)
 
 returns : tie.Need-returns invariant-loop-k decreases-loop-k invariant-loop-k-2 decreases-loop-k-2
 returns c =
     let l = c.loop-k-2 in
     let s = c.before.before.before.before.before in
-    let k = to_z w64 l.k in
+    let k = to_z w64 l.k-bits in
     rw c.power_of_two.ensures (answer s _ (last s.args.m (float s) s.requires.0 (e s) l.x k l.invariant.0))
 
 pub f64_ldexp_spec : {M : Type 1} → statement M

@@ -26,40 +26,37 @@ code_of-n-requires c κs = search rules
 
 returns-in_default : tie.Need-returns-in_default
 returns-in_default c =
-    ap refusal c.code_of-n.ensures ∙ handed_out c.args.answer c.in-Acc.keys2
+    ap refusal c.code_of-n.ensures ∙ handed_out c.args.answer c.in_default.field-0 c.in_default.is
 
 in_limits-requires : tie.Need-in_limits-requires
 in_limits-requires c κs = search rules
 
 returns-then-not-in_limits : tie.Need-returns-then-not-in_limits
 returns-then-not-in_limits c =
-    let g = c.answer-1.given in
-    refused c.args.answer g.0.0 g.1 (sym c.in_limits.ensures ∙ not-true c.in_limits.result c.if-not-in_limits.true-raw)
+    refused c.args.answer c.in-Acc.a c.in-Acc.is (sym c.in_limits.ensures ∙ not-true c.in_limits.result c.if-not-in_limits.true-raw)
 
 -- past the first test the accumulator stands
-stood : (c : tie.Else-not-in_limits) → in_limits c.answer-1.given.0.0 ≡ true
+stood : (c : tie.Else-not-in_limits) → in_limits c.in-Acc.a ≡ true
 stood c = sym c.in_limits.ensures ∙ not-false c.in_limits.result c.if-not-in_limits.false-raw
 
 returns-then-a : tie.Need-returns-then-a
 returns-then-a c =
-    let g = c.answer-1.given in
-    bad-nan c.args.answer g.0.0 g.1 (stood c.before) c.if-a.true
+    bad-nan c.args.answer c.in-Acc.a c.in-Acc.is (stood c.before) c.if-a.true
 
 f64_ldexp-x-requires : tie.Need-f64_ldexp-x-requires
 f64_ldexp-x-requires c κs =
     let l = c.before.before in
-    let a = l.answer-1.given.0.0 in
+    let a = l.in-Acc.a in
     let held = to_z-of_z w64 a.e (record { sfits = c.struct_told-1.given.1.0.1 }) in
     (in-limits-unit a (stood l), ap (λ (z : ℤ). within_limit z) held ∙ in-limits-exponent a (stood l))
 
 returns : tie.Need-returns
 returns c =
     let l = c.before.before.before in
-    let g = l.answer-1.given in
-    let a = g.0.0 in
+    let a = l.in-Acc.a in
     let held = to_z-of_z w64 a.e (record { sfits = c.struct_told-1.given.1.0.1 }) in
     ap value (c.f64_ldexp-x.ensures ∙ ap (λ (z : ℤ). rounded_once (factor_at 52 a.m z)) held)
-    ∙ good-value l.args.answer a g.1 (stood l) c.if-a.false
+    ∙ good-value l.args.answer a l.in-Acc.is (stood l) c.if-a.false
 
 pub finish_spec : {M : Type 1} → statement M
 finish_spec =

@@ -127,7 +127,7 @@ returns c =
     let s = entry t in
     let all : done t ≡ s.args.len = omega (arith, c.loop-left-test.false) in
     let e = t.loop-left.invariant.2 ∙ ap (folded s) all in
-    simp (to_z-of_z s.fits.first, to_z-of_z s.fits.stride) at e
+    simp (to_z-of_z s.ranges.first, to_z-of_z s.ranges.stride) at e
 
 pub fold_run_ordered_spec : {M : Type 1} → statement M
 fold_run_ordered_spec = tie.close (tie.spec invariant-loop-left decreases-loop-left loop-left-init overflow_cast-index offset_bounds-values-index bounds-values-index overflow_sub-left next_place-at-requires loop-left-smaller loop-left-preserved returns)

@@ -32,7 +32,7 @@ abbrev from-loop : tie.At-loop-c invariant-loop-c decreases-loop-c → tie.Start
 from-loop c = from_told c.before.before
 
 begin-c-requires : tie.Need-begin-c-requires invariant-loop-c decreases-loop-c
-begin-c-requires c κs = let s = from_told c in simp (to_z-of_z s.fits.base) (s.requires.0, s.requires.1)
+begin-c-requires c κs = let s = from_told c in simp (to_z-of_z s.ranges.base) (s.requires.0, s.requires.1)
 
 loop-c-init : tie.Need-loop-c-init invariant-loop-c decreases-loop-c
 unfolding of_bits
@@ -43,7 +43,7 @@ loop-c-init c =
 -- the invariant, over the base itself
 folding : (c : tie.At-loop-c invariant-loop-c decreases-loop-c) → let s = from-loop c in
     Folding s.args.l s.args.base s.args.values.now s.args.start s.args.end (fin false 1 (pos 0)) c.loop-c.product c.loop-c.c
-folding c = let s = from-loop c in simp (to_z-of_z s.fits.base) at c.loop-c.invariant
+folding c = let s = from-loop c in simp (to_z-of_z s.ranges.base) at c.loop-c.invariant
 
 next_strip-s-requires : tie.Need-next_strip-s-requires invariant-loop-c decreases-loop-c
 next_strip-s-requires c κs =
@@ -102,7 +102,7 @@ loop-c-preserved c =
     let s = from-loop k in
     let made = simp (to_z-of_z (first_fits d), to_z-of_z (step_fits d), to_z-of_z (stride-fits k.before.before))
     at f.fold_strip_ordered-product.ensures in
-    simp (to_z-of_z s.fits.base)
+    simp (to_z-of_z s.ranges.base)
     (folding-more s.args.l s.args.base s.args.values.now s.args.start s.args.end (fin false 1 (pos 0))
     k.loop-c.product k.loop-c.c (folding k) n.next_strip-s.result (here n) f.fold_strip_ordered-product.result made)
 

@@ -35,7 +35,7 @@ inside-requires c κs =
 told : (c : tie.After-inside) → all_inside (axes_in c.args.sizes.now c.args.strides.now) (elements (axes_in c.args.sizes.now c.args.strides.now)) c.args.base
     c.args.length
     ≡ c.inside.result
-told c = sym (simp (to_z-of_z c.fits.base) at c.inside.ensures)
+told c = sym (simp (to_z-of_z c.ranges.base) at c.inside.ensures)
 
 returns-then-inside : tie.Need-returns-then-inside
 unfolding first_of

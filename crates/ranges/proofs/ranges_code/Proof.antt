@@ -72,7 +72,7 @@ returns c =
     let f = n.before in
     let t = f.before in
     let s = entry t.before in
-    (simp (to_z-of_z s.fits.base) at c.place_code.ensures)
+    (simp (to_z-of_z s.ranges.base) at c.place_code.ensures)
     ∙ code-places s.args.sizes.now s.args.strides.now s.args.base s.args.starts.now s.args.ends.now s.args.len
     (not s.args.fit)
     (cleared t.before) t.if-not-fit.false (sym (each-is f) ∙ n.if-fault-ne0.false)

@@ -56,7 +56,7 @@ code_is : (c : tie.After-ranges_code-code invariant-loop-i decreases-loop-i) →
     s.args.ms.now s.args.es.now s.args.bads.now
 code_is c =
     let s = from-code c in
-    (simp (to_z-of_z s.fits.base) at c.ranges_code-code.ensures)
+    (simp (to_z-of_z s.ranges.base) at c.ranges_code-code.ensures)
     ∙ code-many s.args.sizes.now s.args.strides.now s.args.base s.args.starts.now s.args.ends.now s.args.values.now
     s.args.ms.now s.args.es.now s.args.bads.now _
     c.lists_fit-fit.ensures
@@ -91,7 +91,7 @@ from-loop k = from-code k.before.before
 
 -- the place lies in both lists, and their bytes are numbered
 below : (c : tie.In-loop-i invariant-loop-i decreases-loop-i) → c.loop-i.i < length (from-loop c.before).args.starts.now
-below c = omega (arith, (allowed c.before.before).fits.same, c.loop-i-test.true)
+below c = omega (arith, (allowed c.before.before).ranges.same, c.loop-i-test.true)
 
 numbered : (c : tie.In-loop-i invariant-loop-i decreases-loop-i) → c.loop-i.i * 8 + 8 ≤ 2 ^ 63
 numbered c = omega (arith, c.loop-i-test.true, (from-loop c.before).well_formed.0.1)
@@ -124,7 +124,7 @@ reduce_full_range-acc-requires c κs =
     let i = c.before.before in
     let s = from-loop i.before in
     let r = ready-here i in
-    simp (to_z-of_z s.fits.base) (r.traversal, r.bounded, r.forward, r.inside, r.few, r.within)
+    simp (to_z-of_z s.ranges.base) (r.traversal, r.bounded, r.forward, r.inside, r.few, r.within)
 
 -- the buffers keep their lengths
 module _ (k : tie.At-loop-i invariant-loop-i decreases-loop-i) where
@@ -153,19 +153,19 @@ offset_bounds-ms-i : tie.Need-offset_bounds-ms-i invariant-loop-i decreases-loop
 offset_bounds-ms-i c = omega (arith, numbered (from_told c))
 
 bounds-ms-i : tie.Need-bounds-ms-i invariant-loop-i decreases-loop-i
-bounds-ms-i c = let i = from_told c in omega (arith, below i, long-m i.before, (allowed i.before.before).fits.room-m)
+bounds-ms-i c = let i = from_told c in omega (arith, below i, long-m i.before, (allowed i.before.before).ranges.room-m)
 
 offset_bounds-es-i : tie.Need-offset_bounds-es-i invariant-loop-i decreases-loop-i
 offset_bounds-es-i c = omega (arith, numbered (from_told c))
 
 bounds-es-i : tie.Need-bounds-es-i invariant-loop-i decreases-loop-i
-bounds-es-i c = let i = from_told c in omega (arith, below i, long-e i.before, (allowed i.before.before).fits.room-e)
+bounds-es-i c = let i = from_told c in omega (arith, below i, long-e i.before, (allowed i.before.before).ranges.room-e)
 
 bad_byte-requires : tie.Need-bad_byte-requires invariant-loop-i decreases-loop-i
 bad_byte-requires c κs = search rules
 
 bounds-bads-i : tie.Need-bounds-bads-i invariant-loop-i decreases-loop-i
-bounds-bads-i c = let i = from_told c.before in omega (arith, below i, long-bad i.before, (allowed i.before.before).fits.room-bad)
+bounds-bads-i c = let i = from_told c.before in omega (arith, below i, long-bad i.before, (allowed i.before.before).ranges.room-bad)
 
 overflow_add-i : tie.Need-overflow_add-i invariant-loop-i decreases-loop-i
 overflow_add-i c = omega (arith, numbered (from_told c.before))
@@ -209,8 +209,8 @@ returns c =
     let b = wrote-all _ _ _ _ _ acc-byte s.args.bads.now f.same f.room-bad k.loop-i.i all _ k.loop-i.invariant.3 in
     told-accepted s.args.sizes.now s.args.strides.now s.args.base s.args.starts.now s.args.ends.now s.args.values.now
     s.args.ms.now s.args.es.now s.args.bads.now _
-    (layout_is k.before) (sym k.if-code-ne0.false ∙ code_is k.before.before) _ _ _ (simp (to_z-of_z s.fits.base) at m)
-    (simp (to_z-of_z s.fits.base) at e) (simp (to_z-of_z s.fits.base) at b)
+    (layout_is k.before) (sym k.if-code-ne0.false ∙ code_is k.before.before) _ _ _ (simp (to_z-of_z s.ranges.base) at m)
+    (simp (to_z-of_z s.ranges.base) at e) (simp (to_z-of_z s.ranges.base) at b)
 
 pub reduce_ranges_spec : {M : Type 1} → statement M
 reduce_ranges_spec = tie.close (tie.spec invariant-loop-i decreases-loop-i compile-compiled-requires lists_fit-fit-requires ranges_code-code-requires returns-then-code-ne0 loop-i-init offset_bounds-starts-i bounds-starts-i offset_bounds-ends-i bounds-ends-i reduce_full_range-acc-requires offset_bounds-ms-i bounds-ms-i offset_bounds-es-i bounds-es-i bad_byte-requires bounds-bads-i overflow_add-i loop-i-smaller loop-i-preserved shape_of-ms shape_of-es shape_of-bads returns)

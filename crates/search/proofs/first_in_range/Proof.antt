@@ -34,7 +34,7 @@ abbrev from-loop : tie.At-loop-c invariant-loop-c decreases-loop-c → tie.Start
 from-loop c = from_told c.before.before
 
 begin-c-requires : tie.Need-begin-c-requires invariant-loop-c decreases-loop-c
-begin-c-requires c κs = let s = from_told c in simp (to_z-of_z s.fits.base) (s.requires.0, s.requires.1)
+begin-c-requires c κs = let s = from_told c in simp (to_z-of_z s.ranges.base) (s.requires.0, s.requires.1)
 
 loop-c-init : tie.Need-loop-c-init invariant-loop-c decreases-loop-c
 loop-c-init c =
@@ -44,7 +44,7 @@ loop-c-init c =
 -- the invariant, over the base itself
 walked : (c : tie.At-loop-c invariant-loop-c decreases-loop-c) → let s = from-loop c in
     Walked s.args.l s.args.base s.args.values.now s.args.start s.args.end c.loop-c.c
-walked c = let s = from-loop c in simp (to_z-of_z s.fits.base) at c.loop-c.invariant
+walked c = let s = from-loop c in simp (to_z-of_z s.ranges.base) at c.loop-c.invariant
 
 next_strip-s-requires : tie.Need-next_strip-s-requires invariant-loop-c decreases-loop-c
 next_strip-s-requires c κs =
@@ -135,7 +135,7 @@ loop-c-preserved c =
     let n = r.before.before.before in
     let k = n.before.before.before in
     let s = from-loop k in
-    simp (to_z-of_z s.fits.base)
+    simp (to_z-of_z s.ranges.base)
     (walked_more s.args.l s.args.base s.args.values.now s.args.start s.args.end k.loop-c.c (walked k) n.next_strip-s.result (here n)
     r.first_in_strip-r.result (told r) c.if-r.false)
 

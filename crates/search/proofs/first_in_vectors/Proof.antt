@@ -227,7 +227,7 @@ returns c =
     ∙ sym (run-over (values s) (s.args.element + 8 * t.loop-i.i) (first s +ℤ stride s *ℤ pos (8 * t.loop-i.i)) (stride s) (all s) (8 * t.loop-i.i)
     (omega arith))
     ∙ t.loop-i.invariant.2 in
-    simp (to_z-of_z s.fits.first, to_z-of_z s.fits.stride) at e
+    simp (to_z-of_z s.ranges.first, to_z-of_z s.ranges.stride) at e
 
 pub first_in_vectors_spec : {M : Type 1} → statement M
 first_in_vectors_spec = tie.close (tie.spec invariant-loop-i decreases-loop-i overflow_mul-far_stride overflow_mul-vectors far_stride-apart-requires loop-i-init overflow_sub-vectors min_usize-n-requires overflow_mul-i overflow_add-element first_in_chunk-r-requires returns-then-r overflow_add-i overflow_add-at loop-i-smaller-then-i-vectors loop-i-preserved-then-i-vectors loop-i-smaller loop-i-preserved none_bad-requires returns)

@@ -49,7 +49,7 @@ apart t = to_z w64 (of_z w64 (entry t).args.stride)
 
 -- what is required, of the numbers as the code holds them
 inside : (t : tie.At-loop-i invariant-loop-i decreases-loop-i) → PlacesInside (length (values t)) (first t) (apart t) (entry t).args.len
-inside t = let s = entry t in simp (to_z-of_z s.fits.first, to_z-of_z s.fits.stride) s.requires.1
+inside t = let s = entry t in simp (to_z-of_z s.ranges.first, to_z-of_z s.ranges.stride) s.requires.1
 
 loop-i-init : tie.Need-loop-i-init invariant-loop-i decreases-loop-i
 loop-i-init c =
@@ -103,7 +103,7 @@ returns-then-is_bad c =
     let e = ap (found (s.args.element + t.loop-i.i)) (here i)
     ∙ bad-next (values t) (s.args.element + t.loop-i.i) _ (first t +ℤ apart t *ℤ pos t.loop-i.i) _
     (run-next (first t) (apart t) s.args.len t.loop-i.i i.loop-i-test.true) _ t.loop-i.invariant.2 (sym (looked q) ∙ c.if-is_bad.true) in
-    simp (to_z-of_z s.fits.first, to_z-of_z s.fits.stride) at e
+    simp (to_z-of_z s.ranges.first, to_z-of_z s.ranges.stride) at e
 
 overflow_add-i : tie.Need-overflow_add-i invariant-loop-i decreases-loop-i
 overflow_add-i c = omega arith
@@ -159,7 +159,7 @@ returns c =
     ∙ sym (run-over (values t) (s.args.element + t.loop-i.i) (first t +ℤ apart t *ℤ pos t.loop-i.i) (apart t) s.args.len t.loop-i.i
     (let h = c.loop-i-test.false in omega arith))
     ∙ t.loop-i.invariant.2 in
-    simp (to_z-of_z s.fits.first, to_z-of_z s.fits.stride) at e
+    simp (to_z-of_z s.ranges.first, to_z-of_z s.ranges.stride) at e
 
 pub look_closer_spec : {M : Type 1} → statement M
 look_closer_spec = tie.close (tie.spec invariant-loop-i decreases-loop-i loop-i-init overflow_cast-index offset_bounds-values-index bounds-values-index is_bad-requires overflow_add-number returns-then-is_bad overflow_add-i overflow_add-at loop-i-smaller-then-i-len loop-i-preserved-then-i-len loop-i-smaller loop-i-preserved none_bad-requires returns)

@@ -25,7 +25,7 @@ answered : (c : tie.After-reduce_step-answer) → c.reduce_step-answer.result �
 answered c =
     let s = from-answer c in
     let fits : SFits w64 s.args.e.now = record { sfits = c.given-1.given } in
-    simp (to_z-of_z s.fits.base, to_z-of_z fits) at c.reduce_step-answer.ensures
+    simp (to_z-of_z s.ranges.base, to_z-of_z fits) at c.reduce_step-answer.ensures
 
 reduce_step-answer-requires : tie.Need-reduce_step-answer-requires
 reduce_step-answer-requires c κs = search rules

@@ -31,7 +31,7 @@ overflow_add-at : tie.Need-overflow_add-at
 overflow_add-at c = search rules
 
 -- the length stays
-long : (p : tie.After-put_word) → length p.put_word.new.0 ≡ length p.args.out.now
+long : (p : tie.After-put_word) → length p.put_word.new.out ≡ length p.args.out.now
 long p =
     ap length p.put_word.ensures ∙ length-sets p.args.out.now p.args.at (bytes_of (word_of p.args.kind (p.args.n % 2 ^ 29)))
 
@@ -51,18 +51,18 @@ shape_of-out-then-high-lt-PAYLOADS : tie.Need-shape_of-out-then-high-lt-PAYLOADS
 shape_of-out-then-high-lt-PAYLOADS c = search rules
 
 -- the buffer behind the second word, and its length
-second : (q : tie.After-put_word-2) → q.put_word-2.new.0
+second : (q : tie.After-put_word-2) → q.put_word-2.new.out
     ≡ sets (sets q.args.out.now q.args.at (bytes_of (word_of q.args.kind (q.args.n % 2 ^ 29)))) (q.args.at + 4)
     (bytes_of (word_of MORE (q.args.n / 2 ^ 29 % 2 ^ 29)))
 second q =
     let p = q.before.before.before.before.before in
     q.put_word-2.ensures ∙ ap (λ (l : List ℕ). sets l (p.args.at + 4) (bytes_of (word_of MORE (p.args.n / 2 ^ 29 % 2 ^ 29)))) p.put_word.ensures
 
-long-2 : (q : tie.After-put_word-2) → length q.put_word-2.new.0 ≡ length q.args.out.now
+long-2 : (q : tie.After-put_word-2) → length q.put_word-2.new.out ≡ length q.args.out.now
 long-2 q =
     let p = q.before.before.before.before.before in
     ap length q.put_word-2.ensures
-    ∙ length-sets p.put_word.new.0 (p.args.at + 4) (bytes_of (word_of MORE (p.args.n / 2 ^ 29 % 2 ^ 29)))
+    ∙ length-sets p.put_word.new.out (p.args.at + 4) (bytes_of (word_of MORE (p.args.n / 2 ^ 29 % 2 ^ 29)))
     ∙ long p
 
 returns-then-high-lt-PAYLOADS : tie.Need-returns-then-high-lt-PAYLOADS

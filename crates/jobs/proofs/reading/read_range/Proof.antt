@@ -156,7 +156,7 @@ returns c ns ss =
     let i = w.before in
     let k = i.before.before in
     ap (λ (b : ℤ). job (record { sizes = ns; strides = ss; base = b; start = k.read_number-start.result.value; end = k.read_number-end.result.value }))
-    (to_z-of_z (record { sfits = c.signed.type_inv }) ∙ c.signed.ensures)
+    (to_z-of_z {w = w64} (record { sfits = c.signed.type_inv }) ∙ c.signed.ensures)
     ∙ sym (behind-end i ns ss
     ∙ finishes (job_at k ns ss k.read_number-end.result.value) k.args.bytes.now k.read_number-end.result.next _ w.word_at.ensures
     c.if-word_at.false c.if-bytes-last-ne-WORD_BYTES.false)

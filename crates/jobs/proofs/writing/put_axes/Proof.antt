@@ -59,7 +59,7 @@ sent_is c =
     simp (to_z-of_z f) at c.sent-stride.ensures
 
 -- the buffer behind the size
-long : (c : tie.After-put_number-next invariant-loop-i decreases-loop-i) → length c.put_number-next.new.0 ≡ length c.loop-i.out
+long : (c : tie.After-put_number-next invariant-loop-i decreases-loop-i) → length c.put_number-next.new.out ≡ length c.loop-i.out
 long c =
     ap length c.put_number-next.ensures.1
     ∙ length-sets c.loop-i.out c.loop-i.at (size_bytes c.args.sizes.now c.loop-i.i)
@@ -90,12 +90,12 @@ loop-i-preserved c =
     let e = ap (λ (n : ℕ). number_bytes STRIDE (payloads_of n)) (sent_is t) in
     let n = q.put_number-at.ensures.0 ∙ ap (λ (l : List ℕ). p.put_number-next.result + length l) e ∙ ap (λ (m : ℕ). m + length b) p.put_number-next.ensures.0 in
     let o = q.put_number-at.ensures.1
-    ∙ ap (λ (l : List ℕ). sets p.put_number-next.new.0 p.put_number-next.result l) e
+    ∙ ap (λ (l : List ℕ). sets p.put_number-next.new.out p.put_number-next.result l) e
     ∙ ap (λ (l : List ℕ). sets l p.put_number-next.result b) p.put_number-next.ensures.1
     ∙ ap (λ (m : ℕ). sets (sets k.loop-i.out k.loop-i.at a) m b) p.put_number-next.ensures.0 in (
       omega (arith, i.loop-i-test.true),
       ap length q.put_number-at.ensures.1
-          ∙ length-sets p.put_number-next.new.0 p.put_number-next.result (number_bytes STRIDE (payloads_of t.sent-stride.result))
+          ∙ length-sets p.put_number-next.new.out p.put_number-next.result (number_bytes STRIDE (payloads_of t.sent-stride.result))
           ∙ long p ∙ k.loop-i.invariant.1,
       omega (arith, n, split-lengths k.args.sizes.now k.args.strides.now k.requires.0 k.loop-i.i i.loop-i-test.true, k.loop-i.invariant.2),
       ap (λ (l : List ℕ). sets l q.put_number-at.result (axes_left k.args.sizes.now k.args.strides.now (k.loop-i.i + 1))) o

@@ -46,7 +46,7 @@ put_axes-at-requires : tie.Need-put_axes-at-requires
 put_axes-at-requires c κs = let s = c.before.before.before.before in (s.requires.0, s.requires.1, omega (arith, room s))
 
 laid-axes : (c : tie.After-put_axes-at) → let s = c.before.before.before.before.before in
-    Laid s.args.out.now (axes s) c.put_axes-at.new.0 c.put_axes-at.result
+    Laid s.args.out.now (axes s) c.put_axes-at.new.out c.put_axes-at.result
 laid-axes c = record { holds = c.put_axes-at.ensures.1; place = c.put_axes-at.ensures.0 }
 
 -- the base as it is sent
@@ -61,14 +61,14 @@ put_number-at-requires c κs =
     (omega (arith, room s, laid-length _ _ _ _ (laid-axes p), (laid-axes p).place, e), omega arith)
 
 laid-base : (c : tie.After-put_number-at) → let s = c.before.before.before.before.before.before.before.before.before in
-    Laid s.args.out.now (axes s ++ base s) c.put_number-at.new.0 c.put_number-at.result
+    Laid s.args.out.now (axes s ++ base s) c.put_number-at.new.out c.put_number-at.result
 laid-base c =
     let p = c.before.before.before.before in
     let s = p.before.before.before.before.before in
     let e = ap (λ (n : ℕ). number_bytes BASE (payloads_of n)) (sent_is p) in
-    laid_more s.args.out.now (axes s) p.put_axes-at.new.0 p.put_axes-at.result (laid-axes p) (base s) c.put_number-at.new.0 c.put_number-at.result
+    laid_more s.args.out.now (axes s) p.put_axes-at.new.out p.put_axes-at.result (laid-axes p) (base s) c.put_number-at.new.out c.put_number-at.result
     (c.put_number-at.ensures.0 ∙ ap (λ (l : List ℕ). p.put_axes-at.result + length l) e)
-    (c.put_number-at.ensures.1 ∙ ap (λ (l : List ℕ). sets p.put_axes-at.new.0 p.put_axes-at.result l) e)
+    (c.put_number-at.ensures.1 ∙ ap (λ (l : List ℕ). sets p.put_axes-at.new.out p.put_axes-at.result l) e)
 
 put_number-at-requires-2 : tie.Need-put_number-at-requires-2
 put_number-at-requires-2 c κs =
@@ -78,11 +78,11 @@ put_number-at-requires-2 c κs =
     (omega (arith, room s, laid-length _ _ _ _ l, l.place, length-append (axes s) (base s)), omega arith)
 
 laid-start : (c : tie.After-put_number-at-2) → let s = c.before.before.before.before.before.before.before.before.before.before.before.before.before in
-    Laid s.args.out.now (axes s ++ base s ++ start s) c.put_number-at-2.new.0 c.put_number-at-2.result
+    Laid s.args.out.now (axes s ++ base s ++ start s) c.put_number-at-2.new.out c.put_number-at-2.result
 laid-start c =
     let p = c.before.before.before.before in
     let s = p.before.before.before.before.before.before.before.before.before in
-    laid_more s.args.out.now (axes s ++ base s) p.put_number-at.new.0 p.put_number-at.result (laid-base p) (start s) c.put_number-at-2.new.0
+    laid_more s.args.out.now (axes s ++ base s) p.put_number-at.new.out p.put_number-at.result (laid-base p) (start s) c.put_number-at-2.new.out
     c.put_number-at-2.result c.put_number-at-2.ensures.0 c.put_number-at-2.ensures.1
 
 put_number-at-requires-3 : tie.Need-put_number-at-requires-3
@@ -94,12 +94,12 @@ put_number-at-requires-3 c κs =
 
 laid_end : (c : tie.After-put_number-at-3) → let p = c.before.before.before.before in
     let s = p.before.before.before.before.before.before.before.before.before.before.before.before.before in
-    Laid s.args.out.now (axes s ++ base s ++ start s ++ end s) c.put_number-at-3.new.0 c.put_number-at-3.result
+    Laid s.args.out.now (axes s ++ base s ++ start s ++ end s) c.put_number-at-3.new.out c.put_number-at-3.result
 laid_end c =
     let p = c.before.before.before.before in
     let s = p.before.before.before.before.before.before.before.before.before.before.before.before.before in
-    laid_more s.args.out.now (axes s ++ base s ++ start s) p.put_number-at-2.new.0 p.put_number-at-2.result (laid-start p) (end s)
-    c.put_number-at-3.new.0 c.put_number-at-3.result c.put_number-at-3.ensures.0 c.put_number-at-3.ensures.1
+    laid_more s.args.out.now (axes s ++ base s ++ start s) p.put_number-at-2.new.out p.put_number-at-2.result (laid-start p) (end s)
+    c.put_number-at-3.new.out c.put_number-at-3.result c.put_number-at-3.ensures.0 c.put_number-at-3.ensures.1
 
 put_word-requires : tie.Need-put_word-requires
 put_word-requires c κs =
@@ -121,8 +121,8 @@ returns c =
     let w = c.before.before in
     let p = w.before.before.before.before in
     let s = p.before.before.before.before.before.before.before.before.before.before.before.before.before.before.before.before.before in
-    (laid_more s.args.out.now (axes s ++ base s ++ start s ++ end s) p.put_number-at-3.new.0 p.put_number-at-3.result (laid_end p)
-    (bytes_of (word_of FINISH 0)) w.put_word.new.0 _ refl w.put_word.ensures).holds
+    (laid_more s.args.out.now (axes s ++ base s ++ start s ++ end s) p.put_number-at-3.new.out p.put_number-at-3.result (laid_end p)
+    (bytes_of (word_of FINISH 0)) w.put_word.new.out _ refl w.put_word.ensures).holds
 
 pub put_job_spec : {M : Type 1} → statement M
 put_job_spec = tie.close (tie.spec sent-sent-requires put_axes-at-requires put_number-at-requires put_number-at-requires-2 put_number-at-requires-3 put_word-requires shape_of-out returns)

@@ -102,7 +102,7 @@ next : (c : tie.After-next_place-offset invariant-loop-left decreases-loop-left)
 next c l =
     let i = c.before in
     let s = i.before.before in
-    to_z-of_z (record { sfits = c.next_place-offset.type_inv })
+    to_z-of_z {w = w64} (record { sfits = c.next_place-offset.type_inv })
     ∙ c.next_place-offset.ensures.0 l
     ∙ ap (λ (z : ℤ). z +ℤ stride s) (here i)
     ∙ place-next (first s) (stride s) (done i.before)

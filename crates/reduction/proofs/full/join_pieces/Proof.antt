@@ -55,7 +55,7 @@ whole c = let s = from-loop c in joined_onto s.args.acc (pieces_of s.args.l s.ar
 
 reducing : (c : tie.At-loop-c invariant-loop-c decreases-loop-c)
     → let s = from-loop c in Reducing s.args.l s.args.base s.args.values.now s.args.end (whole c) c.loop-c.acc c.loop-c.c
-reducing c = let s = from-loop c in simp (to_z-of_z s.fits.base) at c.loop-c.invariant
+reducing c = let s = from-loop c in simp (to_z-of_z s.ranges.base) at c.loop-c.invariant
 
 stride-kept : (c : tie.At-loop-c invariant-loop-c decreases-loop-c) → SFits w64 (from-loop c).args.l.run_stride
 stride-kept c = record { sfits = (loop-told c).struct_told-1.given.1.1.0.1 }
@@ -126,7 +126,7 @@ loop-c-preserved-then-n-lt2 c =
     let n = w.before.before in
     let k = n.before.before.before.before.before in
     let s = from-loop k in
-    simp (to_z-of_z s.fits.base)
+    simp (to_z-of_z s.ranges.base)
     (reducing-more s.args.l s.args.base s.args.values.now s.args.end k.loop-c.c n.next_piece-q.result (next-taken n)
     w.reduce_piece-b.result (next-worked w) (values-fit k) (whole k) k.loop-c.acc (reducing k) c.stable_float_combine-acc.result
     c.stable_float_combine-acc.ensures)
@@ -255,7 +255,7 @@ loop-c-preserved c =
     let k = strip-loop e in
     let s = from-loop k in
     let a = ahead e in
-    simp (to_z-of_z s.fits.base)
+    simp (to_z-of_z s.ranges.base)
     (reducing-strip s.args.l s.requires.0 s.args.base s.requires.1 s.args.values.now s.requires.5 s.args.end s.requires.3 k.loop-c.c
     (strip-cursor-is e) e.whole_runs-n.result a.0 a.1 a.2 a.3 (values-fit k) (whole k) k.loop-c.acc (reducing k)
     r.reduce_strip-acc.result (strip-is r) p.next_piece-q-else-n-lt2.result.next (behind p).0 (behind p).1)

@@ -27,7 +27,7 @@ entry c = c.before.before.before
 short_piece-q-requires : tie.Need-short_piece-q-requires
 short_piece-q-requires c κs =
     let s = entry c in
-    simp (to_z-of_z w64 s.args.at s.fits.at, to_z-of_z w64 s.args.stride s.fits.stride) (s.requires.1, s.requires.3 (le_trans c.if-len-le-BLOCK.true (lit≤ tt)))
+    simp (to_z-of_z w64 s.args.at s.ranges.at, to_z-of_z w64 s.args.stride s.ranges.stride) (s.requires.1, s.requires.3 (le_trans c.if-len-le-BLOCK.true (lit≤ tt)))
 
 returns-then-q : tie.Need-returns-then-q
 returns-then-q c =
@@ -38,7 +38,7 @@ returns-then-q c =
     let xs = s.args.values.now in
     let piece = strided xs s.args.at s.args.stride s.args.len in
     let fits : SFits w64 r.short_piece-q.result.e = record { sfits = c.struct_told-1.given.1.1.0.1 } in
-    let e = simp (to_z-of_z w64 s.args.at s.fits.at, to_z-of_z w64 s.args.stride s.fits.stride) at (r.short_piece-q.ensures t.if-q.true) in
+    let e = simp (to_z-of_z w64 s.args.at s.ranges.at, to_z-of_z w64 s.args.stride s.ranges.stride) at (r.short_piece-q.ensures t.if-q.true) in
     ap (λ (z : ℤ). record { m = r.short_piece-q.result.m; e = z; bad = false }) (to_z-of_z w64 r.short_piece-q.result.e fits)
     ∙ e
     ∙ unmarked-worked (eq_z s.args.stride (pos 1)) piece

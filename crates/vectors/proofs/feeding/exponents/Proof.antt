@@ -33,14 +33,14 @@ bounds-s-k c = omega arith
 so_far : (c : tie.After-e-1 invariant-loop-k decreases-loop-k) → nat_abs (to_z w64 c.loop-k.e-bits) ≤ 2 ^ 61
 so_far c =
     subst (λ (z : ℤ). nat_abs z ≤ 2 ^ 61) (sym c.loop-k.invariant.is)
-    (le_trans (some-exponents-size (2 ^ 56) c.args.t1 c.requires c.loop-k.k) (omega arith))
+    (le_trans (some-exponents-size (2 ^ 56) c.args.s c.requires c.loop-k.k) (omega arith))
 
-next : (c : tie.After-e-1 invariant-loop-k decreases-loop-k) → nat_abs (e_of c.args.t1 c.loop-k.k) ≤ 2 ^ 61
+next : (c : tie.After-e-1 invariant-loop-k decreases-loop-k) → nat_abs (e_of c.args.s c.loop-k.k) ≤ 2 ^ 61
 next c = le_trans (c.requires.at c.loop-k.k) (lit≤ tt)
 
 overflow_add-e : tie.Need-overflow_add-e invariant-loop-k decreases-loop-k
 overflow_add-e c =
-    next-sum-fits (to_z w64 c.loop-k.e-bits) (e_of c.args.t1 c.loop-k.k) (so_far c) (next c)
+    next-sum-fits (to_z w64 c.loop-k.e-bits) (e_of c.args.s c.loop-k.k) (so_far c) (next c)
 
 overflow_add-k : tie.Need-overflow_add-k invariant-loop-k decreases-loop-k
 overflow_add-k c = omega arith
@@ -51,7 +51,7 @@ loop-k-smaller c = omega arith
 loop-k-preserved : tie.Need-loop-k-preserved invariant-loop-k decreases-loop-k
 loop-k-preserved c =
     worked-more c.loop-k.invariant c.loop-k-test.true
-    (next-sum-exact (to_z w64 c.loop-k.e-bits) (e_of c.args.t1 c.loop-k.k) (so_far c) (next c))
+    (next-sum-exact (to_z w64 c.loop-k.e-bits) (e_of c.args.s c.loop-k.k) (so_far c) (next c))
 
 returns : tie.Need-returns invariant-loop-k decreases-loop-k
 unfolding exponents_of

@@ -70,7 +70,7 @@ apart t = to_z w64 (of_z w64 (entry t).args.stride)
 
 -- what is required, of the numbers as the code holds them
 inside : (t : tie.At-loop-i invariant-loop-i decreases-loop-i) → PlacesInside (size t) (first t) (apart t) (entry t).args.len
-inside t = let s = entry t in simp (to_z-of_z w64 s.args.start s.fits.start, to_z-of_z w64 s.args.stride s.fits.stride) s.requires.2
+inside t = let s = entry t in simp (to_z-of_z w64 s.args.start s.ranges.start, to_z-of_z w64 s.args.stride s.ranges.stride) s.requires.2
 
 -- the place of the next value, and what lies from there on
 here : (c : tie.In-loop-i invariant-loop-i decreases-loop-i) → let t = c.before in to_z w64 t.loop-i.at-bits ≡ first t +ℤ apart t *ℤ pos t.loop-i.i
@@ -87,7 +87,7 @@ inside-here c =
 
 eight_is : (t : tie.At-loop-i invariant-loop-i decreases-loop-i) → EightApart (apart t) (entry t).args.len (to_z w64 (of_z w64 (entry t).args.eight))
 eight_is t =
-    let s = entry t in simp (to_z-of_z w64 s.args.stride s.fits.stride, to_z-of_z w64 s.args.eight s.fits.eight) s.requires.1
+    let s = entry t in simp (to_z-of_z w64 s.args.stride s.ranges.stride, to_z-of_z w64 s.args.eight s.ranges.eight) s.requires.1
 
 overflow_sub-len : tie.Need-overflow_sub-len invariant-loop-i decreases-loop-i
 overflow_sub-len c = let l = c.loop-i-test.true in omega arith
@@ -114,7 +114,7 @@ next_pace-pace-requires c κs = search rules
 
 -- a step of the loop, and the turn that it is made in
 abbrev step : tie.After-next_pace-pace invariant-loop-i decreases-loop-i → tie.After-next_step-t invariant-loop-i decreases-loop-i
-step p = p.before.before
+step p = p.before.before.before
 
 abbrev turn : tie.After-next_pace-pace invariant-loop-i decreases-loop-i → tie.In-loop-i invariant-loop-i decreases-loop-i
 turn p = (step p).before
@@ -242,7 +242,7 @@ returns c =
     let s = entry t in
     let z : t.loop-i.i ≡ s.args.len = omega (arith, t.loop-i.invariant.0, c.loop-i-test.false) in
     let e = subst (λ (n : ℕ). LanesAfter start_lanes (strided s.args.values.now (first t) (apart t) n) t.loop-i.s) z t.loop-i.invariant.2 in
-    simp (to_z-of_z w64 s.args.start s.fits.start, to_z-of_z w64 s.args.stride s.fits.stride) at e
+    simp (to_z-of_z w64 s.args.start s.ranges.start, to_z-of_z w64 s.args.stride s.ranges.stride) at e
 
 pub fed_lanes_spec : {M : Type 1} → statement M
 fed_lanes_spec = tie.close (tie.spec invariant-loop-i decreases-loop-i start_lanes-s-requires first_way-requires loop-i-init overflow_sub-len next_step-t-requires stable_renorm-s-requires next_pace-pace-requires overflow_add-i behind-at-requires loop-i-smaller-then-i-len loop-i-preserved-then-i-len loop-i-smaller loop-i-preserved returns)

@@ -18,7 +18,7 @@ use Rattle.vectors.proofs.feeding.guarded.Tie as tie
 abbrev invariant-loop-turn : tie.invariant-loop-turn
 invariant-loop-turn s values start stride eight len t₀ turn₀ t turn =
     (turn ≤ 2)
-    × (turn ≡ 2 → NotYetNormalised s (strided values (to_z w64 start) (to_z w64 stride) len) t.lanes-1)
+    × (turn ≡ 2 → NotYetNormalised s (strided values (to_z w64 start) (to_z w64 stride) len) t.lanes)
     × (0 < turn → (t.done ≡ len) × (t.at ≡ last_vector (to_z w64 start) (to_z w64 stride) len))
 
 abbrev decreases-loop-turn : tie.decreases-loop-turn

@@ -39,7 +39,7 @@ waited : (c : tie.After-wait_values-r)
     → let s = entry c in c.wait_values-r.result.lanes ≡ feed (wait_step s.args.y.signs) 0 (start_waiting s.args.s.m) (padded (piece s))
 waited c =
     let s = entry c in
-    simp (to_z-of_z w64 s.args.start s.fits.start, to_z-of_z w64 s.args.stride s.fits.stride) at c.wait_values-r.ensures.0
+    simp (to_z-of_z w64 s.args.start s.ranges.start, to_z-of_z w64 s.args.stride s.ranges.stride) at c.wait_values-r.ensures.0
     ∙ ap (λ (w : Waiting). feed (wait_step s.args.y.signs) 0 w (padded (piece s))) c.start_waiting.ensures
 
 start_waiting-requires : tie.Need-start_waiting-requires
@@ -49,7 +49,7 @@ wait_values-r-requires : tie.Need-wait_values-r-requires
 wait_values-r-requires c κs =
     let e = c.start_waiting.ensures in
     simp (to_z-of_z w64 c.args.start c.ranges.start, to_z-of_z w64 c.args.stride c.ranges.stride, to_z-of_z w64 c.args.eight c.ranges.eight) (
-      ap (λ (w : Waiting). length w.m-1) e ∙ c.requires.1,
+      ap (λ (w : Waiting). length w.m) e ∙ c.requires.1,
       ap (λ (w : Waiting). length w.least) e ∙ length-replicate 8 one,
       c.requires.4,
       c.requires.5,
@@ -64,7 +64,7 @@ none_below-requires c κs =
 
 none_past-requires : tie.Need-none_past-requires
 none_past-requires c κs =
-    let w = c.before.before.before.before in ap (λ (w : Waiting). length w.m-1) (waited w) ∙ wait-m-long _ 0 _ _ ∙ (entry w).requires.1
+    let w = c.before.before.before.before in ap (λ (w : Waiting). length w.m) (waited w) ∙ wait-m-long _ 0 _ _ ∙ (entry w).requires.1
 
 returns-then-none_below-none_past : tie.Need-returns-then-none_below-none_past
 returns-then-none_below-none_past c =
@@ -77,7 +77,7 @@ returns-then-none_below-none_past c =
     let Y = s.requires.2 in
     let b = and_both _ _ t.if-none_below-none_past.true in
     let r = subst (λ (u : Waiting).
-    let kept : Lanes = record { m = u.m-1; e = s.args.s.e; bad = s.args.s.bad } in
+    let kept : Lanes = record { m = u.m; e = s.args.s.e; bad = s.args.s.bad } in
     LanesAfter s.args.s (piece s) (renorm kept) × ((fs : List Factor) → LanesRepresent zeros s.args.s fs → NoneSubnormal kept)) (sym (waited w))
     (tried-fed y.signs y.depth y.most Y.some (shallow _ _ Y.room Y.vectors) Y.room s.args.s (piece s)
     (strided-values s.args.values.now w.shared_slice_known-1.given s.args.start s.args.stride s.args.len)
@@ -86,7 +86,7 @@ returns-then-none_below-none_past c =
     ∙ ap (λ (z : Float). every (not_below z) w.wait_values-r.result.lanes.least) (sym l.least_of-least.ensures)
     ∙ sym p.none_below.ensures
     ∙ b.0)
-    (ap (λ (u : Waiting). every not_past u.m-1) (sym (waited w)) ∙ sym p.none_past.ensures ∙ b.1)) in (
+    (ap (λ (u : Waiting). every not_past u.m) (sym (waited w)) ∙ sym p.none_past.ensures ∙ b.1)) in (
       record {
         fed = r.0;
         small = record { at = λ k. (lanes-le (2 ^ 56) (2 ^ 59) s.args.s (lit≤ tt) s.requires.0).at k };
@@ -95,7 +95,7 @@ returns-then-none_below-none_past c =
       (
         inl refl,
         to_z-of_z w64 _ (record { sfits = c.struct_told-1.given.1.0.1 })
-            ∙ simp (to_z-of_z w64 s.args.start s.fits.start, to_z-of_z w64 s.args.stride s.fits.stride) at w.wait_values-r.ensures.1,
+            ∙ simp (to_z-of_z w64 s.args.start s.ranges.start, to_z-of_z w64 s.args.stride s.ranges.stride) at w.wait_values-r.ensures.1,
       ),
     )
 
@@ -103,7 +103,7 @@ returns : tie.Need-returns
 unfolding strided
 returns c =
     let s = entry c.before.before.before.before.before.before in
-    (unmoved s.args.s s.requires.0, (inr refl, to_z-of_z w64 s.args.start s.fits.start ∙ place-first s.args.start s.args.stride))
+    (unmoved s.args.s s.requires.0, (inr refl, to_z-of_z w64 s.args.start s.ranges.start ∙ place-first s.args.start s.args.stride))
 
 pub tried_spec : {M : Type 1} → statement M
 tried_spec = tie.close (tie.spec start_waiting-requires wait_values-r-requires least_of-least-requires none_below-requires none_past-requires returns-then-none_below-none_past returns)

@@ -72,7 +72,7 @@ turn c = (worked c).before.before
 
 -- what is required, of the numbers as the code holds them
 inside : (t : tie.At-loop-i invariant-loop-i decreases-loop-i) → PlacesInside (size t) (first t) (apart t) (entry t).args.len
-inside t = let s = entry t in simp (to_z-of_z w64 s.args.start s.fits.start, to_z-of_z w64 s.args.stride s.fits.stride) s.requires.4
+inside t = let s = entry t in simp (to_z-of_z w64 s.args.start s.ranges.start, to_z-of_z w64 s.args.stride s.ranges.stride) s.requires.4
 
 -- a vector is left
 left : (c : tie.In-loop-i invariant-loop-i decreases-loop-i) → 8 * c.loop-i.i < (entry c.before).args.len
@@ -112,7 +112,7 @@ eight_is : (c : tie.After-e-in-loop-i-1 invariant-loop-i decreases-loop-i) → l
     → to_z w64 (of_z w64 s.args.eight) ≡ apart t *ℤ pos 8
 eight_is c l =
     let s = entry (turn c).before in
-    simp (to_z-of_z w64 s.args.stride s.fits.stride, to_z-of_z w64 s.args.eight s.fits.eight) (s.requires.3 (omega arith))
+    simp (to_z-of_z w64 s.args.stride s.ranges.stride, to_z-of_z w64 s.args.eight s.ranges.eight) (s.requires.3 (omega arith))
 
 next_place-at-requires : tie.Need-next_place-at-requires invariant-loop-i decreases-loop-i
 next_place-at-requires c κs l =
@@ -188,8 +188,8 @@ returns c =
     (omega arith) in
     let p = t.loop-i.invariant.3 (omega arith)
     ∙ ap (λ (k : ℕ). first t +ℤ apart t *ℤ pos k) (let z : 8 * (t.loop-i.i - 1) ≡ 8 * ((n - 1) / 8) = omega arith in z) in (
-      simp (to_z-of_z w64 s.args.start s.fits.start, to_z-of_z w64 s.args.stride s.fits.stride) at e,
-      (t.loop-i.invariant.1.long, (refl, simp (to_z-of_z w64 s.args.start s.fits.start, to_z-of_z w64 s.args.stride s.fits.stride) at p)),
+      simp (to_z-of_z w64 s.args.start s.ranges.start, to_z-of_z w64 s.args.stride s.ranges.stride) at e,
+      (t.loop-i.invariant.1.long, (refl, simp (to_z-of_z w64 s.args.start s.ranges.start, to_z-of_z w64 s.args.stride s.ranges.stride) at p)),
     )
 
 pub vectors_in_spec : {M : Type 1} → statement M

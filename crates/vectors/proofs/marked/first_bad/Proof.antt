@@ -3,7 +3,6 @@ use Prim.Native.Nat.{ℕ, ◌+◌, ◌-◌, ◌≤◌, ◌<◌}
 use mathlib.Core.Path.{◌≡◌, refl, sym, ap, ◌∙◌, subst}
 use mathlib.Core.Bool.{Bool, true, false}
 use mathlib.Core.List.{List}
-use mathlib.Core.Logic.{⊎_elim}
 use native.Mathlib.Omega.{arith}
 use lib.ListN.{length, get_or}
 use lib.IntN.{ℤ, pos, nat_abs, ◌+ℤ◌, ◌*ℤ◌}
@@ -23,6 +22,7 @@ use Rattle.vectors.proofs.Vectorwise.{place-natural, place-below, fits-from}
 use Rattle.vectors.proofs.Parting.{first_more, first-stays}
 use Rattle.vectors.proofs.marked.first_bad.Statement.{statement}
 use Rattle.vectors.proofs.marked.first_bad.Tie as tie
+use Rattle.vectors.proofs.marked.first_bad.Lts.{then-is_bad, else-is_bad}
 
 abbrev invariant-loop-i : tie.invariant-loop-i
 invariant-loop-i values start stride len first₀ at₀ i₀ first at i =
@@ -52,7 +52,7 @@ apart t = to_z w64 (of_z w64 (entry t).args.stride)
 
 -- what is required, of the numbers as the code holds them
 inside : (t : tie.At-loop-i invariant-loop-i decreases-loop-i) → PlacesInside (length (values t)) (start t) (apart t) (entry t).args.len
-inside t = let s = entry t in simp (to_z-of_z w64 s.args.start s.fits.start, to_z-of_z w64 s.args.stride s.fits.stride) s.requires
+inside t = let s = entry t in simp (to_z-of_z w64 s.args.start s.ranges.start, to_z-of_z w64 s.args.stride s.ranges.stride) s.requires
 
 -- the place of the next value
 here : (c : tie.In-loop-i invariant-loop-i decreases-loop-i) → let t = c.before in to_z w64 t.loop-i.at-bits ≡ start t +ℤ apart t *ℤ pos t.loop-i.i
@@ -110,13 +110,15 @@ returns-then-first-eq0 c =
     let l : t.loop-i.i + 1 ≤ s.args.len = (let m = i.loop-i-test.true in omega arith) in
     let e = sym (first-stays (values t) (start t) (apart t) (t.loop-i.i + 1)
     (sym (after f true q.min_usize-first.result q.if-is_bad.true q.min_usize-first.ensures) ∙ c.if-first-eq0.true) s.args.len l) in
-    simp (to_z-of_z w64 s.args.start s.fits.start, to_z-of_z w64 s.args.stride s.fits.stride) at e
+    simp (to_z-of_z w64 s.args.start s.ranges.start, to_z-of_z w64 s.args.stride s.ranges.stride) at e
 
 next : (c : tie.Joined-is_bad invariant-loop-i decreases-loop-i) → let t = c.before.before.before.before in
     c.if-is_bad.first ≡ first_bad (strided (values t) (start t) (apart t) (t.loop-i.i + 1))
 next c =
-    ⊎_elim (λ p. after c.before true c.if-is_bad.first p.0.taken (p.3 ∙ p.1.ensures)) (λ p. after c.before false c.if-is_bad.first p.0.left p.1)
-    c.if-is_bad.branch
+    elim c.if-is_bad.branch [
+      then-is_bad w ↦ after c.before true c.if-is_bad.first w.if-is_bad.true (w.first-is ∙ w.min_usize-first.ensures)
+    | else-is_bad w ↦ after c.before false c.if-is_bad.first w.if-is_bad.false w.first-is
+    ]
 
 -- the turn in which the next place is formed
 abbrev turn : tie.Joined-is_bad invariant-loop-i decreases-loop-i → tie.In-loop-i invariant-loop-i decreases-loop-i
@@ -157,7 +159,7 @@ returns c =
     let s = entry t in
     let z : t.loop-i.i ≡ s.args.len = omega arith in
     let e = t.loop-i.invariant.1 ∙ ap (λ (k : ℕ). first_bad (strided (values t) (start t) (apart t) k)) z in
-    simp (to_z-of_z w64 s.args.start s.fits.start, to_z-of_z w64 s.args.stride s.fits.stride) at e
+    simp (to_z-of_z w64 s.args.start s.ranges.start, to_z-of_z w64 s.args.stride s.ranges.stride) at e
 
 pub first_bad_spec : {M : Type 1} → statement M
 first_bad_spec = tie.close (tie.spec invariant-loop-i decreases-loop-i loop-i-init overflow_cast-index offset_bounds-values-index bounds-values-index is_bad-requires min_usize-first-requires returns-then-first-eq0 overflow_add-i overflow_sub-len next_place-at-requires loop-i-smaller loop-i-preserved returns)

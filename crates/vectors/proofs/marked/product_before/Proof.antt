@@ -50,15 +50,15 @@ bounds-s-k-in-loop-k c = let l = c.loop-k-test.true in omega (arith, c.requires.
 so_far : (t : tie.At-loop-k invariant-loop-k decreases-loop-k) → nat_abs (to_z w64 t.loop-k.e-bits) ≤ 2 ^ 61
 so_far t =
     subst (λ (z : ℤ). nat_abs z ≤ 2 ^ 61) (sym t.loop-k.invariant.1.is)
-    (le_trans (some-exponents-size (2 ^ 56) t.args.t1 t.requires.0 t.loop-k.k) (omega (arith, t.loop-k.invariant.1.upto, t.requires.2)))
+    (le_trans (some-exponents-size (2 ^ 56) t.args.s t.requires.0 t.loop-k.k) (omega (arith, t.loop-k.invariant.1.upto, t.requires.2)))
 
-next : (t : tie.At-loop-k invariant-loop-k decreases-loop-k) → nat_abs (e_of t.args.t1 t.loop-k.k) ≤ 2 ^ 61
+next : (t : tie.At-loop-k invariant-loop-k decreases-loop-k) → nat_abs (e_of t.args.s t.loop-k.k) ≤ 2 ^ 61
 next t = le_trans (t.requires.0.at t.loop-k.k) (lit≤ tt)
 
 overflow_add-e : tie.Need-overflow_add-e invariant-loop-k decreases-loop-k
 overflow_add-e c =
     let t = c.before.before.before in
-    next-sum-fits (to_z w64 t.loop-k.e-bits) (e_of t.args.t1 t.loop-k.k) (so_far t) (next t)
+    next-sum-fits (to_z w64 t.loop-k.e-bits) (e_of t.args.s t.loop-k.k) (so_far t) (next t)
 
 overflow_add-k : tie.Need-overflow_add-k invariant-loop-k decreases-loop-k
 overflow_add-k c = let l = c.loop-k-test.true in omega (arith, c.requires.2)
@@ -70,8 +70,8 @@ loop-k-preserved : tie.Need-loop-k-preserved invariant-loop-k decreases-loop-k
 loop-k-preserved c =
     let t = c.before.before.before in
     let l = c.loop-k-test.true in (
-      worked-more t.loop-k.invariant.0 l (mul-binary64 t.loop-k.p (m_of t.args.t1 t.loop-k.k)),
-      worked-more t.loop-k.invariant.1 l (next-sum-exact (to_z w64 t.loop-k.e-bits) (e_of t.args.t1 t.loop-k.k) (so_far t) (next t)),
+      worked-more t.loop-k.invariant.0 l (mul-binary64 t.loop-k.p (m_of t.args.s t.loop-k.k)),
+      worked-more t.loop-k.invariant.1 l (next-sum-exact (to_z w64 t.loop-k.e-bits) (e_of t.args.s t.loop-k.k) (so_far t) (next t)),
     )
 
 split_f64-q-requires : tie.Need-split_f64-q-requires invariant-loop-k decreases-loop-k
@@ -79,7 +79,7 @@ split_f64-q-requires c κs = search rules
 
 split-within : (c : tie.After-split_f64-q invariant-loop-k decreases-loop-k) → nat_abs c.split_f64-q.result.e ≤ 2 ^ 61
 split-within c =
-    subst (λ (q : Split). nat_abs q.e-1 ≤ 2 ^ 61) (sym c.split_f64-q.ensures) (le_trans (split-size c.loop-k.p) (lit≤ tt))
+    subst (λ (q : Split). nat_abs q.e ≤ 2 ^ 61) (sym c.split_f64-q.ensures) (le_trans (split-size c.loop-k.p) (lit≤ tt))
 
 overflow_add-result : tie.Need-overflow_add-result invariant-loop-k decreases-loop-k
 overflow_add-result c =
@@ -93,12 +93,12 @@ returns c =
     let f = c.before.before in
     let l = f.loop-k-test.false in
     let t = f.before.before in
-    let s = t.args.t1 in
+    let s = t.args.s in
     let n = t.args.n in
     let q = f.split_f64-q.result in
-    ap (λ (z : ℤ). record { m = q.m; e = z; bad = true }) (next-sum-exact (to_z w64 t.loop-k.e-bits) q.e-1 (so_far t) (split-within f))
-    ∙ ap (λ (z : ℤ). record { m = q.m; e = z +ℤ q.e-1; bad = true }) (worked-all t.loop-k.invariant.1 l)
-    ∙ ap (λ (r : Split). record { m = r.m; e = in_order (plus s) n (pos 0) +ℤ r.e-1; bad = true })
+    ap (λ (z : ℤ). record { m = q.m; e = z; bad = true }) (next-sum-exact (to_z w64 t.loop-k.e-bits) q.e (so_far t) (split-within f))
+    ∙ ap (λ (z : ℤ). record { m = q.m; e = z +ℤ q.e; bad = true }) (worked-all t.loop-k.invariant.1 l)
+    ∙ ap (λ (r : Split). record { m = r.m; e = in_order (plus s) n (pos 0) +ℤ r.e; bad = true })
     (f.split_f64-q.ensures ∙ ap split (worked-all t.loop-k.invariant.0 l))
 
 pub product_before_spec : {M : Type 1} → statement M

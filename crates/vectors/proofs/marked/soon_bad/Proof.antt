@@ -46,7 +46,7 @@ apart t = to_z w64 (of_z w64 (entry t).args.stride)
 
 -- what is required, of the numbers as the code holds them
 inside : (t : tie.At-loop-i invariant-loop-i decreases-loop-i) → PlacesInside (length (values t)) (start t) (apart t) (entry t).args.len
-inside t = let s = entry t in simp (to_z-of_z w64 s.args.start s.fits.start, to_z-of_z w64 s.args.stride s.fits.stride) s.requires.1
+inside t = let s = entry t in simp (to_z-of_z w64 s.args.start s.ranges.start, to_z-of_z w64 s.args.stride s.ranges.stride) s.requires.1
 
 -- the value is one of the piece
 within : (c : tie.In-loop-i invariant-loop-i decreases-loop-i) → 8 * c.loop-i.i < (entry c.before).args.len
@@ -89,7 +89,7 @@ returns-then-is_bad c q =
     (ap (λ (z : ℤ). is_bad (get_or (values t) (nat_abs z) nan)) (sym (here p))
     ∙ sym f.is_bad.ensures
     ∙ c.if-is_bad.true) in
-    simp (to_z-of_z w64 s.args.start s.fits.start, to_z-of_z w64 s.args.stride s.fits.stride) at e
+    simp (to_z-of_z w64 s.args.start s.ranges.start, to_z-of_z w64 s.args.stride s.ranges.stride) at e
 
 -- the turn in which the next place is formed
 abbrev turn : tie.Else-is_bad invariant-loop-i decreases-loop-i → tie.In-loop-i invariant-loop-i decreases-loop-i
@@ -106,7 +106,7 @@ eight_is : (c : tie.Else-is_bad invariant-loop-i decreases-loop-i) → let t = (
     → to_z w64 (of_z w64 s.args.eight) ≡ apart t *ℤ pos 8
 eight_is c l =
     let s = entry (turn c).before in
-    simp (to_z-of_z w64 s.args.stride s.fits.stride, to_z-of_z w64 s.args.eight s.fits.eight) (s.requires.0 (omega arith))
+    simp (to_z-of_z w64 s.args.stride s.ranges.stride, to_z-of_z w64 s.args.eight s.ranges.eight) (s.requires.0 (omega arith))
 
 next_place-at-requires : tie.Need-next_place-at-requires invariant-loop-i decreases-loop-i
 next_place-at-requires c κs h =

@@ -54,7 +54,7 @@ piece s = strided s.args.values.now s.args.start s.args.stride s.args.len
 waited : (c : tie.After-wait_values-r) → c.wait_values-r.result.lanes ≡ feed (wait_step true) 0 (start_waiting (replicate 8 one)) (padded (piece (entry c)))
 waited c =
     let s = entry c in
-    simp (to_z-of_z w64 s.args.start s.fits.start, to_z-of_z w64 s.args.stride s.fits.stride) at c.wait_values-r.ensures.0
+    simp (to_z-of_z w64 s.args.start s.ranges.start, to_z-of_z w64 s.args.stride s.ranges.stride) at c.wait_values-r.ensures.0
     ∙ ap (λ (w : Waiting). feed (wait_step true) 0 w (padded (piece s))) (begun c.before)
 
 short_least-least-requires : tie.Need-short_least-least-requires

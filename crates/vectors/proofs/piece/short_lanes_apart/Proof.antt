@@ -48,10 +48,10 @@ short_apart-r-requires c κs =
 
 -- the whole vectors, and where the last of them begins
 vectors : (c : tie.After-short_apart-r) → let s = entry c in c.short_apart-r.result.lanes ≡ feed (wait_step false) 0 begun (values s)
-vectors c = let s = entry c in simp (to_z-of_z w64 s.args.start s.fits.start, to_z-of_z w64 s.args.stride s.fits.stride) at c.short_apart-r.ensures.0
+vectors c = let s = entry c in simp (to_z-of_z w64 s.args.start s.ranges.start, to_z-of_z w64 s.args.stride s.ranges.stride) at c.short_apart-r.ensures.0
 
 last : (c : tie.After-short_apart-r) → let s = entry c in c.short_apart-r.result.at ≡ last_vector s.args.start s.args.stride (whole s)
-last c = let s = entry c in simp (to_z-of_z w64 s.args.start s.fits.start, to_z-of_z w64 s.args.stride s.fits.stride) at c.short_apart-r.ensures.1
+last c = let s = entry c in simp (to_z-of_z w64 s.args.start s.ranges.start, to_z-of_z w64 s.args.stride s.ranges.stride) at c.short_apart-r.ensures.1
 
 returns-then-rest-eq0 : tie.Need-returns-then-rest-eq0
 returns-then-rest-eq0 c =
@@ -72,7 +72,7 @@ behind-at-requires c κs l =
     let some : 0 < whole s = omega arith in
     let left : whole s < s.args.len = omega (arith, c.if-rest-eq0.false) in
     subst (λ (z : ℤ). PlacesFit z (to_z w64 (of_z w64 s.args.eight)) 2) (sym (held c))
-    (subst (λ (z : ℤ). PlacesFit g.short_apart-r.result.at z 2) (sym (to_z-of_z w64 s.args.eight s.fits.eight))
+    (subst (λ (z : ℤ). PlacesFit g.short_apart-r.result.at z 2) (sym (to_z-of_z w64 s.args.eight s.ranges.eight))
     (behind-fits s.args.start s.args.stride g.short_apart-r.result.at s.args.eight (whole s) (omega arith) (last g) (length xs) s.args.len
     s.requires.1 (omega (arith, s.well_formed.0.1)) left some (s.requires.0 (omega arith))))
 
@@ -89,7 +89,7 @@ at-is c =
     (λ h.
     c.behind-at.ensures.1 (omega arith)
     ∙ ap (λ (z : ℤ). z +ℤ to_z w64 (of_z w64 s.args.eight)) (held q)
-    ∙ ap (λ (z : ℤ). g.short_apart-r.result.at +ℤ z) (to_z-of_z w64 s.args.eight s.fits.eight))
+    ∙ ap (λ (z : ℤ). g.short_apart-r.result.at +ℤ z) (to_z-of_z w64 s.args.eight s.ranges.eight))
     (λ h. s.requires.0 (omega arith))
 
 vector_of-vector-requires : tie.Need-vector_of-vector-requires
@@ -99,15 +99,15 @@ vector_of-vector-requires c κs =
     let n = s.args.len in (
       omega arith,
       subst (λ (z : ℤ). PlacesInside l z (to_z w64 (of_z w64 s.args.stride)) (n % 8)) (sym (at-is c))
-          (subst (λ (z : ℤ). PlacesInside l (rest s) z (n % 8)) (sym (to_z-of_z w64 s.args.stride s.fits.stride))
+          (subst (λ (z : ℤ). PlacesInside l (rest s) z (n % 8)) (sym (to_z-of_z w64 s.args.stride s.ranges.stride))
           (inside-part l s.args.start s.args.stride n (whole s) (n % 8) s.requires.1 (omega arith))),
     )
 
 wait_vector-requires : tie.Need-wait_vector-requires
 wait_vector-requires c κs =
     let t = c.before.before.before.before in (
-      ap (λ (w : Waiting). length w.m) (vectors t) ∙ wait-m-long false 0 begun _,
-      ap (λ (w : Waiting). length w.least) (vectors t) ∙ wait-least-long false 0 begun _,
+      ap (λ (w : Waiting). length w.m) (vectors t.before) ∙ wait-m-long false 0 begun _,
+      ap (λ (w : Waiting). length w.least) (vectors t.before) ∙ wait-least-long false 0 begun _,
       ap length c.vector_of-vector.ensures ∙ vector-long _,
     )
 
@@ -116,14 +116,14 @@ returns c =
     let p = c.before.before in
     let q = p.before.before in
     let t = q.before in
-    let s = entry t in
+    let s = entry t.before in
     let n = s.args.len in
     let xs = s.args.values.now in
     let vector =
     c.vector_of-vector.ensures
-    ∙ ap (λ (z : ℤ). vector_of (strided xs z (to_z w64 (of_z w64 s.args.stride)) (n % 8))) (at-is p)
-    ∙ ap (λ (z : ℤ). vector_of (strided xs (rest s) z (n % 8))) (to_z-of_z w64 s.args.stride s.fits.stride) in
-    rest-fed false begun xs s.args.start s.args.stride n t.short_apart-r.result.lanes c.wait_vector.result q.if-rest-eq0.false (vectors t)
+    ∙ ap (λ (z : ℤ). vector_of (strided xs z (to_z w64 (of_z w64 s.args.stride)) (n % 8))) (at-is p.before)
+    ∙ ap (λ (z : ℤ). vector_of (strided xs (rest s) z (n % 8))) (to_z-of_z w64 s.args.stride s.ranges.stride) in
+    rest-fed false begun xs s.args.start s.args.stride n t.short_apart-r.result.lanes c.wait_vector.result q.if-rest-eq0.false (vectors t.before)
     (c.wait_vector.ensures ∙ ap (feed (wait_step false) 0 t.short_apart-r.result.lanes) vector)
 
 pub short_lanes_apart_spec : {M : Type 1} → statement M

@@ -46,10 +46,10 @@ short_beside-r-requires c κs =
 
 -- the whole vectors, and where the last of them begins
 vectors : (c : tie.After-short_beside-r) → let s = entry c in c.short_beside-r.result.lanes ≡ feed (wait_step false) 0 begun (values s)
-vectors c = let s = entry c in simp (to_z-of_z w64 s.args.start s.fits.start) at c.short_beside-r.ensures.0
+vectors c = let s = entry c in simp (to_z-of_z w64 s.args.start s.ranges.start) at c.short_beside-r.ensures.0
 
 last : (c : tie.After-short_beside-r) → let s = entry c in c.short_beside-r.result.at ≡ last_vector s.args.start (pos 1) (whole s)
-last c = let s = entry c in simp (to_z-of_z w64 s.args.start s.fits.start) at c.short_beside-r.ensures.1
+last c = let s = entry c in simp (to_z-of_z w64 s.args.start s.ranges.start) at c.short_beside-r.ensures.1
 
 returns-then-rest-eq0 : tie.Need-returns-then-rest-eq0
 returns-then-rest-eq0 c =
@@ -99,8 +99,8 @@ vector_of-vector-requires c κs =
 wait_vector-requires : tie.Need-wait_vector-requires
 wait_vector-requires c κs =
     let t = c.before.before.before.before in (
-      ap (λ (w : Waiting). length w.m) (vectors t) ∙ wait-m-long false 0 begun _,
-      ap (λ (w : Waiting). length w.least) (vectors t) ∙ wait-least-long false 0 begun _,
+      ap (λ (w : Waiting). length w.m) (vectors t.before) ∙ wait-m-long false 0 begun _,
+      ap (λ (w : Waiting). length w.least) (vectors t.before) ∙ wait-least-long false 0 begun _,
       ap length c.vector_of-vector.ensures ∙ vector-long _,
     )
 
@@ -109,11 +109,11 @@ returns c =
     let p = c.before.before in
     let q = p.before.before in
     let t = q.before in
-    let s = entry t in
+    let s = entry t.before in
     let n = s.args.len in
     let xs = s.args.values.now in
-    let vector = c.vector_of-vector.ensures ∙ ap (λ (z : ℤ). vector_of (strided xs z (pos 1) (n % 8))) (at-is p) in
-    rest-fed false begun xs s.args.start (pos 1) n t.short_beside-r.result.lanes c.wait_vector.result q.if-rest-eq0.false (vectors t)
+    let vector = c.vector_of-vector.ensures ∙ ap (λ (z : ℤ). vector_of (strided xs z (pos 1) (n % 8))) (at-is p.before) in
+    rest-fed false begun xs s.args.start (pos 1) n t.short_beside-r.result.lanes c.wait_vector.result q.if-rest-eq0.false (vectors t.before)
     (c.wait_vector.ensures ∙ ap (feed (wait_step false) 0 t.short_beside-r.result.lanes) vector)
 
 pub short_lanes_beside_spec : {M : Type 1} → statement M

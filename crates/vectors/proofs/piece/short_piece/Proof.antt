@@ -54,7 +54,7 @@ piece s = strided s.args.values.now s.args.start s.args.stride s.args.len
 -- the lanes of the piece
 waited : (c : tie.After-short_lanes-w) → c.short_lanes-w.result ≡ feed (wait_step false) 0 (start_waiting (replicate 8 one)) (padded (piece (entry c)))
 waited c =
-    let s = entry c in simp (to_z-of_z w64 s.args.start s.fits.start, to_z-of_z w64 s.args.stride s.fits.stride) at c.short_lanes-w.ensures
+    let s = entry c in simp (to_z-of_z w64 s.args.start s.ranges.start, to_z-of_z w64 s.args.stride s.ranges.stride) at c.short_lanes-w.ensures
 
 chain-p-requires : tie.Need-chain-p-requires
 chain-p-requires c κs = ap (λ (w : Waiting). length w.m) (waited c.before) ∙ wait-m-long _ 0 (start_waiting (replicate 8 one)) _

@@ -94,7 +94,7 @@ entry f = f.before.before.before.before.before.before
 fed : (f : tie.After-fed_lanes-s) → LanesAfter start_lanes (piece (entry f)) f.fed_lanes-s.result
 fed f =
     let s = entry f in
-    simp (to_z-of_z w64 s.args.start s.fits.start, to_z-of_z w64 s.args.stride s.fits.stride) at f.fed_lanes-s.ensures
+    simp (to_z-of_z w64 s.args.start s.ranges.start, to_z-of_z w64 s.args.stride s.ranges.stride) at f.fed_lanes-s.ensures
 
 small : (f : tie.After-fed_lanes-s) → SmallLanes (2 ^ 56) f.fed_lanes-s.result
 small f =
@@ -108,7 +108,7 @@ first_bad-first-requires c κs = search rules
 first : (c : tie.After-first_bad-first) → c.first_bad-first.result ≡ first_bad (piece (entry c.before.before.before))
 first c =
     let s = entry c.before.before.before in
-    simp (to_z-of_z w64 s.args.start s.fits.start, to_z-of_z w64 s.args.stride s.fits.stride) at c.first_bad-first.ensures
+    simp (to_z-of_z w64 s.args.start s.ranges.start, to_z-of_z w64 s.args.stride s.ranges.stride) at c.first_bad-first.ensures
 
 product_before-requires : tie.Need-product_before-requires
 product_before-requires c κs =

@@ -89,7 +89,7 @@ returns c =
     let z : t.loop-left.left ≡ 0 = (let l = c.loop-left-test.false in omega arith) in
     let e = walk-fed _ _ _ _ _ _ _ _ _ _ t.loop-left.invariant z in
     let p = walk-last _ _ _ _ _ _ _ _ _ _ t.loop-left.invariant z in
-    (simp (to_z-of_z w64 s.args.start s.fits.start) at e, simp (to_z-of_z w64 s.args.start s.fits.start) at p)
+    (simp (to_z-of_z w64 s.args.start s.ranges.start) at e, simp (to_z-of_z w64 s.args.start s.ranges.start) at p)
 
 pub wait_beside_spec : {M : Type 1} → statement M
 wait_beside_spec = tie.close (tie.spec invariant-loop-left decreases-loop-left loop-left-init vector_beside-vector-requires wait_vector-lanes-requires overflow_sub-left next_place-next-requires loop-left-smaller loop-left-preserved returns)

@@ -46,10 +46,10 @@ wait_vectors-r-requires c κs =
 
 -- the whole vectors, and where the last of them begins
 vectors : (c : tie.After-wait_vectors-r) → let s = entry c in c.wait_vectors-r.result.lanes ≡ feed (wait_step s.args.signs) 0 s.args.w (values s)
-vectors c = let s = entry c in simp (to_z-of_z w64 s.args.start s.fits.start, to_z-of_z w64 s.args.stride s.fits.stride) at c.wait_vectors-r.ensures.0
+vectors c = let s = entry c in simp (to_z-of_z w64 s.args.start s.ranges.start, to_z-of_z w64 s.args.stride s.ranges.stride) at c.wait_vectors-r.ensures.0
 
 last : (c : tie.After-wait_vectors-r) → let s = entry c in c.wait_vectors-r.result.at ≡ last_vector s.args.start s.args.stride (whole s)
-last c = let s = entry c in simp (to_z-of_z w64 s.args.start s.fits.start, to_z-of_z w64 s.args.stride s.fits.stride) at c.wait_vectors-r.ensures.1
+last c = let s = entry c in simp (to_z-of_z w64 s.args.start s.ranges.start, to_z-of_z w64 s.args.stride s.ranges.stride) at c.wait_vectors-r.ensures.1
 
 returns-then-rest-eq0 : tie.Need-returns-then-rest-eq0
 returns-then-rest-eq0 c =
@@ -72,7 +72,7 @@ behind-at-requires c κs l =
     let some : 0 < whole s = omega arith in
     let left : whole s < s.args.len = omega (arith, c.if-rest-eq0.false) in
     subst (λ (z : ℤ). PlacesFit z (to_z w64 (of_z w64 s.args.eight)) 2) (sym (held c))
-    (subst (λ (z : ℤ). PlacesFit g.wait_vectors-r.result.at z 2) (sym (to_z-of_z w64 s.args.eight s.fits.eight))
+    (subst (λ (z : ℤ). PlacesFit g.wait_vectors-r.result.at z 2) (sym (to_z-of_z w64 s.args.eight s.ranges.eight))
     (behind-fits s.args.start s.args.stride g.wait_vectors-r.result.at s.args.eight (whole s) (omega arith) (last g) (length xs) s.args.len
     s.requires.3 (omega (arith, s.well_formed.1.1)) left some (s.requires.2 (omega arith))))
 
@@ -89,7 +89,7 @@ at-is c =
     (λ h.
     c.behind-at.ensures.1 (omega arith)
     ∙ ap (λ (z : ℤ). z +ℤ to_z w64 (of_z w64 s.args.eight)) (held q)
-    ∙ ap (λ (z : ℤ). g.wait_vectors-r.result.at +ℤ z) (to_z-of_z w64 s.args.eight s.fits.eight))
+    ∙ ap (λ (z : ℤ). g.wait_vectors-r.result.at +ℤ z) (to_z-of_z w64 s.args.eight s.ranges.eight))
     (λ h. s.requires.2 (omega arith))
 
 vector_of-vector-requires : tie.Need-vector_of-vector-requires
@@ -99,16 +99,16 @@ vector_of-vector-requires c κs =
     let n = s.args.len in (
       omega arith,
       subst (λ (z : ℤ). PlacesInside l z (to_z w64 (of_z w64 s.args.stride)) (n % 8)) (sym (at-is c))
-          (subst (λ (z : ℤ). PlacesInside l (rest s) z (n % 8)) (sym (to_z-of_z w64 s.args.stride s.fits.stride))
+          (subst (λ (z : ℤ). PlacesInside l (rest s) z (n % 8)) (sym (to_z-of_z w64 s.args.stride s.ranges.stride))
           (inside-part l s.args.start s.args.stride n (whole s) (n % 8) s.requires.3 (omega arith))),
     )
 
 wait_vector-lanes-requires : tie.Need-wait_vector-lanes-requires
 wait_vector-lanes-requires c κs =
     let t = c.before.before.before.before in
-    let s = entry t in (
-      ap (λ (w : Waiting). length w.m) (vectors t) ∙ wait-m-long s.args.signs 0 s.args.w _ ∙ s.requires.0,
-      ap (λ (w : Waiting). length w.least) (vectors t) ∙ wait-least-long s.args.signs 0 s.args.w _ ∙ s.requires.1,
+    let s = entry t.before in (
+      ap (λ (w : Waiting). length w.m) (vectors t.before) ∙ wait-m-long s.args.signs 0 s.args.w _ ∙ s.requires.0,
+      ap (λ (w : Waiting). length w.least) (vectors t.before) ∙ wait-least-long s.args.signs 0 s.args.w _ ∙ s.requires.1,
       ap length c.vector_of-vector.ensures ∙ vector-long _,
     )
 
@@ -117,17 +117,17 @@ returns c =
     let p = c.before.before in
     let q = p.before.before in
     let t = q.before in
-    let s = entry t in
+    let s = entry t.before in
     let n = s.args.len in
     let xs = s.args.values.now in
     let vector =
     c.vector_of-vector.ensures
-    ∙ ap (λ (z : ℤ). vector_of (strided xs z (to_z w64 (of_z w64 s.args.stride)) (n % 8))) (at-is p)
-    ∙ ap (λ (z : ℤ). vector_of (strided xs (rest s) z (n % 8))) (to_z-of_z w64 s.args.stride s.fits.stride) in
+    ∙ ap (λ (z : ℤ). vector_of (strided xs z (to_z w64 (of_z w64 s.args.stride)) (n % 8))) (at-is p.before)
+    ∙ ap (λ (z : ℤ). vector_of (strided xs (rest s) z (n % 8))) (to_z-of_z w64 s.args.stride s.ranges.stride) in
     let left = q.if-rest-eq0.false in (
-      rest-fed s.args.signs s.args.w xs s.args.start s.args.stride n t.wait_vectors-r.result.lanes c.wait_vector-lanes.result q.if-rest-eq0.false (vectors t)
+      rest-fed s.args.signs s.args.w xs s.args.start s.args.stride n t.wait_vectors-r.result.lanes c.wait_vector-lanes.result q.if-rest-eq0.false (vectors t.before)
           (c.wait_vector-lanes.ensures ∙ ap (feed (wait_step s.args.signs) 0 t.wait_vectors-r.result.lanes) vector),
-      at-is p ∙ ap (λ (k : ℕ). s.args.start +ℤ s.args.stride *ℤ pos k) (let e : whole s ≡ 8 * ((n - 1) / 8) = omega arith in e),
+      at-is p.before ∙ ap (λ (k : ℕ). s.args.start +ℤ s.args.stride *ℤ pos k) (let e : whole s ≡ 8 * ((n - 1) / 8) = omega arith in e),
     )
 
 pub wait_values_spec : {M : Type 1} → statement M

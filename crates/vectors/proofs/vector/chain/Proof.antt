@@ -40,7 +40,7 @@ loop-k-smaller c = omega arith
 
 loop-k-preserved : tie.Need-loop-k-preserved invariant-loop-k decreases-loop-k
 loop-k-preserved c =
-    worked-more c.loop-k.invariant c.loop-k-test.true (mul-binary64 c.loop-k.p (get_or c.args.t1.v c.loop-k.k nan))
+    worked-more c.loop-k.invariant c.loop-k-test.true (mul-binary64 c.loop-k.p (get_or c.args.vector.v c.loop-k.k nan))
 
 returns : tie.Need-returns invariant-loop-k decreases-loop-k
 unfolding chained

@@ -56,8 +56,8 @@ returns c =
     let d = p.before in
     let e = d.before.before.before in
     let b = e.before.before.before in
-    let s = b.args in
-    least-tree s.over s.t1.v b.lesser_magnitude-a.result b.lesser_magnitude-b.result e.lesser_magnitude-c.result
+    let s = c.args in
+    least-tree s.over s.vector.v b.lesser_magnitude-a.result b.lesser_magnitude-b.result e.lesser_magnitude-c.result
     d.lesser_magnitude-d.result p.lesser.result q.lesser-2.result c.lesser-3.result
     b.lesser_magnitude-a.ensures b.lesser_magnitude-b.ensures e.lesser_magnitude-c.ensures d.lesser_magnitude-d.ensures p.lesser.ensures
     q.lesser-2.ensures c.lesser-3.ensures

@@ -10,6 +10,7 @@ use Rattle.floats.proofs.Patterns.{power_below, below-number}
 use Rattle.vectors.specs.InnerWaiting.{least_of}
 use Rattle.vectors.proofs.vector.least_of.Statement.{statement}
 use Rattle.vectors.proofs.vector.least_of.Tie as tie
+use Rattle.vectors.proofs.vector.least_of.Lts.{then-signs, else-signs}
 
 -- the field of the exponent, by the way that it was taken
 abbrev Field : Bool → ℕ → ℕ → Type 0
@@ -39,7 +40,7 @@ overflow_sub-field-else-signs : tie.Need-overflow_sub-field-else-signs
 overflow_sub-field-else-signs c = let h = c.requires.1 in omega arith
 
 field_of : (c : tie.Joined-signs) → Field c.args.signs c.args.depth c.if-signs.field
-field_of c = ⊎_elim (λ p. inl (p.0.taken, p.1)) (λ p. inr (p.0.left, p.1)) c.if-signs.branch
+field_of c = elim c.if-signs.branch [ then-signs w ↦ inl (w.if-signs.true, w.field-is) | else-signs w ↦ inr (w.if-signs.false, w.field-is) ]
 
 is : (c : tie.Joined-signs) → (of_bits binary64 (c.if-signs.field * 2 ^ 52 % 2 ^ 64) ≡ least_of c.args.signs c.args.depth)
     × T (not (nan_bits binary64 (c.if-signs.field * 2 ^ 52 % 2 ^ 64)))

@@ -37,7 +37,7 @@ loop-k-preserved c =
 
 returns : tie.Need-returns invariant-loop-k decreases-loop-k
 returns c =
-    worked-tested (not_below c.args.least) nan c.args.t1.least c.requires c.loop-k.invariant c.loop-k-test.false
+    worked-tested (not_below c.args.least) nan c.args.w.least c.requires c.loop-k.invariant c.loop-k-test.false
 
 pub none_below_spec : {M : Type 1} → statement M
 none_below_spec = tie.close (tie.spec invariant-loop-k decreases-loop-k loop-k-init offset_bounds-w-k bounds-w-k overflow_add-k loop-k-smaller loop-k-preserved returns)

@@ -40,7 +40,7 @@ loop-k-preserved c =
 
 returns : tie.Need-returns invariant-loop-k decreases-loop-k
 returns c =
-    worked-tested not_past nan c.args.t1.v c.requires c.loop-k.invariant c.loop-k-test.false
+    worked-tested not_past nan c.args.vector.v c.requires c.loop-k.invariant c.loop-k-test.false
 
 pub none_past_spec : {M : Type 1} → statement M
 none_past_spec = tie.close (tie.spec invariant-loop-k decreases-loop-k loop-k-init offset_bounds-vector-k bounds-vector-k not_past-ok-requires overflow_add-k loop-k-smaller loop-k-preserved returns)

@@ -25,7 +25,7 @@ beside c = same_bits _ (pos 1) (entry c).ranges.stride (pos-fits 1 (omega arith)
 vector_beside-requires : tie.Need-vector_beside-requires
 vector_beside-requires c κs =
     let s = entry c in
-    simp (to_z-of_z w64 s.args.at s.fits.at)
+    simp (to_z-of_z w64 s.args.at s.ranges.at)
     (subst (λ (d : ℤ). PlacesInside (length s.args.values.now) s.args.at d 8) (beside c)
     (inside-less (length s.args.values.now) s.args.at s.args.stride s.args.left 8 s.requires c.if-left-ge-LANES.true))
 
@@ -34,7 +34,7 @@ returns-then-left-ge-LANES c =
     let t = c.before in
     let s = entry t in
     let h = t.if-left-ge-LANES.true in
-    simp (to_z-of_z w64 s.args.at s.fits.at) at c.vector_beside.ensures
+    simp (to_z-of_z w64 s.args.at s.ranges.at) at c.vector_beside.ensures
     ∙ ap (λ (d : ℤ). strided s.args.values.now s.args.at d 8) (sym (beside t))
     ∙ sym (vector-whole s.args.values.now s.args.at s.args.stride)
     ∙ ap (λ (n : ℕ). vector_of (strided s.args.values.now s.args.at s.args.stride n)) (let e : 8 ≡ min 8 s.args.left = omega arith in e)

@@ -40,7 +40,7 @@ loop-k-smaller c = omega arith
 loop-k-preserved : tie.Need-loop-k-preserved invariant-loop-k decreases-loop-k
 loop-k-preserved c =
     let k = c.loop-k.k in
-    let x = get_or c.args.t2.v k nan in (
+    let x = get_or c.args.vector.v k nan in (
       worked-more c.loop-k.invariant.0 c.loop-k-test.true c.split_step-t.ensures,
       subst (SmallLanes (2 ^ 59 + farthest * (k + 1))) (sym c.split_step-t.ensures)
           (lanes-le (2 ^ 59 + farthest * k + farthest) (2 ^ 59 + farthest * (k + 1)) (split_step k c.loop-k.t x) (omega arith)
@@ -49,7 +49,7 @@ loop-k-preserved c =
 
 returns : tie.Need-returns invariant-loop-k decreases-loop-k
 returns c =
-    worked-fed split_step nan c.args.t2.v c.requires.1 c.loop-k.invariant.0 c.loop-k-test.false
+    worked-fed split_step nan c.args.vector.v c.requires.1 c.loop-k.invariant.0 c.loop-k-test.false
 
 pub split_mixed_spec : {M : Type 1} → statement M
 split_mixed_spec = tie.close (tie.spec invariant-loop-k decreases-loop-k loop-k-init offset_bounds-vector-k bounds-vector-k split_step-t-requires overflow_add-k loop-k-smaller loop-k-preserved returns)

@@ -33,13 +33,13 @@ bounds-vector-k c = omega arith
 split_subnormal_whole-requires : tie.Need-split_subnormal_whole-requires invariant-loop-k decreases-loop-k
 split_subnormal_whole-requires c κs v =
     let t = c.before.before in
-    lane-subnormal t.args.t2.v t.requires.1 t.requires.2 t.loop-k.k c.loop-k-test.true v
+    lane-subnormal t.args.vector.v t.requires.1 t.requires.2 t.loop-k.k c.loop-k-test.true v
 
 put_split-t-requires : tie.Need-put_split-t-requires invariant-loop-k decreases-loop-k
 put_split-t-requires c κs = (
   c.loop-k-test.true,
   lanes-le (2 ^ 59 + farthest * c.loop-k.k) (2 ^ 61) c.loop-k.t (omega arith) c.loop-k.invariant.1,
-  split-near (get_or c.args.t2.v c.loop-k.k nan) c.split_subnormal_whole.result c.split_subnormal_whole.ensures,
+  split-near (get_or c.args.vector.v c.loop-k.k nan) c.split_subnormal_whole.result c.split_subnormal_whole.ensures,
 )
 
 overflow_add-k : tie.Need-overflow_add-k invariant-loop-k decreases-loop-k
@@ -53,7 +53,7 @@ loop-k-preserved c =
     let p = c.before in
     let k = p.loop-k.k in
     let l = p.loop-k-test.true in
-    let x = get_or p.args.t2.v k nan in
+    let x = get_or p.args.vector.v k nan in
     let e = c.put_split-t.ensures ∙ split-own k p.loop-k.t x p.split_subnormal_whole.result l p.split_subnormal_whole.ensures in (
       worked-more p.loop-k.invariant.0 l e,
       subst (SmallLanes (2 ^ 59 + farthest * (k + 1))) (sym e)
@@ -63,7 +63,7 @@ loop-k-preserved c =
 
 returns : tie.Need-returns invariant-loop-k decreases-loop-k
 returns c =
-    worked-fed split_step nan c.args.t2.v c.requires.1 c.loop-k.invariant.0 c.loop-k-test.false
+    worked-fed split_step nan c.args.vector.v c.requires.1 c.loop-k.invariant.0 c.loop-k-test.false
 
 pub split_subnormals_spec : {M : Type 1} → statement M
 split_subnormals_spec = tie.close (tie.spec invariant-loop-k decreases-loop-k loop-k-init offset_bounds-vector-k bounds-vector-k split_subnormal_whole-requires put_split-t-requires overflow_add-k loop-k-smaller loop-k-preserved returns)

@@ -46,11 +46,11 @@ loop-k-smaller c = omega arith
 loop-k-preserved : tie.Need-loop-k-preserved invariant-loop-k decreases-loop-k
 loop-k-preserved c =
     let l = c.loop-k-test.true in
-    worked-more c.loop-k.invariant l (unsplit-lane c.loop-k.t c.loop-k.k (get_or c.args.t2.v c.loop-k.k nan) l)
+    worked-more c.loop-k.invariant l (unsplit-lane c.loop-k.t c.loop-k.k (get_or c.args.vector.v c.loop-k.k nan) l)
 
 returns : tie.Need-returns invariant-loop-k decreases-loop-k
 returns c =
-    worked-fed unsplit_step nan c.args.t2.v c.requires.1 c.loop-k.invariant c.loop-k-test.false
+    worked-fed unsplit_step nan c.args.vector.v c.requires.1 c.loop-k.invariant c.loop-k-test.false
 
 pub unsplit_vector_spec : {M : Type 1} → statement M
 unsplit_vector_spec = tie.close (tie.spec invariant-loop-k decreases-loop-k loop-k-init offset_bounds-t-k bounds-t-k offset_bounds-vector-k bounds-vector-k offset_bounds-t-k-in-loop-k bounds-t-k-in-loop-k overflow_add-k loop-k-smaller loop-k-preserved returns)

@@ -3,7 +3,6 @@
 use Prim.Native.Nat.{ℕ, ◌+◌, ◌-◌, ◌≤◌, ◌<◌, min}
 use mathlib.Core.Path.{◌≡◌, sym, ap, ◌∙◌, subst}
 use mathlib.Core.List.{List}
-use mathlib.Core.Logic.{⊎_elim}
 use native.Mathlib.Omega.{arith}
 use lib.ListN.{length, get_or, set}
 use lib.IntN.{ℤ, pos, nat_abs, ◌+ℤ◌, ◌*ℤ◌}
@@ -21,6 +20,7 @@ use Rattle.vectors.specs.InnerWaiting.{vector_of}
 use Rattle.vectors.proofs.Vectorwise.{place-natural, place-below, fits-from, vector-more}
 use Rattle.vectors.proofs.vector.vector_of.Statement.{statement}
 use Rattle.vectors.proofs.vector.vector_of.Tie as tie
+use Rattle.vectors.proofs.vector.vector_of.Lts.{then-k-n, else-k-n}
 
 abbrev invariant-loop-k : tie.invariant-loop-k
 invariant-loop-k values at stride n r₀ place₀ k₀ r place k =
@@ -56,7 +56,7 @@ count t = (entry t).args.n
 
 -- what is required, of the numbers as the code holds them
 inside : (t : tie.At-loop-k invariant-loop-k decreases-loop-k) → PlacesInside (length (values t)) (first t) (apart t) (count t)
-inside t = let s = entry t in simp (to_z-of_z w64 s.args.at s.fits.at, to_z-of_z w64 s.args.stride s.fits.stride) s.requires.1
+inside t = let s = entry t in simp (to_z-of_z w64 s.args.at s.ranges.at, to_z-of_z w64 s.args.stride s.ranges.stride) s.requires.1
 
 -- the place of the next value
 here : (t : tie.At-loop-k invariant-loop-k decreases-loop-k) → t.loop-k.k < count t → nat_abs (to_z w64 t.loop-k.place-bits) < length (values t)
@@ -91,7 +91,7 @@ overflow_add-k c = let l = c.loop-k-test.true in omega arith
 -- the value is in, if there is one
 more : (c : tie.Joined-k-n invariant-loop-k decreases-loop-k) → let t = c.before.before in
     c.if-k-n.r.v ≡ vector_of (strided (values t) (first t) (apart t) (min (t.loop-k.k + 1) (count t)))
-more c = ⊎_elim (λ p. ap (λ (u : Vector). u.v) p.2 ∙ taken p.0.taken) (λ p. ap (λ (u : Vector). u.v) p.1 ∙ passed p.0.left) c.if-k-n.branch
+more c = elim c.if-k-n.branch [ then-k-n w ↦ ap (λ (u : Vector). u.v) w.r-is ∙ taken w.if-k-n.true | else-k-n w ↦ ap (λ (u : Vector). u.v) w.r-is ∙ passed w.if-k-n.false ]
   where
     t : tie.At-loop-k invariant-loop-k decreases-loop-k
     t = c.before.before
@@ -159,7 +159,7 @@ returns c =
     let h = s.requires.0 in
     let z : min t.loop-k.k s.args.n ≡ s.args.n = omega arith in
     let e = t.loop-k.invariant.1 ∙ ap (λ (k : ℕ). vector_of (strided (values t) (first t) (apart t) k)) z in
-    simp (to_z-of_z w64 s.args.at s.fits.at, to_z-of_z w64 s.args.stride s.fits.stride) at e
+    simp (to_z-of_z w64 s.args.at s.ranges.at, to_z-of_z w64 s.args.stride s.ranges.stride) at e
 
 pub vector_of_spec : {M : Type 1} → statement M
 vector_of_spec = tie.close (tie.spec invariant-loop-k decreases-loop-k loop-k-init overflow_cast-index offset_bounds-values-index bounds-values-index offset_bounds-r-k bounds-r-k overflow_add-k overflow_sub-n next_place-place-requires loop-k-smaller-then-k-n-2 loop-k-preserved-then-k-n-2 loop-k-smaller loop-k-preserved returns)

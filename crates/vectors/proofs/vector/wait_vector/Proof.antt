@@ -67,12 +67,12 @@ loop-k-preserved c =
     let q = c.before.before.before.before.before in
     let l = q.loop-k-test.true in
     worked-more q.loop-k.invariant l
-    (wait-lane q.args.signs q.loop-k.t q.loop-k.k (get_or q.args.t2.v q.loop-k.k nan) c.lesser.result l
+    (wait-lane q.args.signs q.loop-k.t q.loop-k.k (get_or q.args.vector.v q.loop-k.k nan) c.lesser.result l
     (c.lesser.ensures ∙ ap (λ (z : Float). lesser z (get_or q.loop-k.t.least q.loop-k.k nan)) c.measure.ensures))
 
 returns : tie.Need-returns invariant-loop-k decreases-loop-k
 returns c =
-    worked-fed (wait_step c.args.signs) nan c.args.t2.v c.requires.2 c.loop-k.invariant c.loop-k-test.false
+    worked-fed (wait_step c.args.signs) nan c.args.vector.v c.requires.2 c.loop-k.invariant c.loop-k-test.false
 
 pub wait_vector_spec : {M : Type 1} → statement M
 wait_vector_spec = tie.close (tie.spec invariant-loop-k decreases-loop-k loop-k-init offset_bounds-vector-k bounds-vector-k offset_bounds-t-k bounds-t-k offset_bounds-t-k-in-loop-k bounds-t-k-in-loop-k measure-requires offset_bounds-t-k-in-loop-k-2 bounds-t-k-in-loop-k-2 lesser-requires offset_bounds-t-k-in-loop-k-3 bounds-t-k-in-loop-k-3 overflow_add-k loop-k-smaller loop-k-preserved returns)
