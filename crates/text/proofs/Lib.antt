@@ -1,4 +1,3 @@
-pub mod DigitCount
 pub mod Lists
 pub mod Reading
 pub mod Signs

@@ -1,5 +1,6 @@
 // Numbers and words put into a buffer, one after the other. Each call answers where the next one writes.
-ghost use Rattle.std.specs.Prelude.{◌+◌, ◌*◌, ◌≤◌, ◌<◌, ◌≡◌, length};
+ghost use Rattle.std.specs.Prelude.{◌+◌, ◌*◌, ◌≤◌, ◌<◌, ◌≡◌, length, drop};
+ghost use Rattle.std.specs.Fmt.{decimal};
 ghost use Rattle.std.proofs.Math.Seq.{paste};
 
 pub fn put(out: &mut [u8], at: usize, part: &[u8]) -> usize
@@ -29,8 +30,24 @@ fn put_digits(out: &mut [u8], at: usize, n: u64) -> usize
     ensures { result ≤ at + 20 }
 {
     let mut digits = [0u8; 20];
-    let count = io::decimal(n, &mut digits);
-    put(&mut *out, at, &digits[..count])
+    let from = decimal(n, &mut digits);
+    put(&mut *out, at, &digits[from..])
+}
+
+// The decimal digits of n, put at the buffer's end, and where they begin. The last digit is put first.
+fn decimal(n: u64, digits: &mut [u8; 20]) -> usize
+    ensures within { result < 20 }
+    ensures digits { drop result digits.new ≡ decimal n }
+{
+    let mut rest = n;
+    let mut at: usize = 19;
+    while 10 <= rest {
+        digits[at] = b'0' + (rest % 10) as u8;
+        rest /= 10;
+        at -= 1;
+    }
+    digits[at] = b'0' + rest as u8;
+    at
 }
 
 // A space, a minus where the number is below 0, and the digits of its magnitude.
