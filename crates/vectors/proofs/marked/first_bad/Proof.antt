@@ -22,7 +22,7 @@ use Rattle.vectors.proofs.Vectorwise.{place-natural, place-below, fits-from}
 use Rattle.vectors.proofs.Parting.{first_more, first-stays}
 use Rattle.vectors.proofs.marked.first_bad.Statement.{statement}
 use Rattle.vectors.proofs.marked.first_bad.Tie as tie
-use Rattle.vectors.proofs.marked.first_bad.Lts.{then-is_bad, else-is_bad}
+use Rattle.vectors.proofs.marked.first_bad.Lts.{then-is_bad+else-first-eq0, else-is_bad}
 
 abbrev invariant-loop-i : tie.invariant-loop-i
 invariant-loop-i values start stride len first₀ at₀ i₀ first at i =
@@ -116,7 +116,7 @@ next : (c : tie.Joined-is_bad invariant-loop-i decreases-loop-i) → let t = c.b
     c.if-is_bad.first ≡ first_bad (strided (values t) (start t) (apart t) (t.loop-i.i + 1))
 next c =
     elim c.if-is_bad.branch [
-      then-is_bad w ↦ after c.before true c.if-is_bad.first w.if-is_bad.true (w.first-is ∙ w.min_usize-first.ensures)
+      then-is_bad+else-first-eq0 w ↦ after c.before true c.if-is_bad.first w.if-is_bad.true (w.first-is ∙ w.min_usize-first.ensures)
     | else-is_bad w ↦ after c.before false c.if-is_bad.first w.if-is_bad.false w.first-is
     ]
 
