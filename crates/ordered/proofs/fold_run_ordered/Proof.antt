@@ -109,7 +109,7 @@ next c l =
     let i = c.before.before in
     let t = i.before in
     let s = entry t in
-    to_z-of_z (record { sfits = c.next_place-at.type_inv })
+    to_z-of_z {w = w64} (record { sfits = c.next_place-at.type_inv })
     ∙ c.next_place-at.ensures.0 l
     ∙ ap (λ (z : ℤ). z +ℤ stride s) (here i)
     ∙ place-next (first s) (stride s) (done t)

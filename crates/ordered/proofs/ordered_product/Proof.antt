@@ -40,7 +40,7 @@ returns-then-code-ne0 c =
 
 ordered_full_range-number-requires : tie.Need-ordered_full_range-number-requires
 ordered_full_range-number-requires c κs =
-    let a = accepted c in
+    let a = accepted c.before in
     simp (to_z-of_z c.ranges.base) (a.traversal, a.bounded, a.forward, a.inside, a.few, a.within)
 
 returns : tie.Need-returns
@@ -48,7 +48,7 @@ returns c =
     let b = c.before in
     let m = b.before.before in
     let k = m.before in
-    let accept = accepted b in
+    let accept = accepted b.before in
     let made = simp (to_z-of_z k.ranges.base) at c.ordered_full_range-number.ensures in
     ap value (made
     ∙ ordered-accepted k.args.sizes.now k.args.strides.now k.args.base k.args.start k.args.end k.args.values.now

@@ -47,7 +47,7 @@ first_in_vectors-r-requires c κs =
     let s = c.before.before in (
       omega (arith, s.requires.0),
       omega (arith, s.requires.1),
-      λ l. to_z-of_z (record { sfits = c.far_stride-eight.type_inv }) ∙ c.far_stride-eight.ensures (omega arith),
+      λ l. to_z-of_z {w = w64} (record { sfits = c.far_stride-eight.type_inv }) ∙ c.far_stride-eight.ensures (omega arith),
       inside-less (length (values s)) (first s) (stride s) s.args.len (done s) (inside s) (omega arith),
     )
 
@@ -93,7 +93,7 @@ next : (c : tie.After-far_stride) → let s = c.before.before.before.before.befo
     first s +ℤ to_z w64 (of_z w64 c.far_stride.result) ≡ first s +ℤ stride s *ℤ pos (done s)
 next c =
     let s = c.before.before.before.before.before.before in
-    ap (λ (z : ℤ). first s +ℤ z) (to_z-of_z (record { sfits = c.far_stride.type_inv }) ∙ c.far_stride.ensures (some_left c.before))
+    ap (λ (z : ℤ). first s +ℤ z) (to_z-of_z {w = w64} (record { sfits = c.far_stride.type_inv }) ∙ c.far_stride.ensures (some_left c.before))
 
 overflow_add-at : tie.Need-overflow_add-at
 overflow_add-at c =

@@ -136,7 +136,7 @@ loop-sizes-preserved c =
     let n = m.before.before.before in
     let e = n.before in
     let k = e.before.before.before in
-    rw (to_z-of_z (record { sfits = c.signed.type_inv }), c.signed.ensures)
+    rw (to_z-of_z {w = w64} (record { sfits = c.signed.type_inv }), c.signed.ensures)
     (axes-next k.args.bytes.now _ _ _ _ k.loop-sizes.invariant (sized e.before) e.if-count-eq-PLACES.false n.read_number-n.result.value
     (signed_of m.read_number-s.result.value) m.read_number-s.result.next m.read_number-s.ensures.1
     (sym (reads_on k.args.bytes.now (drop n.read_number-n.result.next k.args.bytes.now) STRIDE m.read_number-s.result

@@ -7,6 +7,7 @@ use Prim.Native.Nat.{ℕ}
 use lib.ListN.{drop}
 use lib.IntN.{ℤ}
 use mir.Facts.{to_z-of_z}
+use mir.Syntax.{w64}
 use borrow.Author.Rules.{rules}
 use Rattle.jobs.specs.Words.{BASE, START, END, signed_of}
 use Rattle.jobs.specs.Sending.{Job}

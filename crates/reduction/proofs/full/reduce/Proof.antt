@@ -50,7 +50,7 @@ returns-then-code-ne0 c =
 
 reduce_full_range-acc-requires : tie.Need-reduce_full_range-acc-requires
 reduce_full_range-acc-requires c κs =
-    let a = accepted c in
+    let a = accepted c.before in
     simp (to_z-of_z c.ranges.base) (a.traversal, a.bounded, a.forward, a.inside, a.few, a.within)
 
 returns : tie.Need-returns
@@ -58,9 +58,9 @@ returns c =
     let b = c.before in
     ap (λ (a : StableProductFloatAcc). answer_of (Acc a))
     (simp (to_z-of_z b.ranges.base) at c.reduce_full_range-acc.ensures
-    ∙ ap (λ (l : FullTraversal). joined_pieces (pieces_of l b.args.base b.args.values.now b.args.start b.args.end)) (accepted b).is)
+    ∙ ap (λ (l : FullTraversal). joined_pieces (pieces_of l b.args.base b.args.values.now b.args.start b.args.end)) (accepted b.before).is)
     ∙ sym
-    (reduce-accepted b.args.sizes.now b.args.strides.now b.args.base b.args.start b.args.end b.args.values.now (accepted b).code)
+    (reduce-accepted b.args.sizes.now b.args.strides.now b.args.base b.args.start b.args.end b.args.values.now (accepted b.before).code)
 
 pub reduce_spec : {M : Type 1} → statement M
 reduce_spec = tie.close (tie.spec compile-compiled-requires range_code-code-requires returns-then-code-ne0 reduce_full_range-acc-requires returns)

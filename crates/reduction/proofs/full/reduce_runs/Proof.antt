@@ -64,8 +64,8 @@ join_pieces-requires : tie.Need-join_pieces-requires
 join_pieces-requires c κs =
     let n = c.before.before.before in
     let v = n.shared_slice_known-1.given in
-    let p = first_taken n in
-    let m = near _ _ _ _ _ _ p c.reduce_piece-first.result (first-worked c) v in
+    let p = first_taken n.before in
+    let m = near _ _ _ _ _ _ p c.reduce_piece-first.result (first-worked c.before) v in
     simp (to_z-of_z n.ranges.base) (
       n.requires.0,
       n.requires.1,
@@ -75,7 +75,7 @@ join_pieces-requires c κs =
       n.requires.5,
       p.next_cursor_is,
       omega (arith, m, p.ends, n.requires.3, n.requires.4),
-      piece-sound _ _ _ _ _ _ p c.reduce_piece-first.result (first-worked c) v,
+      piece-sound _ _ _ _ _ _ p c.reduce_piece-first.result (first-worked c.before) v,
     )
 
 returns : tie.Need-returns
@@ -83,9 +83,9 @@ returns c =
     let r = c.before in
     let n = r.before.before.before in
     simp (to_z-of_z n.ranges.base) at c.join_pieces.ensures
-    ∙ joined-first n.args.l n.args.base n.args.values.now n.args.end n.begin.result n.next_piece-p.result (first_taken n)
-    r.reduce_piece-first.result (first-worked r) n.shared_slice_known-1.given
-    ∙ ap (λ k. joined_pieces (pieces_of n.args.l n.args.base n.args.values.now k n.args.end)) (start_is n.before)
+    ∙ joined-first n.args.l n.args.base n.args.values.now n.args.end n.begin.result n.next_piece-p.result (first_taken n.before)
+    r.reduce_piece-first.result (first-worked r.before) n.shared_slice_known-1.given
+    ∙ ap (λ k. joined_pieces (pieces_of n.args.l n.args.base n.args.values.now k n.args.end)) (start_is n.before.before)
 
 pub reduce_runs_spec : {M : Type 1} → statement M
 reduce_runs_spec = tie.close (tie.spec begin-requires next_piece-p-requires reduce_piece-first-requires join_pieces-requires returns)
