@@ -44,8 +44,10 @@ STATEMENTS = ("Theorems", "Cases")
 # The program's own reading and printing of numbers; no promise of the engine rests on it.
 APART = ("text",)
 
-USE = re.compile(r"^(?:ghost )?use Rattle·(\w+?)(?:·(?:specs|proofs))?\.specs\.([\w.-]+)\.\{([^}]*)\};?$")
-KIT = re.compile(r"^use lib\.Ieee\.\{([^}]*)\}$")
+USE = re.compile(r"^(?:ghost )?use Rattle\.(\w+)\.specs\.([\w.-]+)\.\{([^}]*)\};?$")
+# The kit's notions of floats: its file of operations, the one beside it, and what the Prelude has of them.
+KIT = re.compile(r"^use Rattle\.std\.specs\.Float(?:\.\w+)*\.\{([^}]*)\}$")
+PRELUDE = re.compile(r"^use Rattle\.std\.specs\.Prelude\.\{(?:[^}]*, )?(Float)(?:, [^}]*)?\}$")
 WORD = re.compile(r"\.?[^\s(){}\[\];,.:\"λ⌜⌝⟦⟧|]+")
 HEAD = re.compile(r"^(?:(?:unfoldable|abbrev|pub) )*(?:(record|data) )?([^\s:(){}=]+)")
 
@@ -101,7 +103,7 @@ def imported(line):
 
 
 def kit_names(line):
-    match = KIT.match(line)
+    match = KIT.match(line) or PRELUDE.match(line)
     return [item.strip().split(" as ")[0] for item in match.group(1).split(",")] if match else []
 
 
@@ -117,7 +119,17 @@ def contract_words(path, function):
     imports = {}
     for line in text.splitlines():
         imports.update(imported(line))
-    return {word for part in re.findall(r"⌜(.*?)⌝", contract, re.S) for word in WORD.findall(part)}, imports
+    return {word for clause in clauses(contract) for word in WORD.findall(clause)}, imports
+
+
+def clauses(contract):
+    """What stands in the braces of each `ensures`."""
+    for match in re.finditer(r"\bensures\b[^{]*\{", contract):
+        depth, end = 1, match.end()
+        while depth:
+            depth += {"{": 1, "}": -1}.get(contract[end], 0)
+            end += 1
+        yield contract[match.end() : end - 1]
 
 
 def resolve(modules, home, words, imports):
@@ -176,7 +188,7 @@ def page_table(text):
 
 
 def main():
-    crates = (ROOT / line.split(":")[0] for line in (ROOT / "crates.txt").read_text().splitlines() if line[:1] not in "#")
+    crates = (ROOT / re.split(r"[ :]", line)[0] for line in (ROOT / "crates.txt").read_text().splitlines() if line[:1] not in "#")
     order = [crate.name for crate in crates if crate.name not in APART]
     files = [file for name in order for file in sorted((ROOT / "crates" / name / "specs").glob("*.antt")) if file.stem != "Lib"]
     modules = {module.name: module for module in map(Module, files)}

@@ -83,7 +83,7 @@ def windows_grown(lines):
 
 
 def stack(library):
-    command = [sys.executable, "tools/stack_frames.py", f"target/staticlib/lib{library}.a"]
+    command = [sys.executable, "tools/stack_frames.py", f"crates/{library}/out/lib{library}.a"]
     return subprocess.run(command, cwd=ROOT, check=True, capture_output=True, text=True).stdout.strip()
 
 

@@ -1,7 +1,7 @@
 #!/usr/bin/env python3
 """The stack that the compiled calls take: a table of the functions of the static library, in bytes.
 
-    python3 tools/stack_frames.py [target/staticlib/libprobe.a]
+    python3 tools/stack_frames.py [crates/probe/out/libprobe.a]
 
 A frame is the registers that a function pushes, the room that it takes off the stack pointer, what it uses below
 that, as a function that calls nothing may, and the return address. The deepest stack of a function is its frame and
@@ -13,7 +13,7 @@ import re
 import subprocess
 import sys
 
-LIBRARY = "target/staticlib/libprobe.a"
+LIBRARY = "crates/probe/out/libprobe.a"
 WORD = 8
 NAME = re.compile(r"^[0-9a-f]+ <(.+)>:$")
 ROOM = re.compile(r"\bsub\s+\$0x([0-9a-f]+),%rsp")

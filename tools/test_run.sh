@@ -1,11 +1,11 @@
 #!/usr/bin/env bash
 # Tests of ./run, of what it shows and of how the program fails, on bad input: tools/test_run.sh
-# It wants the program built (target/bin/replay) and proves nothing: a stand-in takes the place of rt.
+# It wants the program built (crates/replay/out/replay) and proves nothing: a stand-in takes the place of rt.
 set -euo pipefail
 cd "$(dirname "${BASH_SOURCE[0]}")/.."
 work=$(mktemp -d)
 trap 'rm -rf "$work"' EXIT
-readonly work copy=$work/copy
+readonly work copy=$work/copy program=crates/replay/out/replay
 readonly good='compile 1 2 1 1' answer='2 elements, runs of 2 by 1, no outer axes'
 count=0
 
@@ -39,19 +39,19 @@ run_sh() {
 
 # A tree of its own, in which rt is a script that says what $work/says holds, and the program is the one that was built.
 make_copy() {
-    mkdir -p "$copy/crates/refusals/src" "$copy/target/bin" "$work/bin" "$work/few"
+    mkdir -p "$copy/crates/refusals/src" "$copy/crates/replay/out" "$work/bin" "$work/few"
     cp run crates.txt "$copy"
     cp -R tools examples "$copy"
     cp crates/refusals/src/lib.rt "$copy/crates/refusals/src/"
-    cp target/bin/replay "$copy/target/bin/"
+    cp "$program" "$copy/$program"
     cat >"$work/bin/rt" <<EOF
 #!/bin/sh
 cat '$work/says'
-[ ! -e '$work/makes' ] || cp '$work/makes' target/bin/replay
+[ ! -e '$work/makes' ] || cp '$work/makes' out/replay
 exit "\$(cat '$work/code')"
 EOF
     chmod +x "$work/bin/rt"
-    printf 'rt: replay proved (unchanged since it was last proved)\n' >"$work/says"
+    printf 'rt: nothing has changed since the last proved build, by out/replay.stamp, so nothing is checked now\n' >"$work/says"
     printf '0\n' >"$work/code"
     printf '%s\n' "$good" >"$work/good"
     PATH=$work/bin:$PATH
@@ -109,32 +109,36 @@ tools_missing() {
 }
 
 builds() {
-    local crates
-    printf 'rt: %s proved (%s)\n' integers '4 s' text 'unchanged since it was last proved' replay '70 s' >"$work/says"
-    check 'progress' 0 "$answer" 'proved integers (4 s), 1 of ' run_sh "'$work/good'"
-    has "$work/err" 'proved replay (70 s), 3 of ' || die 'progress: the last crate is not said'
-    ! has "$work/err" 'proved text' || die 'progress: a crate that has not changed is said'
+    local crate crates
+    for crate in laws refusals replay; do
+        printf 'fn %s::one: proved\nstatements std: modules loaded=1 checked=0\nlibrary text: modules loaded=1 checked=0\n' "$crate"
+        printf 'crate %s: modules loaded=1 checked=0\naxioms std: none reached of the 2 declared\nlogic=proved functions=1\n' "$crate"
+    done >"$work/says"
+    check 'progress' 0 "$answer" 'proved laws (' run_sh "'$work/good'"
+    grep -qE '^proved refusals \([0-9]+ s\), 3 of ' "$work/err" || die 'progress: a crate that has not changed is not counted'
     crates=$(sed -n 's/.* of \([0-9]*\)$/\1/p' "$work/err" | sort -u)
+    grep -qE "^proved replay \([0-9]+ s\), $crates of $crates\$" "$work/err" || die 'progress: the last crate is not said'
+    ! has "$work/err" 'proved text' || die 'progress: a crate that has not changed is said'
     if [ "$crates" -le 1 ] || [ "$crates" -gt "$(grep -c '^[a-z].*:' crates.txt)" ]; then die "progress: '$crates' crates"; fi
-    mv "$copy/target/bin/replay" "$work/makes"
+    mv "$copy/$program" "$work/makes"
     check 'first build' 0 "$answer" "proving $crates crates" run_sh "'$work/good'"
-    rm -f "$copy/target/bin/replay" "$work/makes"
-    check 'no program' 1 '' 'target/bin/replay is missing' run_sh "'$work/good'"
-    printf 'rt: text NOT PROVED (exit 1, 3 s)\n' >"$work/says"
+    rm -f "$copy/$program" "$work/makes"
+    check 'no program' 1 '' "$program is missing" run_sh "'$work/good'"
+    printf 'rt: the library text did not build, so nothing above it was checked\n' >"$work/says"
     printf '1\n' >"$work/code"
-    check 'a failed build' 1 '' 'rt: text NOT PROVED' run_sh "'$work/good'"
-    has "$work/err" 'rt check replay' || die 'a failed build: what to do is not said'
+    check 'a failed build' 1 '' 'the library text did not build' run_sh "'$work/good'"
+    has "$work/err" 'crates/replay && rt run' || die 'a failed build: what to do is not said'
     : >"$work/says"
     printf '0\n' >"$work/code"
-    cp target/bin/replay "$copy/target/bin/"
+    cp "$program" "$copy/$program"
     check 'nothing to build' 0 "$answer" '' run_sh "'$work/good'"
 }
 
 # stand_in LINE..: a script in the place of the program.
 stand_in() {
-    rm -f "$copy/target/bin/replay"
-    printf '%s\n' '#!/bin/sh' "$@" >"$copy/target/bin/replay"
-    chmod +x "$copy/target/bin/replay"
+    rm -f "$copy/$program"
+    printf '%s\n' '#!/bin/sh' "$@" >"$copy/$program"
+    chmod +x "$copy/$program"
 }
 
 programs() {
@@ -150,20 +154,20 @@ programs() {
     check 'a program that stops' 1 '' 'replay: cannot write to standard output; see' run_sh "'$work/two'"
     stand_in 'kill -KILL $$'
     check 'a program that is ended' 1 '' 'ended with status 137' run_sh "'$work/two'"
-    cp target/bin/replay "$copy/target/bin/"
+    cp "$program" "$copy/$program"
 }
 
 replay_sh() {
-    bash -c "target/bin/replay $1"
+    bash -c "$program $1"
 }
 
-# The program has no exit status: what it says on standard error stands in for one.
+# The program says on standard error that it could not read or write, and ends with 1.
 replay_itself() {
-    check 'replay, input closed' 0 '' 'replay: cannot read standard input' replay_sh '<&-'
-    check 'replay, input a folder' 0 '' 'replay: cannot read standard input' replay_sh '<tools'
+    check 'replay, input closed' 1 '' 'replay: cannot read standard input' replay_sh '<&-'
+    check 'replay, input a folder' 1 '' 'replay: cannot read standard input' replay_sh '<tools'
     check 'replay, no input' 0 '' '' replay_sh '</dev/null'
-    check 'replay, output closed' 0 '' 'replay: cannot write to standard output' replay_sh "<'$work/good' >&-"
-    check 'replay, output full' 0 '' 'replay: cannot write to standard output' replay_sh "<'$work/many' >/dev/full"
+    check 'replay, output closed' 1 '' 'replay: cannot write to standard output' replay_sh "<'$work/good' >&-"
+    check 'replay, output full' 1 '' 'replay: cannot write to standard output' replay_sh "<'$work/many' >/dev/full"
     [ "$(wc -l <"$work/err")" -eq 1 ] || die 'replay, output full: it goes on after a failed write'
 }
 
@@ -210,7 +214,7 @@ stored() {
     count=$((count + 1))
 }
 
-[ -x target/bin/replay ] || die 'target/bin/replay is not there; build it by ./run or rt check replay'
+[ -x "$program" ] || die "$program is not there; build it by ./run or rt ci"
 [ -f crates/refusals/src/lib.rt ] || die 'crates/refusals/src/lib.rt is not there; it names the refusals'
 make_copy
 for group in calls inputs outputs tools_missing builds programs replay_itself faults numbers bad_rates jobs steps ranges windows axes_listed refusals stored; do
