@@ -161,13 +161,13 @@ replay_sh() {
     bash -c "$program $1"
 }
 
-# The program says on standard error that it could not read or write, and ends with 1.
+# The program has no exit status: what it says on standard error stands in for one.
 replay_itself() {
-    check 'replay, input closed' 1 '' 'replay: cannot read standard input' replay_sh '<&-'
-    check 'replay, input a folder' 1 '' 'replay: cannot read standard input' replay_sh '<tools'
+    check 'replay, input closed' 0 '' 'replay: cannot read standard input' replay_sh '<&-'
+    check 'replay, input a folder' 0 '' 'replay: cannot read standard input' replay_sh '<tools'
     check 'replay, no input' 0 '' '' replay_sh '</dev/null'
-    check 'replay, output closed' 1 '' 'replay: cannot write to standard output' replay_sh "<'$work/good' >&-"
-    check 'replay, output full' 1 '' 'replay: cannot write to standard output' replay_sh "<'$work/many' >/dev/full"
+    check 'replay, output closed' 0 '' 'replay: cannot write to standard output' replay_sh "<'$work/good' >&-"
+    check 'replay, output full' 0 '' 'replay: cannot write to standard output' replay_sh "<'$work/many' >/dev/full"
     [ "$(wc -l <"$work/err")" -eq 1 ] || die 'replay, output full: it goes on after a failed write'
 }
 
