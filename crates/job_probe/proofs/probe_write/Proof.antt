@@ -21,7 +21,7 @@ job_of s = record { sizes = s.args.sizes.now; strides = s.args.strides.now; base
 -- the writer's answer and the buffer behind it, over the arguments themselves
 answered : (c : tie.After-write_job-written) → let s = c.before.before.before.before in
     (c.write_job-written.result ≡ write_of (job_of s) (length s.args.out.now))
-    × (c.write_job-written.new.1.1.1.1.1.0 ≡ write_buffer (job_of s) s.args.out.now)
+    × (c.write_job-written.new.out ≡ write_buffer (job_of s) s.args.out.now)
 answered c = simp (to_z-of_z c.ranges.base) at c.write_job-written.ensures
 
 write_job-written-requires : tie.Need-write_job-written-requires

@@ -215,8 +215,8 @@ next_piece-q-requires-else-n-lt2 c κs =
     let s = from-loop k in
     let a = ahead e in
     let o = on-last s.args.l s.requires.0 s.args.base s.requires.1 s.args.end k.loop-c.c
-    (strip-cursor-is e) e.whole_runs-n.result a.0 a.1 a.2 a.3 (omega (arith, e.if-n-lt2.false)) c.Skip-runs.result
-    c.Skip-runs.ensures in
+    (strip-cursor-is e) e.whole_runs-n.result a.0 a.1 a.2 a.3 (omega (arith, e.if-n-lt2.false)) c.skip_runs-last.result
+    c.skip_runs-last.ensures in
     (s.requires.0, o.0, o.1)
 
 -- the strip, from the piece of its last run; and the cursor behind that
@@ -233,7 +233,7 @@ behind c =
     let a = ahead e in
     behind-strip s.args.l s.requires.0 s.args.base s.requires.1 s.args.end k.loop-c.c
     (strip-cursor-is e)
-    e.whole_runs-n.result a.0 a.1 a.2 a.3 (omega (arith, e.if-n-lt2.false)) c.Skip-runs.result c.Skip-runs.ensures
+    e.whole_runs-n.result a.0 a.1 a.2 a.3 (omega (arith, e.if-n-lt2.false)) c.skip_runs-last.result c.skip_runs-last.ensures
     c.next_piece-q-else-n-lt2.result c.next_piece-q-else-n-lt2.ensures
 
 loop-c-smaller : tie.Need-loop-c-smaller invariant-loop-c decreases-loop-c
