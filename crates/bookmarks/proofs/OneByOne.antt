@@ -84,13 +84,11 @@ module _ (l : FullTraversal) (base : ℤ) (values : List Float) (end : ℕ) (c :
       ∙ ap (joined_within acc) (sym t.pieces) ∙ s.rest
 
   -- a refusal is the whole answer
-  pub joining-refused : OneOf (1 ∷ []) (tag_of the_type r) → answer_of r ≡ whole
-  joining-refused h = go r h next
-    where
-      go : (r : Reduced) → OneOf (1 ∷ []) (tag_of the_type r)
-          → and_then (answer_of r) (λ (a : StableProductFloatAcc). joined_within a (pieces_of l base values p.next.at end)) ≡ whole → answer_of r ≡ whole
-      go (Acc a) h q = let z : ◌≡◌ {A = ℕ} 0 1 = h in absurd (omega arith)
-      go (Refused n) h q = q
+  pub joining-refused : (n : ℕ) → r ≡ Refused n → answer_of r ≡ whole
+  joining-refused n e =
+      subst
+      (λ (x : Reduced). and_then (answer_of x) (λ (a : StableProductFloatAcc). joined_within a (pieces_of l base values p.next.at end)) ≡ whole → answer_of x ≡ whole)
+      (sym e) (λ q. q) next
 
   pub joining-more : (a : StableProductFloatAcc) → r ≡ Acc a → Joining l base values end whole a p.next
   joining-more a g =

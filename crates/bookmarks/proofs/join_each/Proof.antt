@@ -104,19 +104,18 @@ enum_told-1 c = search rules
 
 returns-in_default : tie.Need-returns-in_default invariant-loop-c decreases-loop-c
 returns-in_default c =
-    let m = c.before in
-    let j = m.before in
+    let j = c.before in
     let w = j.before in
-    let n = w.before.before in
-    let k = n.before.before.before in
-    let s = from-loop k in
-    let p = next-taken n in
-    joining-refused s.args.l s.args.base s.args.values.now s.args.end k.loop-c.c n.next_piece-p.result p w.reduce_piece-b.result
-    (piece-worked w) (loop-told k).shared_slice_known-1.given (omega (arith, p.ends, s.requires.3, s.requires.4)) (whole k) k.loop-c.acc (joining k)
-    j.join-r.result j.join-r.ensures m.in-Acc.keys2
+    let n = w.before in
+    let k = n.before.before in
+    let s = from-loop k.before.before in
+    let p = next-taken n.before in
+    joining-refused s.args.l s.args.base s.args.values.now s.args.end k.loop-c.c n.next_piece-p.result p j.reduce_piece-b.result
+    (piece-worked w) (loop-told k.before.before).shared_slice_known-1.given (omega (arith, p.ends, s.requires.3, s.requires.4)) (whole k.before.before) k.loop-c.acc (joining k.before.before)
+    c.join-r.result c.join-r.ensures c.in_default.field-0 c.in_default.is
 
 abbrev at_join : tie.After-c-1 invariant-loop-c decreases-loop-c → tie.After-join-r invariant-loop-c decreases-loop-c
-at_join c = c.before.before.before.before
+at_join c = c.before.before
 
 loop-c-smaller : tie.Need-loop-c-smaller invariant-loop-c decreases-loop-c
 loop-c-smaller c =
@@ -135,7 +134,7 @@ loop-c-preserved c =
     simp (to_z-of_z s.ranges.base)
     (joining-more s.args.l s.args.base s.args.values.now s.args.end k.loop-c.c n.next_piece-p.result p w.reduce_piece-b.result
     (piece-worked w) (loop-told k).shared_slice_known-1.given (omega (arith, p.ends, s.requires.3, s.requires.4)) (whole k) k.loop-c.acc (joining k)
-    j.join-r.result j.join-r.ensures c.r-1.given.0.0 c.r-1.given.1)
+    j.join-r.result j.join-r.ensures c.in-Acc.a c.in-Acc.is)
 
 returns : tie.Need-returns invariant-loop-c decreases-loop-c
 returns c =

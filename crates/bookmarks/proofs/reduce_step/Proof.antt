@@ -99,12 +99,12 @@ reduce_portion-answer-requires : tie.Need-reduce_portion-answer-requires
 reduce_portion-answer-requires c κs =
     let e = c.before in
     let f = e.before in
-    let a = accepted f.before in
-    let m = marked e in
+    let a = accepted f.before.before in
+    let m = marked e.before in
     let len = run-some f.compile-compiled.result.traversal a.traversal in
     let stop = c.portion_from-p.ensures.0 in
-    let forward = stop-forward _ f.args.end f.args.mark.next len (below e) f.args.n m.some_piece in
-    let upto = stop-upto _ f.args.end f.args.mark.next len (below e) f.args.n in
+    let forward = stop-forward _ f.args.end f.args.mark.next len (below e.before) f.args.n m.some_piece in
+    let upto = stop-upto _ f.args.end f.args.mark.next len (below e.before) f.args.n in
     simp (to_z-of_z f.ranges.base) (
       a.traversal,
       a.bounded,
@@ -125,8 +125,8 @@ returns c =
     let p = r.before in
     let e = p.before in
     let f = e.before in
-    let a = accepted f.before in
-    let m = marked e in
+    let a = accepted f.before.before in
+    let m = marked e.before in
     let l = f.compile-compiled.result.traversal in
     let at = f.args.mark.next in
     let first = eqb at f.args.start in
@@ -136,18 +136,18 @@ returns c =
     (simp (to_z-of_z f.ranges.base) at r.reduce_portion-answer.ensures)
     ∙ ap (portion_of first f.args.mark.acc)
     (ap (pieces_of l f.args.base f.args.values.now at) stop
-    ∙ sym (portion-pieces l a.traversal f.args.base a.bounded f.args.values.now f.args.end f.args.n at m.some_piece (below e))) in
+    ∙ sym (portion-pieces l a.traversal f.args.base a.bounded f.args.values.now f.args.end f.args.n at m.some_piece (below e.before))) in
     c.tell.ensures
     ∙ ap (told f.args.end p.portion_from-p.result.stop p.portion_from-p.result.pieces) worked
     ∙ ap (λ (k : ℕ). told f.args.end k p.portion_from-p.result.pieces (portion_of first f.args.mark.acc ps))
-    (stop ∙ sym (portion-stop l a.traversal f.args.base a.bounded f.args.values.now f.args.end f.args.n at m.some_piece (below e)))
+    (stop ∙ sym (portion-stop l a.traversal f.args.base a.bounded f.args.values.now f.args.end f.args.n at m.some_piece (below e.before)))
     ∙ ap (λ (k : ℕ). told f.args.end (at + length (rates_of ps)) k (portion_of first f.args.mark.acc ps))
     (p.portion_from-p.ensures.1
-    ∙ sym (portion-count l a.traversal f.args.base a.bounded f.args.values.now f.args.end f.args.n at m.some_piece (below e)))
+    ∙ sym (portion-count l a.traversal f.args.base a.bounded f.args.values.now f.args.end f.args.n at m.some_piece (below e.before)))
     ∙ ap (λ (l : FullTraversal). let ps = pieces_from l f.args.base f.args.values.now f.args.end f.args.n at in
     told f.args.end (at + length (rates_of ps)) (length ps) (portion_of first f.args.mark.acc ps)) a.is
     ∙ sym (step-tells f.args.sizes.now f.args.strides.now f.args.base f.args.start f.args.end f.args.values.now f.args.mark
-    f.args.n (code-none e) _ _ refl refl)
+    f.args.n (code-none e.before) _ _ refl refl)
 
 pub reduce_step_spec : {M : Type 1} → statement M
 reduce_step_spec = tie.close (tie.spec compile-compiled-requires range_code-code-requires returns-then-code-ne0 step_code-fault-requires returns-then-fault-ne0 portion_from-p-requires reduce_portion-answer-requires tell-requires returns)

@@ -42,7 +42,7 @@ returns-then-in_limits c =
     let b = e.before in
     rw (
       ne_eqb b.args.n 0 b.if-n-eq0.false,
-      begins b,
+      begins b.before,
       ne_eqb b.args.mark.next b.args.start e.if-at-start.false,
       sym i.in_limits.ensures ∙ c.if-in_limits.true,
     )
@@ -55,7 +55,7 @@ returns c =
     let b = e.before in
     rw (
       ne_eqb b.args.n 0 b.if-n-eq0.false,
-      begins b,
+      begins b.before,
       ne_eqb b.args.mark.next b.args.start e.if-at-start.false,
       sym i.in_limits.ensures ∙ c.if-in_limits.false,
     )

@@ -24,16 +24,14 @@ told c = simp (to_z-of_z c.ranges.e) at c.finish-answer.ensures
 returns-in-Number : tie.Need-returns-in-Number
 unfolding number_code number_given
 returns-in-Number c =
-    let a = c.before in
-    let t = sym (ap final_answer_of a.answer-1.given.1) ∙ told a.before.before in
-    (ap number_code t, ap (number_given a.args.number.now) t)
+    let t = sym (ap final_answer_of c.in-Number.is) ∙ told c.before in
+    (ap number_code t, ap (number_given c.args.number.now) t)
 
 returns-in-Refused : tie.Need-returns-in-Refused
 unfolding number_code number_given
 returns-in-Refused c =
-    let a = c.before in
-    let t = sym (ap final_answer_of a.answer-in-Refused-1.given.1) ∙ told a.before.before in
-    (ap number_code t, ap (number_given a.args.number.now) t)
+    let t = sym (ap final_answer_of c.in-Refused.is) ∙ told c.before in
+    (ap number_code t, ap (number_given c.args.number.now) t)
 
 pub probe_finish_spec : {M : Type 1} → statement M
 probe_finish_spec = tie.close (tie.spec finish-answer-requires enum_known-answer enum_known-answer-in-Refused-1 returns-in-Number returns-in-Refused)

@@ -20,25 +20,23 @@ enum_known-answer-in-Refused-1 c = search rules
 
 -- the join's answer, over the arguments themselves
 abbrev answer-of : tie.Start → Answer
-answer-of s = joined (handed_in s.args.left-m s.args.left-e s.args.left-bad) (handed_in s.args.right-m s.args.right-e s.args.right-bad)
+answer-of s = joined (handed_in s.args.left_m s.args.left_e s.args.left_bad) (handed_in s.args.right_m s.args.right_e s.args.right_bad)
 
 told : (c : tie.After-join-answer) → answer_of c.join-answer.result ≡ answer-of c.before
-told c = simp (to_z-of_z c.ranges.left-e, to_z-of_z c.ranges.right-e) at c.join-answer.ensures
+told c = simp (to_z-of_z c.ranges.left_e, to_z-of_z c.ranges.right_e) at c.join-answer.ensures
 
 returns-in-Acc : tie.Need-returns-in-Acc
 unfolding code_given m_given e_given bad_given
 returns-in-Acc c =
-    let a = c.before.before in
-    let t = sym (ap answer_of a.answer-1.given.1) ∙ told a.before.before in
-    let fits : SFits w64 a.answer-1.given.0.0.e = record { sfits = c.struct_told-1.given.1.0.1 } in
-    (ap code_given t, (ap (m_given a.args.m.now) t, (to_z-of_z fits ∙ ap (e_given a.args.e.now) t, ap (bad_given a.args.bad.now) t)))
+    let t = sym (ap answer_of c.in-Acc.is) ∙ told c.before.before in
+    let fits : SFits w64 c.in-Acc.a.e = record { sfits = c.struct_told-1.given.1.0.1 } in
+    (ap code_given t, (ap (m_given c.args.m.now) t, (to_z-of_z fits ∙ ap (e_given c.args.e.now) t, ap (bad_given c.args.bad.now) t)))
 
 returns-in-Refused : tie.Need-returns-in-Refused
 unfolding code_given m_given e_given bad_given
 returns-in-Refused c =
-    let a = c.before in
-    let t = sym (ap answer_of a.answer-in-Refused-1.given.1) ∙ told a.before.before in
-    (ap code_given t, (ap (m_given a.args.m.now) t, (ap (e_given a.args.e.now) t, ap (bad_given a.args.bad.now) t)))
+    let t = sym (ap answer_of c.in-Refused.is) ∙ told c.before in
+    (ap code_given t, (ap (m_given c.args.m.now) t, (ap (e_given c.args.e.now) t, ap (bad_given c.args.bad.now) t)))
 
 pub probe_join_spec : {M : Type 1} → statement M
 probe_join_spec = tie.close (tie.spec join-answer-requires enum_known-answer enum_known-answer-in-Refused-1 returns-in-Acc returns-in-Refused)

@@ -37,11 +37,11 @@ returns-then-not-fit c =
     let s = entry c.before in
     code-16 s.args.sizes.now s.args.strides.now s.args.base s.args.starts.now s.args.ends.now s.args.len
     (not s.args.fit)
-    (cleared c.before) c.if-not-fit.true
+    (cleared c.before) (ap not c.if-not-fit.true)
 
 -- ---- 5 and 6
 each_code-fault-requires : tie.Need-each_code-fault-requires
-each_code-fault-requires c κs = let s = entry c.before in s.requires.2 (not-false s.args.fit c.if-not-fit.false)
+each_code-fault-requires c κs = let s = entry c.before in s.requires.2 c.if-not-fit.false
 
 each-is : (c : tie.After-each_code-fault) → let s = entry c.before.before in
     c.each_code-fault.result
@@ -60,7 +60,7 @@ returns-then-fault-ne0 c =
     e
     ∙ code-each s.args.sizes.now s.args.strides.now s.args.base s.args.starts.now s.args.ends.now s.args.len
     (not s.args.fit)
-    (cleared t.before) t.if-not-fit.false (λ z. c.if-fault-ne0.true (e ∙ z))
+    (cleared t.before) (ap not t.if-not-fit.false) (λ z. c.if-fault-ne0.true (e ∙ z))
 
 -- ---- 7
 place_code-requires : tie.Need-place_code-requires
@@ -75,7 +75,7 @@ returns c =
     (simp (to_z-of_z s.ranges.base) at c.place_code.ensures)
     ∙ code-places s.args.sizes.now s.args.strides.now s.args.base s.args.starts.now s.args.ends.now s.args.len
     (not s.args.fit)
-    (cleared t.before) t.if-not-fit.false (sym (each-is f) ∙ n.if-fault-ne0.false)
+    (cleared t.before) (ap not t.if-not-fit.false) (sym (each-is f) ∙ n.if-fault-ne0.false)
 
 pub ranges_code_spec : {M : Type 1} → statement M
 ranges_code_spec = tie.close (tie.spec returns-then-refusal-ne0 returns-then-not-fit each_code-fault-requires returns-then-fault-ne0 place_code-requires returns)

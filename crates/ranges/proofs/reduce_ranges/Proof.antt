@@ -91,19 +91,19 @@ from-loop k = from-code k.before.before
 
 -- the place lies in both lists, and their bytes are numbered
 below : (c : tie.In-loop-i invariant-loop-i decreases-loop-i) → c.loop-i.i < length (from-loop c.before).args.starts.now
-below c = omega (arith, (allowed c.before.before).ranges.same, c.loop-i-test.true)
+below c = omega (arith, (allowed c.before.before).fits.same, c.loop-i-test.true)
 
 numbered : (c : tie.In-loop-i invariant-loop-i decreases-loop-i) → c.loop-i.i * 8 + 8 ≤ 2 ^ 63
 numbered c = omega (arith, c.loop-i-test.true, (from-loop c.before).well_formed.0.1)
 
 offset_bounds-starts-i : tie.Need-offset_bounds-starts-i invariant-loop-i decreases-loop-i
-offset_bounds-starts-i c = omega (arith, numbered c)
+offset_bounds-starts-i c = omega (arith, numbered c.before)
 
 bounds-starts-i : tie.Need-bounds-starts-i invariant-loop-i decreases-loop-i
-bounds-starts-i c = below c.before
+bounds-starts-i c = below c.before.before
 
 offset_bounds-ends-i : tie.Need-offset_bounds-ends-i invariant-loop-i decreases-loop-i
-offset_bounds-ends-i c = omega (arith, numbered c.before)
+offset_bounds-ends-i c = omega (arith, numbered c.before.before)
 
 bounds-ends-i : tie.Need-bounds-ends-i invariant-loop-i decreases-loop-i
 bounds-ends-i c = c.loop-i-test.true
@@ -122,8 +122,8 @@ ready-here c =
 reduce_full_range-acc-requires : tie.Need-reduce_full_range-acc-requires invariant-loop-i decreases-loop-i
 reduce_full_range-acc-requires c κs =
     let i = c.before.before in
-    let s = from-loop i.before in
-    let r = ready-here i in
+    let s = from-loop i.before.before in
+    let r = ready-here i.before in
     simp (to_z-of_z s.ranges.base) (r.traversal, r.bounded, r.forward, r.inside, r.few, r.within)
 
 -- the buffers keep their lengths
@@ -147,25 +147,25 @@ module _ (k : tie.At-loop-i invariant-loop-i decreases-loop-i) where
       length-wrote _ _ _ _ _ acc-byte s.args.bads.now f.same f.room-bad k.loop-i.i k.loop-i.invariant.0 _ k.loop-i.invariant.3
 
 abbrev from_told : tie.After-struct_told-1 invariant-loop-i decreases-loop-i → tie.In-loop-i invariant-loop-i decreases-loop-i
-from_told c = c.before.before.before.before
+from_told c = c.before.before.before.before.before
 
 offset_bounds-ms-i : tie.Need-offset_bounds-ms-i invariant-loop-i decreases-loop-i
 offset_bounds-ms-i c = omega (arith, numbered (from_told c))
 
 bounds-ms-i : tie.Need-bounds-ms-i invariant-loop-i decreases-loop-i
-bounds-ms-i c = let i = from_told c in omega (arith, below i, long-m i.before, (allowed i.before.before).ranges.room-m)
+bounds-ms-i c = let i = from_told c in omega (arith, below i, long-m i.before, (allowed i.before.before).ranges.room_m)
 
 offset_bounds-es-i : tie.Need-offset_bounds-es-i invariant-loop-i decreases-loop-i
 offset_bounds-es-i c = omega (arith, numbered (from_told c))
 
 bounds-es-i : tie.Need-bounds-es-i invariant-loop-i decreases-loop-i
-bounds-es-i c = let i = from_told c in omega (arith, below i, long-e i.before, (allowed i.before.before).ranges.room-e)
+bounds-es-i c = let i = from_told c in omega (arith, below i, long-e i.before, (allowed i.before.before).ranges.room_e)
 
 bad_byte-requires : tie.Need-bad_byte-requires invariant-loop-i decreases-loop-i
 bad_byte-requires c κs = search rules
 
 bounds-bads-i : tie.Need-bounds-bads-i invariant-loop-i decreases-loop-i
-bounds-bads-i c = let i = from_told c.before in omega (arith, below i, long-bad i.before, (allowed i.before.before).ranges.room-bad)
+bounds-bads-i c = let i = from_told c.before in omega (arith, below i, long-bad i.before, (allowed i.before.before).ranges.room_bad)
 
 overflow_add-i : tie.Need-overflow_add-i invariant-loop-i decreases-loop-i
 overflow_add-i c = omega (arith, numbered (from_told c.before))

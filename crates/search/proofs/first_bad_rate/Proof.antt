@@ -44,14 +44,14 @@ returns-then-code-ne0 c =
 
 first_in_range-r-requires : tie.Need-first_in_range-r-requires
 first_in_range-r-requires c κs =
-    let a = accepted c in
+    let a = accepted c.before in
     simp (to_z-of_z c.ranges.base) (a.traversal, a.bounded, a.forward, a.inside, a.few, a.within)
 
 -- what was told of the range
 told : (c : tie.After-first_in_range-r) → look_answer c.first_in_range-r.result
     ≡ search_of c.args.sizes.now c.args.strides.now c.args.base c.args.start c.args.end c.args.values.now
 told c =
-    let a = accepted c.before in
+    let a = accepted c.before.before in
     simp (to_z-of_z c.ranges.base) at c.first_in_range-r.ensures
     ∙ ap (lowest_bad c.args.values.now c.args.start) (a.offsets (c.args.end - c.args.start) c.args.start)
     ∙ sym (search-accepted c.args.sizes.now c.args.strides.now c.args.base c.args.start c.args.end c.args.values.now a.code)

@@ -177,7 +177,7 @@ apart : (c : tie.Then-i-vectors invariant-loop-i decreases-loop-i) → let m = c
 apart c =
     let m = c.before.before.before in
     let long : 2048 < all (s m) = (let h = whole m c.if-i-vectors.true in let z = c.if-i-vectors.true in omega arith) in
-    to_z-of_z (record { sfits = (t m).far_stride-apart.type_inv }) ∙ (t m).far_stride-apart.ensures long
+    to_z-of_z {w = w64} (record { sfits = (t m).far_stride-apart.type_inv }) ∙ (t m).far_stride-apart.ensures long
 
 -- the place of the next chunk, which holds a value
 next : (c : tie.Then-i-vectors invariant-loop-i decreases-loop-i) → let m = c.before.before.before in
