@@ -51,7 +51,7 @@ returns-then-code-ne0 c =
 
 reduce_full_range-acc-requires : tie.Need-reduce_full_range-acc-requires
 reduce_full_range-acc-requires c κs =
-    let a = accepted c in
+    let a = accepted c.before in
     simp (to_z-of_z c.ranges.base) (a.traversal, a.bounded, a.forward, a.inside, a.few, a.within)
 
 -- the reduction's accumulator is the range's
@@ -60,12 +60,12 @@ reduced : (c : tie.After-reduce_full_range-acc) → c.reduce_full_range-acc.resu
 reduced c =
     let b = c.before in
     simp (to_z-of_z b.ranges.base) at c.reduce_full_range-acc.ensures
-    ∙ ap (λ (l : FullTraversal). joined_pieces (pieces_of l b.args.base b.args.values.now b.args.start b.args.end)) (accepted b).is
+    ∙ ap (λ (l : FullTraversal). joined_pieces (pieces_of l b.args.base b.args.values.now b.args.start b.args.end)) (accepted b.before).is
 
 ordered_full_range-number-requires : tie.Need-ordered_full_range-number-requires
 ordered_full_range-number-requires c κs =
     let e = c.before.before in
-    let a = accepted e in
+    let a = accepted e.before.before in
     simp (to_z-of_z e.ranges.base) (a.traversal, a.bounded, a.forward, a.inside, a.few, a.within)
 
 returns-then-acc : tie.Need-returns-then-acc
@@ -75,13 +75,13 @@ returns-then-acc c =
     let b = r.before in
     let m = b.before.before in
     let k = m.before in
-    let a = accepted b in
+    let a = accepted b.before.before in
     let made = simp (to_z-of_z k.ranges.base) at c.ordered_full_range-number.ensures in
     ap value (made
     ∙ ordered-accepted k.args.sizes.now k.args.strides.now k.args.base k.args.start k.args.end k.args.values.now
     k.shared_slice_known-2-1.given m.compile-compiled.result.traversal a)
     ∙ sym (figure-bad k.args.sizes.now k.args.strides.now k.args.base k.args.start k.args.end k.args.values.now a.code
-    (sym (ap (λ (x : StableProductFloatAcc). x.bad) (reduced r)) ∙ t.if-acc.true))
+    (sym (ap (λ (x : StableProductFloatAcc). x.bad) (reduced r.before)) ∙ t.if-acc.true))
 
 finish-requires : tie.Need-finish-requires
 finish-requires c κs = search rules
@@ -92,7 +92,7 @@ returns c =
     let r = t.before in
     let b = r.before in
     let k = b.before.before.before in
-    let a = accepted b in
+    let a = accepted b.before in
     let v = values-fit k.args.values.now k.shared_slice_known-2-1.given in
     let d = rule-D3 k.args.sizes.now k.args.strides.now k.args.base k.args.start k.args.end k.args.values.now v a.code in
     let o = rule-O4 k.args.sizes.now k.args.strides.now k.args.base k.args.start k.args.end k.args.values.now v a.code in

@@ -29,17 +29,15 @@ enum_known-answer-in-Refused-1 c = search rules
 returns-in-Acc : tie.Need-returns-in-Acc
 unfolding code_given m_given e_given bad_given
 returns-in-Acc c =
-    let a = c.before.before in
-    let t = sym (ap answer_of a.answer-1.given.1) ∙ answered a.before.before in
-    let fits : SFits w64 a.answer-1.given.0.0.e = record { sfits = c.struct_told-1.given.1.0.1 } in
-    (ap code_given t, (ap (m_given a.args.m.now) t, (to_z-of_z fits ∙ ap (e_given a.args.e.now) t, ap (bad_given a.args.bad.now) t)))
+    let t = sym (ap answer_of c.in-Acc.is) ∙ answered c.before.before in
+    let fits : SFits w64 c.in-Acc.a.e = record { sfits = c.struct_told-1.given.1.0.1 } in
+    (ap code_given t, (ap (m_given c.args.m.now) t, (to_z-of_z fits ∙ ap (e_given c.args.e.now) t, ap (bad_given c.args.bad.now) t)))
 
 returns-in-Refused : tie.Need-returns-in-Refused
 unfolding code_given m_given e_given bad_given
 returns-in-Refused c =
-    let a = c.before in
-    let t = sym (ap answer_of a.answer-in-Refused-1.given.1) ∙ answered a.before.before in
-    (ap code_given t, (ap (m_given a.args.m.now) t, (ap (e_given a.args.e.now) t, ap (bad_given a.args.bad.now) t)))
+    let t = sym (ap answer_of c.in-Refused.is) ∙ answered c.before in
+    (ap code_given t, (ap (m_given c.args.m.now) t, (ap (e_given c.args.e.now) t, ap (bad_given c.args.bad.now) t)))
 
 pub probe_reduce_spec : {M : Type 1} → statement M
 probe_reduce_spec = tie.close (tie.spec reduce-answer-requires enum_known-answer enum_known-answer-in-Refused-1 returns-in-Acc returns-in-Refused)

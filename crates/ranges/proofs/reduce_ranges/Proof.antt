@@ -153,19 +153,19 @@ offset_bounds-ms-i : tie.Need-offset_bounds-ms-i invariant-loop-i decreases-loop
 offset_bounds-ms-i c = omega (arith, numbered (from_told c))
 
 bounds-ms-i : tie.Need-bounds-ms-i invariant-loop-i decreases-loop-i
-bounds-ms-i c = let i = from_told c in omega (arith, below i, long-m i.before, (allowed i.before.before).ranges.room_m)
+bounds-ms-i c = let i = from_told c in omega (arith, below i, long-m i.before, (allowed i.before.before).fits.room-m)
 
 offset_bounds-es-i : tie.Need-offset_bounds-es-i invariant-loop-i decreases-loop-i
 offset_bounds-es-i c = omega (arith, numbered (from_told c))
 
 bounds-es-i : tie.Need-bounds-es-i invariant-loop-i decreases-loop-i
-bounds-es-i c = let i = from_told c in omega (arith, below i, long-e i.before, (allowed i.before.before).ranges.room_e)
+bounds-es-i c = let i = from_told c in omega (arith, below i, long-e i.before, (allowed i.before.before).fits.room-e)
 
 bad_byte-requires : tie.Need-bad_byte-requires invariant-loop-i decreases-loop-i
 bad_byte-requires c κs = search rules
 
 bounds-bads-i : tie.Need-bounds-bads-i invariant-loop-i decreases-loop-i
-bounds-bads-i c = let i = from_told c.before in omega (arith, below i, long-bad i.before, (allowed i.before.before).ranges.room_bad)
+bounds-bads-i c = let i = from_told c.before in omega (arith, below i, long-bad i.before, (allowed i.before.before).fits.room-bad)
 
 overflow_add-i : tie.Need-overflow_add-i invariant-loop-i decreases-loop-i
 overflow_add-i c = omega (arith, numbered (from_told c.before))

@@ -29,26 +29,23 @@ enum_known-answer-in-Refused-1 c = search rules
 returns-in-Found : tie.Need-returns-in-Found
 unfolding search_code found_given element_given offset_given
 returns-in-Found c =
-    let a = c.before.before in
-    let t = sym (ap search_answer_of a.answer-1.given.1) ∙ answered a.before.before in
-    let fits : SFits w64 a.answer-1.given.0.0.offset = record { sfits = c.struct_told-1.given.1.0.1 } in (
+    let t = sym (ap search_answer_of c.in-Found.is) ∙ answered c.before.before in
+    let fits : SFits w64 c.in-Found.b.offset = record { sfits = c.struct_told-1.given.1.0.1 } in (
       ap search_code t,
-      (ap (found_given a.args.found.now) t, (ap (element_given a.args.element.now) t, to_z-of_z fits ∙ ap (offset_given a.args.offset.now) t)),
+      (ap (found_given c.args.found.now) t, (ap (element_given c.args.element.now) t, to_z-of_z fits ∙ ap (offset_given c.args.offset.now) t)),
     )
 
 returns-in-NoneBad : tie.Need-returns-in-NoneBad
 unfolding search_code found_given element_given offset_given
 returns-in-NoneBad c =
-    let a = c.before.before in
-    let t = sym (ap search_answer_of c.enum_told-1.given.1) ∙ answered a in
-    (ap search_code t, (ap (found_given a.args.found.now) t, (ap (element_given a.args.element.now) t, ap (offset_given a.args.offset.now) t)))
+    let t = sym (ap search_answer_of c.in-NoneBad.is) ∙ answered c.before in
+    (ap search_code t, (ap (found_given c.args.found.now) t, (ap (element_given c.args.element.now) t, ap (offset_given c.args.offset.now) t)))
 
 returns-in-Refused : tie.Need-returns-in-Refused
 unfolding search_code found_given element_given offset_given
 returns-in-Refused c =
-    let a = c.before in
-    let t = sym (ap search_answer_of a.answer-in-Refused-1.given.1) ∙ answered a.before.before in
-    (ap search_code t, (ap (found_given a.args.found.now) t, (ap (element_given a.args.element.now) t, ap (offset_given a.args.offset.now) t)))
+    let t = sym (ap search_answer_of c.in-Refused.is) ∙ answered c.before in
+    (ap search_code t, (ap (found_given c.args.found.now) t, (ap (element_given c.args.element.now) t, ap (offset_given c.args.offset.now) t)))
 
 pub probe_first_spec : {M : Type 1} → statement M
 probe_first_spec = tie.close (tie.spec first_bad_rate-answer-requires enum_known-answer enum_told-1 enum_known-answer-in-Refused-1 returns-in-Found returns-in-NoneBad returns-in-Refused)

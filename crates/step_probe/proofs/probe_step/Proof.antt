@@ -42,40 +42,31 @@ enum_known-answer-in-Refused-1 c = search rules
 returns-in-Done : tie.Need-returns-in-Done
 unfolding code_handed mark_handed pieces_handed done_handed
 returns-in-Done c =
-    let a = c.before.before in
-    let r = a.before.before in
-    let s = from-answer r in
-    let mark = bookmark_of s.args.next.now s.args.m.now s.args.e.now s.args.bad.now in
-    let acc = a.answer-1.given.0.0 in
-    let t = sym a.answer-1.given.1 ∙ answered r in
+    let mark = bookmark_of c.args.next.now c.args.m.now c.args.e.now c.args.bad.now in
+    let acc = c.in-Done.a in
+    let t = sym c.in-Done.is ∙ answered c.before.before in
     let fits : SFits w64 acc.e = record { sfits = c.struct_told-1.given.1.0.1 } in (
       ap code_handed t,
-      (ap (λ (z : ℤ). bookmark_of s.args.next.now acc.m z acc.bad) (to_z-of_z fits) ∙ ap (mark_handed mark) t, (ap (pieces_handed s.args.pieces.now) t, ap (done_handed s.args.done.now) t)),
+      (ap (λ (z : ℤ). bookmark_of c.args.next.now acc.m z acc.bad) (to_z-of_z fits) ∙ ap (mark_handed mark) t, (ap (pieces_handed c.args.pieces.now) t, ap (done_handed c.args.done.now) t)),
     )
 
 returns-in-More : tie.Need-returns-in-More
 unfolding code_handed mark_handed pieces_handed done_handed
 returns-in-More c =
-    let a = c.before.before.before in
-    let r = a.before.before in
-    let s = from-answer r in
-    let mark = bookmark_of s.args.next.now s.args.m.now s.args.e.now s.args.bad.now in
-    let to = a.answer-in-More-1.given.0.0 in
-    let t = sym a.answer-in-More-1.given.1 ∙ answered r in
+    let mark = bookmark_of c.args.next.now c.args.m.now c.args.e.now c.args.bad.now in
+    let to = c.in-More.to in
+    let t = sym c.in-More.is ∙ answered c.before.before.before in
     let fits : SFits w64 to.acc.e = record { sfits = c.struct_told-in-More-1.given.1.0.1 } in (
       ap code_handed t,
-      (ap (λ (z : ℤ). bookmark_of to.next to.acc.m z to.acc.bad) (to_z-of_z fits) ∙ ap (mark_handed mark) t, (ap (pieces_handed s.args.pieces.now) t, ap (done_handed s.args.done.now) t)),
+      (ap (λ (z : ℤ). bookmark_of to.next to.acc.m z to.acc.bad) (to_z-of_z fits) ∙ ap (mark_handed mark) t, (ap (pieces_handed c.args.pieces.now) t, ap (done_handed c.args.done.now) t)),
     )
 
 returns-in-Refused : tie.Need-returns-in-Refused
 unfolding code_handed mark_handed pieces_handed done_handed
 returns-in-Refused c =
-    let a = c.before in
-    let r = a.before.before in
-    let s = from-answer r in
-    let mark = bookmark_of s.args.next.now s.args.m.now s.args.e.now s.args.bad.now in
-    let t = sym a.answer-in-Refused-1.given.1 ∙ answered r in
-    (ap code_handed t, (ap (mark_handed mark) t, (ap (pieces_handed s.args.pieces.now) t, ap (done_handed s.args.done.now) t)))
+    let mark = bookmark_of c.args.next.now c.args.m.now c.args.e.now c.args.bad.now in
+    let t = sym c.in-Refused.is ∙ answered c.before in
+    (ap code_handed t, (ap (mark_handed mark) t, (ap (pieces_handed c.args.pieces.now) t, ap (done_handed c.args.done.now) t)))
 
 pub probe_step_spec : {M : Type 1} → statement M
 probe_step_spec = tie.close (tie.spec reduce_step-answer-requires enum_known-answer enum_known-answer-in-More-1 enum_known-answer-in-Refused-1 returns-in-Done returns-in-More returns-in-Refused)

@@ -19,6 +19,7 @@ use Rattle.windows.proofs.Calls.{told-refused, told-accepted}
 use Rattle.windows.proofs.Writing.{wrote, wrote-more, length-wrote, wrote-all}
 use Rattle.windows.proofs.reduce_windows.Statement.{statement}
 use Rattle.windows.proofs.reduce_windows.Tie as tie
+use Rattle.windows.proofs.reduce_windows.Lts.{then-i-eq0, else-i-eq0}
 
 abbrev invariant-loop-i : tie.invariant-loop-i
 invariant-loop-i values w ms₀ es₀ bads₀ code width count eight₀ i₀ ms es bads eight i =
@@ -55,7 +56,7 @@ allowed : (c : tie.Else-code-ne0 invariant-loop-i decreases-loop-i) → let s = 
 allowed c = accepted _ _ _ _ _ (sym c.windows_code-code.ensures ∙ c.if-code-ne0.false)
 
 overflow_sub-count : tie.Need-overflow_sub-count invariant-loop-i decreases-loop-i
-overflow_sub-count c = (allowed c).ranges
+overflow_sub-count c = (allowed c).fits
 
 overflow_add-count : tie.Need-overflow_add-count invariant-loop-i decreases-loop-i
 overflow_add-count c = let s = from-code c.before in omega (arith, s.well_formed.0.1)
@@ -85,15 +86,15 @@ had : (c : tie.Joined-i-eq0 invariant-loop-i decreases-loop-i) → let k = c.bef
 had c =
     let k = c.before.before in
     let vs = (from-loop k).args.values.now in
-    let w = (from-loop k).args.w in
+    let size = (from-loop k).args.w in
     let i = k.loop-i.i in
     elim c.if-i-eq0.branch [
-      | inl p ↦
-          subst (λ (x : Eight). x.ok ≡ true → EightWindows vs w (i - i % 8) x.v) (sym p.2)
-          (λ ok. subst (λ (at : ℕ). EightWindows vs w at p.1.result.v) (let e : i ≡ i - i % 8 = omega (arith, p.0.taken) in e) (p.1.ensures ok))
-      | inr q ↦
-          subst (λ (x : Eight). x.ok ≡ true → EightWindows vs w (i - i % 8) x.v) (sym q.1)
-          (k.loop-i.invariant.4 (let l : 0 < i % 8 = omega (arith, q.0.left) in l))
+        then-i-eq0 w ↦
+          subst (λ (x : Eight). x.ok ≡ true → EightWindows vs size (i - i % 8) x.v) (sym w.eight-is)
+          (λ ok. subst (λ (at : ℕ). EightWindows vs size at w.eight_at-eight.result.v) (let e : i ≡ i - i % 8 = omega (arith, w.if-i-eq0.true) in e) (w.eight_at-eight.ensures ok))
+      | else-i-eq0 w ↦
+          subst (λ (x : Eight). x.ok ≡ true → EightWindows vs size (i - i % 8) x.v) (sym w.eight-is)
+          (k.loop-i.invariant.4 (let l : 0 < i % 8 = omega (arith, w.if-i-eq0.false) in l))
     ]
 
 window_at-acc-requires : tie.Need-window_at-acc-requires invariant-loop-i decreases-loop-i
