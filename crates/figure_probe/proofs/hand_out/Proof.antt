@@ -15,16 +15,14 @@ enum_known-answer-in-Refused-1 c = search rules
 returns-in-Number : tie.Need-returns-in-Number
 unfolding number_code number_given
 returns-in-Number c =
-    let a = c.before in
-    let t = sym (ap final_answer_of a.answer-1.given.1) in
-    (ap number_code t, ap (number_given a.args.number.now) t)
+    let t = sym (ap final_answer_of c.in-Number.is) in
+    (ap number_code t, ap (number_given c.args.number.now) t)
 
 returns-in-Refused : tie.Need-returns-in-Refused
 unfolding number_code number_given
 returns-in-Refused c =
-    let a = c.before in
-    let t = sym (ap final_answer_of a.answer-in-Refused-1.given.1) in
-    (ap number_code t, ap (number_given a.args.number.now) t)
+    let t = sym (ap final_answer_of c.in-Refused.is) in
+    (ap number_code t, ap (number_given c.args.number.now) t)
 
 pub hand_out_spec : {M : Type 1} → statement M
 hand_out_spec = tie.close (tie.spec enum_known-answer enum_known-answer-in-Refused-1 returns-in-Number returns-in-Refused)

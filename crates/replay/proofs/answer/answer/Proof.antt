@@ -56,12 +56,6 @@ shape_of-out-then-same-2 c = search rules
 returns-then-same-2 : tie.Need-returns-then-same-2
 returns-then-same-2 c = search rules
 
-slice-aggregate-same-5 : tie.Need-slice-aggregate-same-5
-slice-aggregate-same-5 c = counts _ _ (search rules)
-
-slice-aggregate-same-6 : tie.Need-slice-aggregate-same-6
-slice-aggregate-same-6 c = search rules
-
 same-requires-3 : tie.Need-same-requires-3
 same-requires-3 c κs = search rules
 
@@ -76,12 +70,6 @@ shape_of-out-then-same-3 c = search rules
 
 returns-then-same-3 : tie.Need-returns-then-same-3
 returns-then-same-3 c = search rules
-
-slice-aggregate-same-7 : tie.Need-slice-aggregate-same-7
-slice-aggregate-same-7 c = counts _ _ (search rules)
-
-slice-aggregate-same-8 : tie.Need-slice-aggregate-same-8
-slice-aggregate-same-8 c = search rules
 
 same-requires-4 : tie.Need-same-requires-4
 same-requires-4 c κs = search rules

@@ -42,7 +42,7 @@ slice_bounds-answer_offsets-end c = counts _ _ (search rules)
 answer_offsets-requires : tie.Need-answer_offsets-requires
 answer_offsets-requires c κs =
     let call = c.read_i64s-b in
-    (omega (arith, at_most call.result.count call.new.1.1.0, call.ensures), search rules)
+    (omega (arith, at_most call.result.count call.new.out, call.ensures), search rules)
 
 shape_of-out : tie.Need-shape_of-out
 shape_of-out c = search rules

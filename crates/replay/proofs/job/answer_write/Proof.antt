@@ -48,7 +48,7 @@ slice_bounds-write_job-end c = counts _ _ (search rules)
 write_job-requires : tie.Need-write_job-requires
 write_job-requires c κs =
     let call = c.read_last_bytes-b in
-    (omega (arith, at_most call.result.count call.new.1.1.0, call.ensures), search rules)
+    (omega (arith, at_most call.result.count call.new.bytes, call.ensures), search rules)
 
 shape_of-out : tie.Need-shape_of-out
 shape_of-out c = search rules

@@ -48,9 +48,9 @@ slice_bounds-reduce_windows-end-3 c = counts _ _ (search rules)
 reduce_windows-requires : tie.Need-reduce_windows-requires
 reduce_windows-requires c κs =
     let call = c.read_buffers-n in (
-      omega (arith, at_most call.result.ms call.new.1.1.0, call.ensures.0),
-      omega (arith, at_most call.result.es call.new.1.1.1.0, call.ensures.1),
-      omega (arith, at_most call.result.bads call.new.1.1.1.1.0, call.ensures.2),
+      omega (arith, at_most call.result.ms call.new.ms, call.ensures.0),
+      omega (arith, at_most call.result.es call.new.es, call.ensures.1),
+      omega (arith, at_most call.result.bads call.new.bads, call.ensures.2),
       search rules,
     )
 
