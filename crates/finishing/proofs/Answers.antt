@@ -1,14 +1,9 @@
 -- The cases of `finished_of`. Assumes nothing.
 use mathlib.Core.Path.{◌≡◌, refl, sym, ap, ◌∙◌}
 use mathlib.Core.Bool.{Bool, true, false, not, cond}
-use mathlib.Core.List.{[], ◌∷◌}
 use Prim.Native.Nat.{ℕ}
-use native.Mathlib.Omega.{arith}
 use lib.Dec.{T, lit<}
 use lib.Ieee.{nan, binary64, fits, div, of_bits}
-use types.Run.{OneOf}
-use denote.Enum.Declared.{tag_of}
-use Rattle.accumulator.specs.contracts.Reduced.{the_type}
 use Rattle.accumulator.specs.declared.StableProductFloatAcc.{StableProductFloatAcc}
 use Rattle.accumulator.specs.declared.Reduced.{Reduced}
 use Rattle.accumulator.specs.declared.Reduced.TheVariants.{Acc, Refused}

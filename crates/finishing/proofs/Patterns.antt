@@ -1,15 +1,14 @@
 -- The patterns of the code: infinity, and a power of two by its exponent field. Assumes nothing.
 use mathlib.Core.Path.{◌≡◌, refl, sym, ap, ◌∙◌, subst}
-use mathlib.Core.Bool.{Bool, true, false, cond, not, ◌&&◌, ◌||◌}
-use Prim.Native.Nat.{ℕ, suc, ◌+◌, ◌-◌, ◌*◌, ◌/◌, ◌%◌, ◌^◌, ◌≤◌, ◌<◌}
+use mathlib.Core.Bool.{Bool, true, false, not, ◌||◌}
+use Prim.Native.Nat.{ℕ, suc, ◌+◌, ◌-◌, ◌*◌, ◌%◌, ◌^◌, ◌≤◌, ◌<◌}
 use native.Mathlib.Omega.{arith}
 use lib.IntN.{ℤ, pos, negsuc, nat_abs, ◌+ℤ◌}
 use lib.Signed.{lt_z, non_neg}
-use lib.Dec.{T, leb, eqb}
-use lib.Ieee.{Float, nan, inf, fin, binary64, minus, odd, eq, neg, of_bits, of_fields, nan_bits}
+use lib.Dec.{T}
+use lib.Ieee.{Float, nan, inf, fin, binary64, minus, eq, neg, of_bits, nan_bits}
 use mir.Syntax.{w64}
 use mir.Val.{SFits, Fits}
-use borrow.Author.Tests.{lt-leb, ne_eqb, leb-true, leb-false}
 use Rattle.integers.proofs.Difference.{ints, atoms, at-pos, at-neg}
 use Rattle.floats.proofs.Patterns.{minus_is, power-bits, power-number}
 use Rattle.integers.proofs.Machine.{nonneg_pos}

@@ -1,7 +1,6 @@
 -- Inner: what the functions under `finish` answer.
 use Rattle.std.specs.Prelude.{ℕ, Bool, true, false, Float}
 use Rattle.std.specs.Float.{nan, inf, fin}
-use Rattle.finishing.specs.declared.Finished.TheVariants as finished
 use Rattle.accumulator.specs.declared.Reduced.{Reduced}
 use Rattle.accumulator.specs.declared.Reduced.TheVariants.{Acc, Refused}
 

@@ -1,7 +1,6 @@
 -- Cases of splitting (rule A2): each row is an equation that holds by computing.
 use Rattle.std.specs.Prelude.{ℕ, ◌-◌, ◌^◌, ◌≡◌, Bool, true, false, ℤ, pos, negsuc, Float}
 use Rattle.std.specs.Float.{fin}
-use Rattle.floats.specs.declared.Split.{Split}
 use Rattle.floats.specs.Fields.{value_of}
 use Rattle.floats.specs.Splitting.{split}
 

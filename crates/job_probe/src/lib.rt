@@ -55,12 +55,12 @@ pub extern "C" fn probe_write(
     count: &mut usize,
 ) -> u32
     ensures value { result
-        ≡ (write_of (record { sizes = sizes.entry.now; strides = strides.now; base = base; start = start; end = end }) (length out.old)
+        ≡ (write_of (record { sizes = sizes.now; strides = strides.now; base = base; start = start; end = end }) (length out.old)
         ).code }
     ensures out_after { out.new
-        ≡ write_buffer (record { sizes = sizes.entry.now; strides = strides.now; base = base; start = start; end = end }) out.old }
+        ≡ write_buffer (record { sizes = sizes.now; strides = strides.now; base = base; start = start; end = end }) out.old }
     ensures count_after { count.new ≡ count_given count.old
-        (write_of (record { sizes = sizes.entry.now; strides = strides.now; base = base; start = start; end = end }) (length out.old)) }
+        (write_of (record { sizes = sizes.now; strides = strides.now; base = base; start = start; end = end }) (length out.old)) }
 {
     let written = jobs::writing::write_job(sizes, strides, base, start, end, &mut *out);
     if written.code != 0 {

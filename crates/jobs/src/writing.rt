@@ -41,7 +41,7 @@ fn axes_length(sizes: &[u64], strides: &[i64]) -> usize
 // How many bytes the job takes.
 fn job_length(sizes: &[u64], strides: &[i64], base: i64, start: u64, end: u64) -> usize
     requires { (length sizes.now ≡ length strides.now) × (length sizes.now ≤ PLACES) }
-    ensures { result ≡ length (job_bytes (record { sizes = sizes.entry.now; strides = strides.now; base = base; start = start; end = end })) }
+    ensures { result ≡ length (job_bytes (record { sizes = sizes.now; strides = strides.now; base = base; start = start; end = end })) }
 {
     let axes = axes_length(sizes, strides);
     let base = crate::numbers::bytes_of(crate::numbers::sent(base));
@@ -73,7 +73,7 @@ fn put_job(out: &mut [u8], sizes: &[u64], strides: &[i64], base: i64, start: u64
     requires { (length sizes.now ≡ length strides.now) × (length sizes.now ≤ PLACES)
         × (length (job_bytes (record { sizes = sizes.now; strides = strides.now; base = base; start = start; end = end })) ≤ length out.old) }
     ensures { out.new ≡ sets out.old 0
-        (job_bytes (record { sizes = sizes.entry.now; strides = strides.now; base = base; start = start; end = end })) }
+        (job_bytes (record { sizes = sizes.now; strides = strides.now; base = base; start = start; end = end })) }
 {
     let sent = crate::numbers::sent(base);
     let at = put_axes(&mut *out, sizes, strides);
@@ -93,9 +93,9 @@ pub fn write_job(
     out: &mut [u8],
 ) -> JobWritten
     ensures value { result
-        ≡ write_of (record { sizes = sizes.entry.now; strides = strides.now; base = base; start = start; end = end }) (length out.old) }
+        ≡ write_of (record { sizes = sizes.now; strides = strides.now; base = base; start = start; end = end }) (length out.old) }
     ensures out_after { out.new
-        ≡ write_buffer (record { sizes = sizes.entry.now; strides = strides.now; base = base; start = start; end = end }) out.old }
+        ≡ write_buffer (record { sizes = sizes.now; strides = strides.now; base = base; start = start; end = end }) out.old }
 {
     if sizes.len() != strides.len() {
         return refused(refusals::STRIDE_LENGTH_MISMATCH);

@@ -8,7 +8,7 @@ use lib.IntN.{ℤ, pos, negsuc, nat_abs, ◌+ℤ◌, +ℤ_idr, +ℤ_idl}
 use lib.Dec.{T}
 use lib.Ieee.{Float, fin, binary64, fits}
 use Rattle.integers.proofs.Places.{exponents}
-use Rattle.integers.proofs.Difference.{ints, atoms, is-diff, at-pos}
+use Rattle.integers.proofs.Difference.{is-diff, at-pos}
 use Rattle.floats.specs.Product.{product_of}
 use Rattle.floats.specs.Factor.{Factor, Normalised, NormalExponent, unit, carry, times, float_of}
 use Rattle.floats.specs.Magnitude.{with_exponent}

@@ -9,7 +9,6 @@ use lib.ListN.{length, take, drop, get_or, set, replicate, length-drop, drop_of_
 use lib.Seq.{get_or-take, length-take-le, drop-append-le}
 use lib.IntN.{ℤ, pos}
 use Rattle.layout.specs.declared.axis.ReduceOuterAxis.{ReduceOuterAxis}
-use Rattle.layout.specs.declared.traversal.FullTraversal.{FullTraversal}
 use Rattle.layout.specs.Axes.{PLACES, no_axis, axis_of, places_of, reset_fits, axes_in}
 use Rattle.layout.specs.InnerTables.{Whole, held}
 use Rattle.layout.specs.Order.{resets_fit}

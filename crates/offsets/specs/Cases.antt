@@ -1,6 +1,5 @@
 -- Two tables of layout cases. Each row is an equation that holds by computing.
 use Rattle.std.specs.Prelude.{ℕ, ◌^◌, ◌+◌, ◌*◌, ◌≡◌, List, [], ◌∷◌, map, replicate, ℤ, pos, negsuc}
-use Rattle.layout.specs.declared.traversal.Compiled.{Compiled}
 use Rattle.layout.specs.Axes.{PLACES}
 use Rattle.layout.specs.Compile.{empty_layout, compile_of}
 use Rattle.offsets.specs.Lists.{list_code, list_buffer}

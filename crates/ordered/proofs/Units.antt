@@ -16,7 +16,7 @@ use lib.Ieee.Bits.{of_bits-to_bits}
 use borrow.Author.Tests.{ne_eqb, eqb-false}
 use Rattle.floats.specs.Rounding.{ties_to_even, delivered}
 use Rattle.floats.specs.Product.{signs, bias}
-use Rattle.floats.specs.Fields.{sign_field, exp_field, fraction, pattern, of_parts, value_of}
+use Rattle.floats.specs.Fields.{sign_field, exp_field, fraction, of_parts, value_of}
 use Rattle.floats.proofs.Unique.{pattern-of, bits_are}
 use Rattle.floats.proofs.Powers.{up-sub}
 use Rattle.floats.proofs.Product.{signs-is}

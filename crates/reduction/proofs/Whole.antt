@@ -13,7 +13,6 @@ use Rattle.layout.specs.Axes.{PLACES}
 use Rattle.layout.specs.Order.{axes_of}
 use Rattle.layout.specs.Compile.{compile_of}
 use Rattle.floats.specs.Splitting.{is_bad}
-use Rattle.accumulator.specs.declared.StableProductFloatAcc.{StableProductFloatAcc}
 use Rattle.accumulator.specs.declared.Reduced.{Reduced}
 use Rattle.accumulator.specs.declared.Reduced.TheVariants.{Acc, Refused}
 use Rattle.accumulator.specs.Joining.{Answer, answer_of, accumulator, refusal}

@@ -1,6 +1,6 @@
 -- What is proved about reducing, each statement as a type that a proof inhabits (proofs/Whole, proofs/Reordered): rule D3 of every
 -- accepted range of every layout, and what the order of the input's axes is to the answer.
-use Rattle.std.specs.Prelude.{ℕ, ◌≡◌, Bool, true, false, List, length, T, ℤ, Float}
+use Rattle.std.specs.Prelude.{ℕ, ◌≡◌, true, false, List, length, T, ℤ, Float}
 use Rattle.std.specs.Float.{nan, binary64}
 use Rattle.std.specs.Float.Ieee.{fits}
 use Rattle.layout.specs.Axes.{PLACES}

@@ -5,7 +5,6 @@ use mathlib.Core.Bool.{true}
 use native.Mathlib.Nat.{lt_of_le_of_lt, lt_of_lt_of_le}
 use lib.Dec.{T, lit<, lit≤}
 use lib.IntN.{pos, ◌-ℤ◌}
-use lib.Ieee.{fits}
 use lib.Count.{count_leading_zeros}
 use Rattle.floats.specs.Fields.{sign_field, subnormal_bits}
 use Rattle.floats.specs.Splitting.{bits_of}

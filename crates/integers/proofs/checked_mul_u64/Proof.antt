@@ -8,7 +8,6 @@ use borrow.Author.Rules.{rules}
 use Rattle.integers.proofs.Machine.{narrow_u64-yes}
 use Rattle.integers.proofs.checked_mul_u64.Statement.{statement}
 use Rattle.integers.proofs.checked_mul_u64.Tie as tie
-use Rattle.integers.proofs.checked_mul_wide.Reads as checked-mul-wide-reads
 
 halves-fit : (a b : ℕ) → a ≤ 4294967295 → b ≤ 4294967295 → a * b < 2 ^ 64
 halves-fit a b h k = let m = mul-le-mul h k in omega arith

@@ -7,8 +7,6 @@ use borrow.Author.Rules.{rules}
 use Rattle.integers.proofs.Machine.{narrow_u64-yes, narrow_u64-no, product-over, product-fits-u64}
 use Rattle.integers.proofs.checked_mul_wide.Statement.{statement}
 use Rattle.integers.proofs.checked_mul_wide.Tie as tie
-use Rattle.integers.proofs.checked_mul_wide.Reads as reads
-use Rattle.integers.proofs.checked_mul_wide.Lts as lts
 
 returns-then-b-eq0 : tie.Need-returns-then-b-eq0
 returns-then-b-eq0 c = simp (c.if-b-eq0.true, mul-zero, narrow_u64-yes 0 (omega arith))

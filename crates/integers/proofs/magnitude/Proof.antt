@@ -7,8 +7,6 @@ use mir.Facts.{to_z-of_z}
 use Rattle.integers.proofs.Machine.{up_fits, turned-fits, turned, nat_abs-pos, nonneg_pos, nat_abs-fits, pos-fits}
 use Rattle.integers.proofs.magnitude.Statement.{statement}
 use Rattle.integers.proofs.magnitude.Tie as tie
-use Rattle.integers.proofs.magnitude.Reads as reads
-use Rattle.integers.proofs.magnitude.Lts as lts
 
 overflow_add-y : tie.Need-overflow_add-y
 overflow_add-y c = let f = c.ranges.x in rw (to_z-of_z f) (up_fits _ f (rw (to_z-of_z f) at c.if-x-lt0.true))

@@ -3,9 +3,6 @@ use mir.Facts.{to_z-of_z}
 use borrow.Author.Rules.{rules}
 use Rattle.probe.proofs.probe_list.Statement.{statement}
 use Rattle.probe.proofs.probe_list.Tie as tie
-use Rattle.probe.proofs.probe_list.Reads as reads
-use Rattle.probe.proofs.probe_list.Lts as lts
-use Rattle.offsets.proofs.list.offset_list.Reads as offset-list-reads
 
 offset_list-requires : tie.Need-offset_list-requires
 offset_list-requires c κs = search rules

@@ -9,9 +9,6 @@ use Rattle.reduction.specs.Ranges.{reduce_of}
 use Rattle.handed.specs.Answers.{code_given, m_given, e_given, bad_given}
 use Rattle.probe.proofs.probe_reduce.Statement.{statement}
 use Rattle.probe.proofs.probe_reduce.Tie as tie
-use Rattle.probe.proofs.probe_reduce.Reads as reads
-use Rattle.probe.proofs.probe_reduce.Lts as lts
-use Rattle.reduction.proofs.full.reduce.Reads as reduce-reads
 
 -- the reduction's answer, over the arguments themselves
 answered : (c : tie.After-reduce-answer) → answer_of c.reduce-answer.result ≡ reduce_of c.args.sizes.now c.args.strides.now c.args.base c.args.start c.args.end c.args.values.now

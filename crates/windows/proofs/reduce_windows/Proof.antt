@@ -11,7 +11,6 @@ use mir.Syntax.{w64}
 use borrow.Author.Rules.{rules}
 use Rattle.ranges.proofs.Writing.{acc-m, acc-e, acc-byte}
 use Rattle.windows.specs.Windows.{window_count, windows_answer}
-use mathlib.Core.Logic.{inl, inr}
 use Rattle.windows.specs.declared.eight.Eight.{Eight}
 use Rattle.windows.specs.InnerEight.{EightWindows}
 use Rattle.windows.proofs.Codes.{Accepted, accepted}
@@ -89,7 +88,7 @@ had c =
     let size = (from-loop k).args.w in
     let i = k.loop-i.i in
     elim c.if-i-eq0.branch [
-        then-i-eq0 w ↦
+      | then-i-eq0 w ↦
           subst (λ (x : Eight). x.ok ≡ true → EightWindows vs size (i - i % 8) x.v) (sym w.eight-is)
           (λ ok. subst (λ (at : ℕ). EightWindows vs size at w.eight_at-eight.result.v) (let e : i ≡ i - i % 8 = omega (arith, w.if-i-eq0.true) in e) (w.eight_at-eight.ensures ok))
       | else-i-eq0 w ↦

@@ -6,7 +6,6 @@ use lib.IntN.{ℤ, pos, neg_ℤ, ◌*ℤ◌, +ℤ_idl}
 use mir.Facts.{to_z-of_z}
 use borrow.Author.Rules.{rules}
 use Rattle.integers.proofs.Machine.{to_z-small}
-use Rattle.layout.specs.declared.axis.ReduceOuterAxis.{ReduceOuterAxis}
 use Rattle.layout.specs.Axes.{axis_of, span}
 use Rattle.layout.proofs.Resets.{last_fits, span_fits, turned-span-fits}
 use Rattle.layout.proofs.axis.with_reset.Statement.{statement}

@@ -19,10 +19,6 @@ use Rattle.layout.specs.InnerTables.{Whole, held, held_if}
 use Rattle.layout.proofs.Fusing.{Fused, fused-first, fused-more, fused-stop, fused-all}
 use Rattle.layout.proofs.fuse.compress_reduce_outer_axes.Statement.{statement}
 use Rattle.layout.proofs.fuse.compress_reduce_outer_axes.Tie as tie
-use Rattle.layout.proofs.fuse.compress_reduce_outer_axes.Reads as reads
-use Rattle.layout.proofs.fuse.compress_reduce_outer_axes.Lts as lts
-use Rattle.layout.proofs.axis.axis_at.Reads as axis-at-reads
-use Rattle.layout.proofs.fuse.fuse_next.Reads as fuse-next-reads
 
 abbrev invariant-loop-i : tie.invariant-loop-i
 invariant-loop-i extents₀ steps₀ count f₀ i₀ extents steps f i = Whole extents steps × Fused extents₀ steps₀ count extents steps f i

@@ -8,10 +8,6 @@ use native.Mathlib.Omega.{arith}
 use borrow.Author.Rules.{rules}
 use Rattle.layout.proofs.fuse.fuse_next.Statement.{statement}
 use Rattle.layout.proofs.fuse.fuse_next.Tie as tie
-use Rattle.layout.proofs.fuse.fuse_next.Reads as reads
-use Rattle.layout.proofs.fuse.fuse_next.Lts as lts
-use Rattle.layout.proofs.axis.no_axis.Reads as no-axis-reads
-use Rattle.layout.proofs.fuse.join_axes.Reads as join-axes-reads
 
 join_axes-j-requires : tie.Need-join_axes-j-requires
 join_axes-j-requires c κs = search rules

@@ -12,9 +12,6 @@ use Rattle.layout.specs.InnerAnswers.{checked_or}
 use Rattle.layout.proofs.Compiling.{total-more, total-over, total-all}
 use Rattle.layout.proofs.traversal.checked_total.Statement.{statement}
 use Rattle.layout.proofs.traversal.checked_total.Tie as tie
-use Rattle.layout.proofs.traversal.checked_total.Reads as reads
-use Rattle.layout.proofs.traversal.checked_total.Lts as lts
-use Rattle.integers.proofs.checked_mul_u64.Reads as checked-mul-u64-reads
 
 abbrev invariant-loop-i : tie.invariant-loop-i
 invariant-loop-i sizes total₀ i₀ total i = (i ≤ length sizes) × (total_from total (drop i sizes) ≡ total_of sizes)

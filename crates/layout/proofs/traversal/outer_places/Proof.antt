@@ -16,10 +16,6 @@ use Rattle.layout.specs.Axes.{PLACES, places_of, axis_of}
 use Rattle.layout.specs.InnerTables.{held}
 use Rattle.layout.proofs.traversal.outer_places.Statement.{statement}
 use Rattle.layout.proofs.traversal.outer_places.Tie as tie
-use Rattle.layout.proofs.traversal.outer_places.Reads as reads
-use Rattle.layout.proofs.traversal.outer_places.Lts as lts
-use Rattle.layout.proofs.axis.with_reset.Reads as with-reset-reads
-use Rattle.layout.proofs.axis.no_axis.Reads as no-axis-reads
 
 abbrev invariant-loop-i : tie.invariant-loop-i
 invariant-loop-i extents steps count places₀ i₀ places i = (1 ≤ i) × (i - 1 ≤ count - 1) × (places ≡ places_of PLACES (drop 1 (held i extents steps)))

@@ -7,7 +7,6 @@ use mir.Facts.{to_z-of_z}
 use mir.Syntax.{w64}
 use borrow.Author.Rules.{rules}
 use Rattle.layout.specs.declared.axis.ReduceOuterAxis.{ReduceOuterAxis}
-use Rattle.layout.specs.declared.traversal.FullTraversal.{FullTraversal}
 use Rattle.layout.proofs.Outer.{run_none, run-first}
 use Rattle.layout.proofs.traversal.with_run.Statement.{statement}
 use Rattle.layout.proofs.traversal.with_run.Tie as tie

@@ -17,9 +17,6 @@ use Rattle.offsets.proofs.Inside.{base-below, base-past, last-short, last-long}
 use borrow.Author.Rules.{rules}
 use Rattle.offsets.proofs.bounds.inside.Statement.{statement}
 use Rattle.offsets.proofs.bounds.inside.Tie as tie
-use Rattle.offsets.proofs.bounds.inside.Reads as reads
-use Rattle.offsets.proofs.bounds.inside.Lts as lts
-use Rattle.offsets.proofs.bounds.inside_from.Reads as inside-from-reads
 
 -- a base that is not negative
 whole : (c : tie.Else-base-lt0) → c.args.base ≡ pos (nat_abs c.args.base)

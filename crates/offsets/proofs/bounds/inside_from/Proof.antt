@@ -21,10 +21,6 @@ use Rattle.offsets.proofs.Stepping.{axes-at, axes-drop}
 use Rattle.offsets.proofs.Inside.{axes-from, Spanning, spanning-first, spanning-more, spanning-out, spanning-all}
 use Rattle.offsets.proofs.bounds.inside_from.Statement.{statement}
 use Rattle.offsets.proofs.bounds.inside_from.Tie as tie
-use Rattle.offsets.proofs.bounds.inside_from.Reads as reads
-use Rattle.offsets.proofs.bounds.inside_from.Lts as lts
-use Rattle.layout.proofs.axis.checked_reduce_reset.Reads as checked-reduce-reset-reads
-use Rattle.offsets.proofs.bounds.widen.Reads as widen-reads
 
 abbrev invariant-loop-i : tie.invariant-loop-i
 invariant-loop-i sizes strides base last s₀ i₀ s i = (i ≤ length sizes) × Spanning (axes_in sizes strides) (drop i (axes_in sizes strides)) base last s

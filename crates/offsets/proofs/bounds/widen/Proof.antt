@@ -7,10 +7,6 @@ use Rattle.offsets.proofs.Inside.{back-nowhere, back-widened, forth-nowhere, for
 use borrow.Author.Rules.{rules}
 use Rattle.offsets.proofs.bounds.widen.Statement.{statement}
 use Rattle.offsets.proofs.bounds.widen.Tie as tie
-use Rattle.offsets.proofs.bounds.widen.Reads as reads
-use Rattle.offsets.proofs.bounds.widen.Lts as lts
-use Rattle.integers.proofs.magnitude.Reads as magnitude-reads
-use Rattle.offsets.proofs.bounds.outside.Reads as outside-reads
 
 size : (c : tie.After-magnitude-p) → c.magnitude-p.result ≡ nat_abs c.args.reset
 size c = simp (to_z-of_z c.ranges.reset) at c.magnitude-p.ensures

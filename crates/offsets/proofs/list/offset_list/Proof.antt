@@ -15,11 +15,6 @@ use Rattle.offsets.proofs.Checked.{Checked, checked}
 use borrow.Author.Rules.{rules}
 use Rattle.offsets.proofs.list.offset_list.Statement.{statement}
 use Rattle.offsets.proofs.list.offset_list.Tie as tie
-use Rattle.offsets.proofs.list.offset_list.Reads as reads
-use Rattle.offsets.proofs.list.offset_list.Lts as lts
-use Rattle.layout.proofs.traversal.FullTraversal.compile.Reads as compile-reads
-use Rattle.offsets.proofs.list.range_code.Reads as range-code-reads
-use Rattle.offsets.proofs.list.write_offsets.Reads as write-offsets-reads
 
 compile-compiled-requires : tie.Need-compile-compiled-requires
 compile-compiled-requires c κs = search rules

@@ -14,9 +14,6 @@ use Rattle.offsets.specs.Lists.{place_refusals, range_code}
 use Rattle.offsets.proofs.Ranges.{Clear, clear, clear-axes, tested, place-7, place-0, range-compile, range-5, range-6, range-places}
 use Rattle.offsets.proofs.list.range_code.Statement.{statement}
 use Rattle.offsets.proofs.list.range_code.Tie as tie
-use Rattle.offsets.proofs.list.range_code.Reads as reads
-use Rattle.offsets.proofs.list.range_code.Lts as lts
-use Rattle.offsets.proofs.bounds.inside.Reads as inside-reads
 
 -- nothing refused by the compile
 cleared : (c : tie.Else-refusal-ne0) → Clear c.args.sizes.now c.args.strides.now

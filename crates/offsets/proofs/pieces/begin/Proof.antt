@@ -9,9 +9,6 @@ use Rattle.offsets.specs.InnerPieces.{range_at}
 use Rattle.offsets.proofs.Walking.{first-element, some_left, outer-axes, outer-bounded}
 use Rattle.offsets.proofs.pieces.begin.Statement.{statement}
 use Rattle.offsets.proofs.pieces.begin.Tie as tie
-use Rattle.offsets.proofs.pieces.begin.Reads as reads
-use Rattle.offsets.proofs.pieces.begin.Lts as lts
-use Rattle.offsets.proofs.cursor.ReduceOuterCursor.decode.Reads as decode-reads
 
 -- the layout's first element
 returns-then-start-eq0 : tie.Need-returns-then-start-eq0

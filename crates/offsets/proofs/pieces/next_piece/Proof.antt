@@ -20,10 +20,6 @@ use Rattle.offsets.proofs.Stepping.{small-fits, share-fits}
 use Rattle.offsets.proofs.Walking.{on-column, on-column-small, on-run, on-first, on-element}
 use Rattle.offsets.proofs.pieces.next_piece.Statement.{statement}
 use Rattle.offsets.proofs.pieces.next_piece.Tie as tie
-use Rattle.offsets.proofs.pieces.next_piece.Reads as reads
-use Rattle.offsets.proofs.pieces.next_piece.Lts as lts
-use Rattle.offsets.proofs.cursor.ReduceOuterCursor.to_next_run.Reads as to-next-run-reads
-use Rattle.integers.proofs.min_u64.Reads as min-u64-reads
 
 overflow_sub-l : tie.Need-overflow_sub-l
 overflow_sub-l c = omega (arith, on-column c.args.l c.requires.0 c.args.c c.requires.2)

@@ -9,8 +9,6 @@ use Rattle.offsets.proofs.Runs.{run-some, runs-ahead}
 use borrow.Author.Rules.{rules}
 use Rattle.offsets.proofs.pieces.whole_runs.Statement.{statement}
 use Rattle.offsets.proofs.pieces.whole_runs.Tie as tie
-use Rattle.offsets.proofs.pieces.whole_runs.Reads as reads
-use Rattle.offsets.proofs.pieces.whole_runs.Lts as lts
 
 returns-then-l-eq0 : tie.Need-returns-then-l-eq0
 returns-then-l-eq0 c = search rules

@@ -16,11 +16,6 @@ use Rattle.reduction.proofs.Calls.{reduce-refused, reduce-accepted}
 use borrow.Author.Rules.{rules}
 use Rattle.reduction.proofs.full.reduce.Statement.{statement}
 use Rattle.reduction.proofs.full.reduce.Tie as tie
-use Rattle.reduction.proofs.full.reduce.Reads as reads
-use Rattle.reduction.proofs.full.reduce.Lts as lts
-use Rattle.layout.proofs.traversal.FullTraversal.compile.Reads as compile-reads
-use Rattle.offsets.proofs.list.range_code.Reads as range-code-reads
-use Rattle.reduction.proofs.full.reduce_full_range.Reads as reduce-full-range-reads
 
 compile-compiled-requires : tie.Need-compile-compiled-requires
 compile-compiled-requires c κs = search rules

@@ -9,10 +9,6 @@ use Rattle.reduction.proofs.Lines.{line-inside, line-joined}
 use borrow.Author.Rules.{rules}
 use Rattle.reduction.proofs.full.reduce_full_range.Statement.{statement}
 use Rattle.reduction.proofs.full.reduce_full_range.Tie as tie
-use Rattle.reduction.proofs.full.reduce_full_range.Reads as reads
-use Rattle.reduction.proofs.full.reduce_full_range.Lts as lts
-use Rattle.reduction.proofs.full.reduce_line.Reads as reduce-line-reads
-use Rattle.reduction.proofs.full.reduce_runs.Reads as reduce-runs-reads
 
 stride-fits : (c : tie.After-struct_told-1) → SFits w64 c.args.l.run_stride
 stride-fits c = record { sfits = c.struct_told-1.given.1.1.0.1 }

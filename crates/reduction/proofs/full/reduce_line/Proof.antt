@@ -14,9 +14,6 @@ use Rattle.reduction.proofs.Lines.{way-fits, place-fits}
 use borrow.Author.Rules.{rules}
 use Rattle.reduction.proofs.full.reduce_line.Statement.{statement}
 use Rattle.reduction.proofs.full.reduce_line.Tie as tie
-use Rattle.reduction.proofs.full.reduce_line.Reads as reads
-use Rattle.reduction.proofs.full.reduce_line.Lts as lts
-use Rattle.reduction.proofs.full.reduce_piece.Reads as reduce-piece-reads
 
 few : (s : tie.Start) → length s.args.values.now ≤ 2 ^ 63
 few s = omega (arith, s.well_formed.0.1)

@@ -19,10 +19,6 @@ use borrow.Author.Rules.{rules}
 use Rattle.reduction.proofs.Pieces.{handed}
 use Rattle.reduction.proofs.full.reduce_piece.Statement.{statement}
 use Rattle.reduction.proofs.full.reduce_piece.Tie as tie
-use Rattle.reduction.proofs.full.reduce_piece.Reads as reads
-use Rattle.reduction.proofs.full.reduce_piece.Lts as lts
-use Rattle.vectors.proofs.piece.stable_float_contiguous.Reads as stable-float-contiguous-reads
-use Rattle.vectors.proofs.piece.lanes_strided.Reads as lanes-strided-reads
 
 -- at stride 1 the piece is a part of the slice
 one : (c : tie.Then-stride-eq1) → c.args.stride ≡ pos 1

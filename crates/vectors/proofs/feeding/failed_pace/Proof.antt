@@ -1,6 +1,5 @@
 -- `vectors::feeding::failed_pace` meets its contract: a try that failed leaves fewer. Assumes nothing.
-use Prim.Native.Nat.{ℕ, suc, ◌+◌, ◌-◌, ◌<◌}
-use mathlib.Core.Path.{◌≡◌}
+use Prim.Native.Nat.{ℕ, suc, ◌+◌, ◌<◌}
 use native.Mathlib.Omega.{arith}
 use Rattle.vectors.specs.InnerSteps.{patience}
 use Rattle.vectors.proofs.feeding.failed_pace.Statement.{statement}

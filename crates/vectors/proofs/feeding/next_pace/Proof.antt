@@ -1,5 +1,5 @@
 -- `vectors::feeding::next_pace` meets its contract: a try that failed leaves fewer. Assumes nothing.
-use Prim.Native.Nat.{ℕ, zero, suc, ◌-◌, ◌≤◌, ◌<◌, zero-le}
+use Prim.Native.Nat.{ℕ, zero, suc, ◌≤◌, ◌<◌, zero-le}
 use mathlib.Core.Path.{◌≡◌, sym, subst}
 use mathlib.Core.Bool.{not, true, true≢false}
 use native.Mathlib.Omega.{arith}

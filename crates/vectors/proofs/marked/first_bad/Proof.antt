@@ -116,8 +116,8 @@ next : (c : tie.Joined-is_bad invariant-loop-i decreases-loop-i) → let t = c.b
     c.if-is_bad.first ≡ first_bad (strided (values t) (start t) (apart t) (t.loop-i.i + 1))
 next c =
     elim c.if-is_bad.branch [
-      then-is_bad+else-first-eq0 w ↦ after c.before true c.if-is_bad.first w.if-is_bad.true (w.first-is ∙ w.min_usize-first.ensures)
-    | else-is_bad w ↦ after c.before false c.if-is_bad.first w.if-is_bad.false w.first-is
+      | then-is_bad+else-first-eq0 w ↦ after c.before true c.if-is_bad.first w.if-is_bad.true (w.first-is ∙ w.min_usize-first.ensures)
+      | else-is_bad w ↦ after c.before false c.if-is_bad.first w.if-is_bad.false w.first-is
     ]
 
 -- the turn in which the next place is formed

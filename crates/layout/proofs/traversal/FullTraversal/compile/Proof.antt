@@ -25,14 +25,6 @@ use Rattle.layout.proofs.Outer.{resets-at, held_two}
 use borrow.Author.Rules.{rules}
 use Rattle.layout.proofs.traversal.FullTraversal.compile.Statement.{statement}
 use Rattle.layout.proofs.traversal.FullTraversal.compile.Tie as tie
-use Rattle.layout.proofs.traversal.FullTraversal.compile.Reads as reads
-use Rattle.layout.proofs.traversal.FullTraversal.compile.Lts as lts
-use Rattle.layout.proofs.fuse.compress_reduce_outer_axes.Reads as compress-reduce-outer-axes-reads
-use Rattle.layout.proofs.order.ordered_axes.Reads as ordered-axes-reads
-use Rattle.layout.proofs.traversal.checked_total.Reads as checked-total-reads
-use Rattle.layout.proofs.traversal.refused.Reads as refused-reads
-use Rattle.layout.proofs.traversal.one_outer.Reads as one-outer-reads
-use Rattle.layout.proofs.traversal.with_run.Reads as with-run-reads
 
 -- the total, where it fits
 counted : (c : tie.Else-not-total) → total_of c.args.sizes.now ≡ some c.checked_total-total.result.value

@@ -18,8 +18,6 @@ use Rattle.offsets.proofs.Cursors.{Advancing, advancing-none, advance-axis, adva
 use Rattle.offsets.proofs.Cursors.{advancing-more, advanced-all}
 use Rattle.offsets.proofs.cursor.ReduceOuterCursor.advance.Statement.{statement}
 use Rattle.offsets.proofs.cursor.ReduceOuterCursor.advance.Tie as tie
-use Rattle.offsets.proofs.cursor.ReduceOuterCursor.advance.Reads as reads
-use Rattle.offsets.proofs.cursor.ReduceOuterCursor.advance.Lts as lts
 
 abbrev invariant-loop-i : tie.invariant-loop-i
 invariant-loop-i count axes c₀ i₀ c i = Advancing (take count axes) c₀ c i

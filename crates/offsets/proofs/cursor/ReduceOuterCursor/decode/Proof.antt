@@ -19,8 +19,6 @@ use Rattle.offsets.proofs.Stepping.{Small, small-fits, share-fits, axis-small}
 use Rattle.offsets.proofs.Cursors.{Decoded, decoded-none, decode-axis, decode-here, decode-next, decoded-more, decoded-all}
 use Rattle.offsets.proofs.cursor.ReduceOuterCursor.decode.Statement.{statement}
 use Rattle.offsets.proofs.cursor.ReduceOuterCursor.decode.Tie as tie
-use Rattle.offsets.proofs.cursor.ReduceOuterCursor.decode.Reads as reads
-use Rattle.offsets.proofs.cursor.ReduceOuterCursor.decode.Lts as lts
 
 abbrev invariant-loop-i : tie.invariant-loop-i
 invariant-loop-i index base count axes c₀ rest₀ i₀ c rest i = Decoded (take count axes) (to_z w64 base) index c rest i

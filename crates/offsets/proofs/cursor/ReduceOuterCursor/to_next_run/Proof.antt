@@ -21,9 +21,6 @@ use Rattle.offsets.proofs.Cursors.{advancing-more}
 use borrow.Author.Rules.{rules}
 use Rattle.offsets.proofs.cursor.ReduceOuterCursor.to_next_run.Statement.{statement}
 use Rattle.offsets.proofs.cursor.ReduceOuterCursor.to_next_run.Tie as tie
-use Rattle.offsets.proofs.cursor.ReduceOuterCursor.to_next_run.Reads as reads
-use Rattle.offsets.proofs.cursor.ReduceOuterCursor.to_next_run.Lts as lts
-use Rattle.offsets.proofs.cursor.ReduceOuterCursor.advance.Reads as advance-reads
 
 -- the outer axes, and the one in a place
 abbrev outer : tie.Start → List ReduceOuterAxis
