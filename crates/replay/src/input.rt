@@ -1,8 +1,7 @@
 // The lines of standard input, read by chunks into a buffer that holds the longest line and its newline.
-// Where a read or a write fails, it is said on standard error, nothing more is answered, and the error is handed on.
-ghost use Rattle.std.specs.Prelude.{◌≤◌, ◌≡◌, length, IfOk};
+// The program has no exit status of its own: where a read or a write fails, it says so on standard error and answers no more.
+ghost use Rattle.std.specs.Prelude.{◌≤◌, ◌≡◌, length};
 
-use std::io;
 use std::io::Read;
 
 // The buffer's first `count` bytes are not answered yet. `cut` says that the line they go on was too long.
@@ -13,11 +12,19 @@ struct Held {
     cut: bool,
 }
 
-// What is left of a chunk once its whole lines are answered.
+// What is left of a chunk once its whole lines are answered. `ok` says that every answer was written.
 #[derive(Clone, Copy)]
 struct Left {
+    ok: bool,
     from: usize,
     cut: bool,
+}
+
+// How many bytes a read gave, 0 at the input's end. A read that failed is not the end.
+#[derive(Clone, Copy)]
+struct Got {
+    failed: bool,
+    count: usize,
 }
 
 // Nothing more is read.
@@ -31,10 +38,10 @@ fn ended() -> Held
     }
 }
 
-// The answer is written whole, or the error says that it was not.
-fn write_answer(rt: &(impl Print + Eprint), answer: &[u8]) -> io::Result<()> {
-    let written = rt.write_all(answer);
-    if written.is_err() {
+// Whether an answer was written.
+fn write_answer(rt: &(impl Print + Eprint), answer: &[u8]) -> bool {
+    let written = rt.write_all(answer).is_ok();
+    if !written {
         let _ = rt.eprintln(
             "replay: cannot write to standard output (is it closed, or the disk full?), so it stops",
         );
@@ -53,34 +60,43 @@ fn answer_of(line: &[u8], cut: bool, out: &mut [u8]) -> usize
     crate::answer::answer(line, &mut *out)
 }
 
-fn answer_line(rt: &(impl Print + Eprint), line: &[u8], cut: bool, out: &mut [u8]) -> io::Result<()>
+fn answer_line(rt: &(impl Print + Eprint), line: &[u8], cut: bool, out: &mut [u8]) -> bool
     requires { 262144 ≤ length out.old }
 {
     let n = answer_of(line, cut, &mut *out);
     write_answer(rt, &out[..n])
 }
 
-fn answer_lines(
-    rt: &(impl Print + Eprint),
-    chunk: &[u8],
-    cut_before: bool,
-    out: &mut [u8],
-) -> io::Result<Left>
+fn answer_lines(rt: &(impl Print + Eprint), chunk: &[u8], cut_before: bool, out: &mut [u8]) -> Left
     requires { 262144 ≤ length out.old }
-    ensures { IfOk result (λ left. left.from ≤ length chunk.now) }
+    ensures { result.from ≤ length chunk.now }
 {
     let mut cut = cut_before;
     let mut from: usize = 0;
     while from < chunk.len() {
         let end = text::word::find(chunk, from, b'\n');
         if end == chunk.len() {
-            return Ok(Left { from, cut });
+            return Left {
+                ok: true,
+                from,
+                cut,
+            };
         }
-        answer_line(rt, &chunk[from..end], cut, &mut *out)?;
+        if !answer_line(rt, &chunk[from..end], cut, &mut *out) {
+            return Left {
+                ok: false,
+                from,
+                cut,
+            };
+        }
         cut = false;
         from = end + 1;
     }
-    Ok(Left { from, cut })
+    Left {
+        ok: true,
+        from,
+        cut,
+    }
 }
 
 // Moves the bytes from `from` up to `to` to the buffer's start, and answers how many they are.
@@ -105,51 +121,48 @@ fn keep_rest(
     count: usize,
     cut: bool,
     out: &mut [u8],
-) -> io::Result<Held>
+) -> Held
     requires { (count ≤ length buf.old) × (262144 ≤ length out.old) }
-    ensures { IfOk result (λ held. held.count ≤ length buf.old) }
+    ensures { result.count ≤ length buf.old }
 {
-    let left = answer_lines(rt, &buf[..count], cut, &mut *out)?;
+    let left = answer_lines(rt, &buf[..count], cut, &mut *out);
+    if !left.ok {
+        return ended();
+    }
     let from = left.from;
     if left.cut {
-        return Ok(Held {
+        return Held {
             more: true,
             count: 0,
             cut: true,
-        });
+        };
     }
     let kept = move_down(&mut *buf, from, count);
     if kept == buf.len() {
-        return Ok(Held {
+        return Held {
             more: true,
             count: 0,
             cut: true,
-        });
+        };
     }
-    Ok(Held {
+    Held {
         more: true,
         count: kept,
         cut: false,
-    })
+    }
 }
 
 // The input has ended: a line with no newline is answered too.
-fn answer_last(
-    rt: &(impl Print + Eprint),
-    buf: &[u8],
-    count: usize,
-    cut: bool,
-    out: &mut [u8],
-) -> io::Result<()>
+fn answer_last(rt: &(impl Print + Eprint), buf: &[u8], count: usize, cut: bool, out: &mut [u8])
     requires { (count ≤ length buf.now) × (262144 ≤ length out.old) }
 {
     if cut {
-        return answer_line(rt, buf, cut, &mut *out);
+        answer_line(rt, buf, cut, &mut *out);
+        return;
     }
     if 0 < count {
-        return answer_line(rt, &buf[..count], cut, &mut *out);
+        answer_line(rt, &buf[..count], cut, &mut *out);
     }
-    Ok(())
 }
 
 // One read behind the bytes that are held, and the answers to the lines that are whole now.
@@ -159,30 +172,38 @@ fn turn<R: Read>(
     buf: &mut [u8],
     held: Held,
     out: &mut [u8],
-) -> io::Result<Held>
+) -> Held
     requires { (held.count ≤ length buf.old) × (262144 ≤ length out.old) }
-    ensures { IfOk result (λ next. next.count ≤ length buf.old) }
+    ensures { result.count ≤ length buf.old }
 {
     let count = held.count;
-    let got = read_some(rt, &mut *input, &mut buf[count..])?;
-    if got == 0 {
-        answer_last(rt, &*buf, count, held.cut, &mut *out)?;
-        return Ok(ended());
-    }
-    keep_rest(rt, &mut *buf, count + got, held.cut, &mut *out)
-}
-
-// How many bytes a read gave, 0 at the input's end. A read that failed is not the end.
-fn read_some<R: Read>(rt: &impl Eprint, input: &mut R, space: &mut [u8]) -> io::Result<usize>
-    ensures { IfOk result (λ count. count ≤ length space.old) }
-{
-    let got = input.read(&mut *space);
-    if got.is_err() {
+    let got = read_some(&mut *input, &mut buf[count..]);
+    if got.failed {
         let _ = rt.eprintln(
             "replay: cannot read standard input (is it closed, or a folder?), so it stops",
         );
+        return ended();
     }
-    got
+    if got.count == 0 {
+        answer_last(rt, &*buf, count, held.cut, &mut *out);
+        return ended();
+    }
+    keep_rest(rt, &mut *buf, count + got.count, held.cut, &mut *out)
+}
+
+fn read_some<R: Read>(input: &mut R, space: &mut [u8]) -> Got
+    ensures { result.count ≤ length space.old }
+{
+    match input.read(&mut *space) {
+        Ok(count) => Got {
+            failed: false,
+            count,
+        },
+        Err(_) => Got {
+            failed: true,
+            count: 0,
+        },
+    }
 }
 
 // Every function ends, so the turns are counted down from a number that no run uses up.
@@ -191,7 +212,7 @@ pub fn answer_all<R: Read>(
     input: &mut R,
     buf: &mut [u8],
     out: &mut [u8],
-) -> io::Result<()>
+)
     requires { 262144 ≤ length out.old }
 {
     let mut held = Held {
@@ -201,11 +222,10 @@ pub fn answer_all<R: Read>(
     };
     let mut turns: u64 = 0xffff_ffff_ffff_ffff;
     while 0 < turns {
-        held = turn(rt, &mut *input, &mut *buf, held, &mut *out)?;
+        held = turn(rt, &mut *input, &mut *buf, held, &mut *out);
         if !held.more {
-            return Ok(());
+            return;
         }
         turns -= 1;
     }
-    Ok(())
 }
