@@ -62,9 +62,9 @@ module _ (total : ℕ) where
 module _ (starts ends ms es bads : ℕ) where
   pub record Fit : Type 0 where
     pub same : starts ≡ ends
-    pub room-m : starts ≤ ms
-    pub room-e : starts ≤ es
-    pub room-bad : starts ≤ bads
+    pub room_m : starts ≤ ms
+    pub room_e : starts ≤ es
+    pub room_bad : starts ≤ bads
 
   -- by the first test that fails
   pub unfit-lists : (starts ≡ ends → ⊥) → true ≡ unfit starts ends ms es bads
@@ -92,9 +92,9 @@ module _ (starts ends ms es bads : ℕ) where
       let c = neither (not (eqb starts ends)) (ltb ms starts) b.0 in
       record {
         same = eqb-true starts ends (not-false (eqb starts ends) c.0);
-        room-m = ltb-false ms starts c.1;
-        room-e = ltb-false es starts b.1;
-        room-bad = ltb-false bads starts a.1;
+        room_m = ltb-false ms starts c.1;
+        room_e = ltb-false es starts b.1;
+        room_bad = ltb-false bads starts a.1;
       }
 
 -- ---- the whole code, with what 16 asks known
@@ -148,8 +148,8 @@ module _ (ns : List ℕ) (ss : List ℤ) (base : ℤ) (starts ends : List ℕ) (
   pub record Accepted : Type 0 where
     pub clears : Clear ns ss
     pub fits : Fit (length starts) (length ends) (length ms) (length es) (length bads)
-    pub each-good : first_of (each_refusals total (ranges_of starts ends)) ≡ 0
-    pub places-good : first_of (place_refusals ns ss base (length values)) ≡ 0
+    pub each_good : first_of (each_refusals total (ranges_of starts ends)) ≡ 0
+    pub places_good : first_of (place_refusals ns ss base (length values)) ≡ 0
 
   compiled : first_of (compile_refusals PLACES ns ss) ≡ 0 → (compile_of PLACES ns ss).code ≡ 0
   unfolding compile_of
@@ -167,8 +167,8 @@ module _ (ns : List ℕ) (ss : List ℤ) (base : ℤ) (starts ends : List ℕ) (
       record {
         clears = c;
         fits = fit (length starts) (length ends) (length ms) (length es) (length bads) u.0;
-        each-good = g;
-        places-good = sym (each_after total (ranges_of starts ends) g places) ∙ u.1;
+        each_good = g;
+        places_good = sym (each_after total (ranges_of starts ends) g places) ∙ u.1;
       }
 
   -- so is each of its ranges by itself
@@ -176,9 +176,9 @@ module _ (ns : List ℕ) (ss : List ℤ) (base : ℤ) (starts ends : List ℕ) (
     pub range-within : Within total (get_or starts i 0) (get_or ends i 0)
     range-within =
         rw (range_at starts ends a.fits.same i h (0, 0)) at
-        (each_within total (ranges_of starts ends) a.each-good i (rw (length-ranges starts ends a.fits.same) h) (0, 0))
+        (each_within total (ranges_of starts ends) a.each_good i (rw (length-ranges starts ends a.fits.same) h) (0, 0))
 
     pub range-accepted : range_code ns ss base (get_or starts i 0) (get_or ends i 0) (length values) ≡ 0
     range-accepted =
         range-places ns ss base (get_or starts i 0) (get_or ends i 0) (length values) a.clears range-within.forward range-within.inside
-        ∙ a.places-good
+        ∙ a.places_good

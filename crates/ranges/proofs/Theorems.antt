@@ -174,7 +174,7 @@ module _ (ns : List ℕ) (ss : List ℤ) (base : ℤ) (starts ends : List ℕ) (
   unfolding total_in
   consecutive-rule h q =
       let a = accepted ns ss base starts ends values ms es bads z in
-      whole-rule ns ss base values v a.clears a.places-good h (ranges_of starts ends) a.each-good q _ bytes
+      whole-rule ns ss base values v a.clears a.places_good h (ranges_of starts ends) a.each_good q _ bytes
 
 pub rule-M2 : RuleM2Law
 rule-M2 ns ss base starts ends values ms es bads v z h q = consecutive-rule ns ss base starts ends values ms es bads v z h q

@@ -43,25 +43,25 @@ module _ (len w ms es bads : ℕ) where
       pub code-short-m : ms ≤ len - w → 16 ≡ windows_code len w ms es bads
       code-short-m h = by-room true (rw (lt-ltb ms count (omega arith)))
 
-      module _ (room-m : len - w < ms) where
+      module _ (room_m : len - w < ms) where
         pub code-short-e : es ≤ len - w → 16 ≡ windows_code len w ms es bads
-        code-short-e h = by-room true (rw (le-ltb ms count room-m, lt-ltb es count (omega arith)))
+        code-short-e h = by-room true (rw (le-ltb ms count room_m, lt-ltb es count (omega arith)))
 
-        module _ (room-e : len - w < es) where
+        module _ (room_e : len - w < es) where
           pub code-short-bad : bads ≤ len - w → 16 ≡ windows_code len w ms es bads
-          code-short-bad h = by-room true (rw (le-ltb ms count room-m, le-ltb es count room-e, lt-ltb bads count (omega arith)))
+          code-short-bad h = by-room true (rw (le-ltb ms count room_m, le-ltb es count room_e, lt-ltb bads count (omega arith)))
 
           pub code_ok : len - w < bads → 0 ≡ windows_code len w ms es bads
-          code_ok room-bad = by-room false (rw (le-ltb ms count room-m, le-ltb es count room-e, le-ltb bads count room-bad))
+          code_ok room_bad = by-room false (rw (le-ltb ms count room_m, le-ltb es count room_e, le-ltb bads count room_bad))
 
   -- ---- an accepted call
   pub record Accepted : Type 0 where
     pub some : 0 < w
     pub fits : w ≤ len
     pub few : w ≤ 2 ^ 40
-    pub room-m : window_count len w ≤ ms
-    pub room-e : window_count len w ≤ es
-    pub room-bad : window_count len w ≤ bads
+    pub room_m : window_count len w ≤ ms
+    pub room_e : window_count len w ≤ es
+    pub room_bad : window_count len w ≤ bads
 
   pub accepted : windows_code len w ms es bads ≡ 0 → Accepted
   unfolding windows_code
@@ -78,7 +78,7 @@ module _ (len w ms es bads : ℕ) where
         some = omega (arith, n);
         fits = ltb-false len w p.1;
         few = ltb-false (2 ^ 40) w b.0;
-        room-m = ltb-false ms count r.0;
-        room-e = ltb-false es count r.1;
-        room-bad = ltb-false bads count q.1;
+        room_m = ltb-false ms count r.0;
+        room_e = ltb-false es count r.1;
+        room_bad = ltb-false bads count q.1;
       }

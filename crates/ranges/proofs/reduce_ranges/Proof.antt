@@ -134,17 +134,17 @@ module _ (k : tie.At-loop-i invariant-loop-i decreases-loop-i) where
   long-m : length k.loop-i.ms ≡ length s.args.ms.now
   long-m =
       let f = (allowed k.before).fits in
-      length-wrote _ _ _ _ _ acc-m s.args.ms.now f.same f.room-m k.loop-i.i k.loop-i.invariant.0 _ k.loop-i.invariant.1
+      length-wrote _ _ _ _ _ acc-m s.args.ms.now f.same f.room_m k.loop-i.i k.loop-i.invariant.0 _ k.loop-i.invariant.1
 
   long-e : length k.loop-i.es ≡ length s.args.es.now
   long-e =
       let f = (allowed k.before).fits in
-      length-wrote _ _ _ _ _ acc-e s.args.es.now f.same f.room-e k.loop-i.i k.loop-i.invariant.0 _ k.loop-i.invariant.2
+      length-wrote _ _ _ _ _ acc-e s.args.es.now f.same f.room_e k.loop-i.i k.loop-i.invariant.0 _ k.loop-i.invariant.2
 
   long-bad : length k.loop-i.bads ≡ length s.args.bads.now
   long-bad =
       let f = (allowed k.before).fits in
-      length-wrote _ _ _ _ _ acc-byte s.args.bads.now f.same f.room-bad k.loop-i.i k.loop-i.invariant.0 _ k.loop-i.invariant.3
+      length-wrote _ _ _ _ _ acc-byte s.args.bads.now f.same f.room_bad k.loop-i.i k.loop-i.invariant.0 _ k.loop-i.invariant.3
 
 abbrev from_told : tie.After-struct_told-1 invariant-loop-i decreases-loop-i → tie.In-loop-i invariant-loop-i decreases-loop-i
 from_told c = c.before.before.before.before.before
@@ -153,19 +153,19 @@ offset_bounds-ms-i : tie.Need-offset_bounds-ms-i invariant-loop-i decreases-loop
 offset_bounds-ms-i c = omega (arith, numbered (from_told c))
 
 bounds-ms-i : tie.Need-bounds-ms-i invariant-loop-i decreases-loop-i
-bounds-ms-i c = let i = from_told c in omega (arith, below i, long-m i.before, (allowed i.before.before).fits.room-m)
+bounds-ms-i c = let i = from_told c in omega (arith, below i, long-m i.before, (allowed i.before.before).fits.room_m)
 
 offset_bounds-es-i : tie.Need-offset_bounds-es-i invariant-loop-i decreases-loop-i
 offset_bounds-es-i c = omega (arith, numbered (from_told c))
 
 bounds-es-i : tie.Need-bounds-es-i invariant-loop-i decreases-loop-i
-bounds-es-i c = let i = from_told c in omega (arith, below i, long-e i.before, (allowed i.before.before).fits.room-e)
+bounds-es-i c = let i = from_told c in omega (arith, below i, long-e i.before, (allowed i.before.before).fits.room_e)
 
 bad_byte-requires : tie.Need-bad_byte-requires invariant-loop-i decreases-loop-i
 bad_byte-requires c κs = search rules
 
 bounds-bads-i : tie.Need-bounds-bads-i invariant-loop-i decreases-loop-i
-bounds-bads-i c = let i = from_told c.before in omega (arith, below i, long-bad i.before, (allowed i.before.before).fits.room-bad)
+bounds-bads-i c = let i = from_told c.before in omega (arith, below i, long-bad i.before, (allowed i.before.before).fits.room_bad)
 
 overflow_add-i : tie.Need-overflow_add-i invariant-loop-i decreases-loop-i
 overflow_add-i c = omega (arith, numbered (from_told c.before))
@@ -183,9 +183,9 @@ loop-i-preserved c =
     let p = t.reduce_full_range-acc.ensures in
     let fits : SFits w64 t.reduce_full_range-acc.result.e = record { sfits = t.struct_told-1.given.1.0.1 } in (
       omega (arith, below i),
-      wrote-more _ _ _ _ _ acc-m s.args.ms.now f.same f.room-m k.loop-i.i (below i) _ k.loop-i.invariant.1 _ (ap acc-m p),
-      wrote-more _ _ _ _ _ acc-e s.args.es.now f.same f.room-e k.loop-i.i (below i) _ k.loop-i.invariant.2 _ (to_z-of_z fits ∙ ap acc-e p),
-      wrote-more _ _ _ _ _ acc-byte s.args.bads.now f.same f.room-bad k.loop-i.i (below i) _ k.loop-i.invariant.3 _
+      wrote-more _ _ _ _ _ acc-m s.args.ms.now f.same f.room_m k.loop-i.i (below i) _ k.loop-i.invariant.1 _ (ap acc-m p),
+      wrote-more _ _ _ _ _ acc-e s.args.es.now f.same f.room_e k.loop-i.i (below i) _ k.loop-i.invariant.2 _ (to_z-of_z fits ∙ ap acc-e p),
+      wrote-more _ _ _ _ _ acc-byte s.args.bads.now f.same f.room_bad k.loop-i.i (below i) _ k.loop-i.invariant.3 _
           (c.bad_byte.ensures ∙ ap acc-byte p),
     )
 
@@ -204,9 +204,9 @@ returns c =
     let s = from-loop k in
     let f = (allowed k.before).fits in
     let all : k.loop-i.i ≡ length s.args.starts.now = omega (arith, f.same, k.loop-i.invariant.0, c.loop-i-test.false) in
-    let m = wrote-all _ _ _ _ _ acc-m s.args.ms.now f.same f.room-m k.loop-i.i all _ k.loop-i.invariant.1 in
-    let e = wrote-all _ _ _ _ _ acc-e s.args.es.now f.same f.room-e k.loop-i.i all _ k.loop-i.invariant.2 in
-    let b = wrote-all _ _ _ _ _ acc-byte s.args.bads.now f.same f.room-bad k.loop-i.i all _ k.loop-i.invariant.3 in
+    let m = wrote-all _ _ _ _ _ acc-m s.args.ms.now f.same f.room_m k.loop-i.i all _ k.loop-i.invariant.1 in
+    let e = wrote-all _ _ _ _ _ acc-e s.args.es.now f.same f.room_e k.loop-i.i all _ k.loop-i.invariant.2 in
+    let b = wrote-all _ _ _ _ _ acc-byte s.args.bads.now f.same f.room_bad k.loop-i.i all _ k.loop-i.invariant.3 in
     told-accepted s.args.sizes.now s.args.strides.now s.args.base s.args.starts.now s.args.ends.now s.args.values.now
     s.args.ms.now s.args.es.now s.args.bads.now _
     (layout_is k.before) (sym k.if-code-ne0.false ∙ code_is k.before.before) _ _ _ (simp (to_z-of_z s.ranges.base) at m)

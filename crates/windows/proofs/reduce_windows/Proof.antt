@@ -105,14 +105,14 @@ module _ (k : tie.At-loop-i invariant-loop-i decreases-loop-i) where
   s = from-loop k
 
   long-m : length k.loop-i.ms ≡ length s.args.ms.now
-  long-m = length-wrote acc-m s.args.values.now s.args.w s.args.ms.now (allowed k.before).room-m k.loop-i.i k.loop-i.invariant.0 _ k.loop-i.invariant.1
+  long-m = length-wrote acc-m s.args.values.now s.args.w s.args.ms.now (allowed k.before).room_m k.loop-i.i k.loop-i.invariant.0 _ k.loop-i.invariant.1
 
   long-e : length k.loop-i.es ≡ length s.args.es.now
-  long-e = length-wrote acc-e s.args.values.now s.args.w s.args.es.now (allowed k.before).room-e k.loop-i.i k.loop-i.invariant.0 _ k.loop-i.invariant.2
+  long-e = length-wrote acc-e s.args.values.now s.args.w s.args.es.now (allowed k.before).room_e k.loop-i.i k.loop-i.invariant.0 _ k.loop-i.invariant.2
 
   long-bad : length k.loop-i.bads ≡ length s.args.bads.now
   long-bad =
-      length-wrote acc-byte s.args.values.now s.args.w s.args.bads.now (allowed k.before).room-bad k.loop-i.i k.loop-i.invariant.0 _ k.loop-i.invariant.3
+      length-wrote acc-byte s.args.values.now s.args.w s.args.bads.now (allowed k.before).room_bad k.loop-i.i k.loop-i.invariant.0 _ k.loop-i.invariant.3
 
 abbrev from_told : tie.After-struct_told-1 invariant-loop-i decreases-loop-i → tie.In-loop-i invariant-loop-i decreases-loop-i
 from_told c = c.before.before.before
@@ -121,19 +121,19 @@ offset_bounds-ms-i : tie.Need-offset_bounds-ms-i invariant-loop-i decreases-loop
 offset_bounds-ms-i c = omega (arith, numbered (from_told c))
 
 bounds-ms-i : tie.Need-bounds-ms-i invariant-loop-i decreases-loop-i
-bounds-ms-i c = let i = from_told c in omega (arith, below i, long-m i.before, (allowed i.before.before).room-m)
+bounds-ms-i c = let i = from_told c in omega (arith, below i, long-m i.before, (allowed i.before.before).room_m)
 
 offset_bounds-es-i : tie.Need-offset_bounds-es-i invariant-loop-i decreases-loop-i
 offset_bounds-es-i c = omega (arith, numbered (from_told c))
 
 bounds-es-i : tie.Need-bounds-es-i invariant-loop-i decreases-loop-i
-bounds-es-i c = let i = from_told c in omega (arith, below i, long-e i.before, (allowed i.before.before).room-e)
+bounds-es-i c = let i = from_told c in omega (arith, below i, long-e i.before, (allowed i.before.before).room_e)
 
 bad_byte-requires : tie.Need-bad_byte-requires invariant-loop-i decreases-loop-i
 bad_byte-requires c κs = search rules
 
 bounds-bads-i : tie.Need-bounds-bads-i invariant-loop-i decreases-loop-i
-bounds-bads-i c = let i = from_told c.before in omega (arith, below i, long-bad i.before, (allowed i.before.before).room-bad)
+bounds-bads-i c = let i = from_told c.before in omega (arith, below i, long-bad i.before, (allowed i.before.before).room_bad)
 
 overflow_add-i : tie.Need-overflow_add-i invariant-loop-i decreases-loop-i
 overflow_add-i c = omega (arith, numbered (from_told c.before))
@@ -158,9 +158,9 @@ loop-i-preserved c =
     let w = s.args.w in
     let fits : SFits w64 t.window_at-acc.result.e = record { sfits = t.struct_told-1.given.1.0.1 } in (
       omega (arith, below i),
-      wrote-more acc-m vs w s.args.ms.now a.room-m k.loop-i.i (below i) _ k.loop-i.invariant.1 _ (ap acc-m p),
-      wrote-more acc-e vs w s.args.es.now a.room-e k.loop-i.i (below i) _ k.loop-i.invariant.2 _ (to_z-of_z fits ∙ ap acc-e p),
-      wrote-more acc-byte vs w s.args.bads.now a.room-bad k.loop-i.i (below i) _ k.loop-i.invariant.3 _ (c.bad_byte.ensures ∙ ap acc-byte p),
+      wrote-more acc-m vs w s.args.ms.now a.room_m k.loop-i.i (below i) _ k.loop-i.invariant.1 _ (ap acc-m p),
+      wrote-more acc-e vs w s.args.es.now a.room_e k.loop-i.i (below i) _ k.loop-i.invariant.2 _ (to_z-of_z fits ∙ ap acc-e p),
+      wrote-more acc-byte vs w s.args.bads.now a.room_bad k.loop-i.i (below i) _ k.loop-i.invariant.3 _ (c.bad_byte.ensures ∙ ap acc-byte p),
       λ h ok. subst (λ (at : ℕ). EightWindows vs w at j.if-i-eq0.eight.v) (later k.loop-i.i h) (had j ok),
     )
 
@@ -182,9 +182,9 @@ returns c =
     let w = s.args.w in
     let all : k.loop-i.i ≡ window_count (length vs) w = omega (arith, k.loop-i.invariant.0, c.loop-i-test.false) in
     told-accepted vs w s.args.ms.now s.args.es.now s.args.bads.now (sym k.if-code-ne0.false ∙ code_is k.before.before) _ _ _
-    (wrote-all acc-m vs w s.args.ms.now a.room-m k.loop-i.i all _ k.loop-i.invariant.1)
-    (wrote-all acc-e vs w s.args.es.now a.room-e k.loop-i.i all _ k.loop-i.invariant.2)
-    (wrote-all acc-byte vs w s.args.bads.now a.room-bad k.loop-i.i all _ k.loop-i.invariant.3)
+    (wrote-all acc-m vs w s.args.ms.now a.room_m k.loop-i.i all _ k.loop-i.invariant.1)
+    (wrote-all acc-e vs w s.args.es.now a.room_e k.loop-i.i all _ k.loop-i.invariant.2)
+    (wrote-all acc-byte vs w s.args.bads.now a.room_bad k.loop-i.i all _ k.loop-i.invariant.3)
 
 pub reduce_windows_spec : {M : Type 1} → statement M
 reduce_windows_spec = tie.close (tie.spec invariant-loop-i decreases-loop-i windows_code-code-requires returns-then-code-ne0 overflow_sub-count overflow_add-count loop-i-init eight_at-eight-requires window_at-acc-requires offset_bounds-ms-i bounds-ms-i offset_bounds-es-i bounds-es-i bad_byte-requires bounds-bads-i overflow_add-i loop-i-smaller loop-i-preserved shape_of-ms shape_of-es shape_of-bads returns)
