@@ -53,10 +53,11 @@ returns c =
     let i = c.before in
     let e = i.before in
     let b = e.before in
+    let behind = e.if-at-start.false in
     rw (
       ne_eqb b.args.n 0 b.if-n-eq0.false,
       begins b.before,
-      ne_eqb b.args.mark.next b.args.start e.if-at-start.false,
+      ne_eqb b.args.mark.next b.args.start behind,
       sym i.in_limits.ensures ∙ c.if-in_limits.false,
     )
 

@@ -34,9 +34,10 @@ returns-then-byte-le102 c =
 
 returns : tie.Need-returns
 returns c =
+    let letter = c.if-byte-le57.false in
     simp (
       le-ltb _ _ c.if-byte-lt48.false,
-      lt-leb _ _ c.if-byte-le57.false,
+      lt-leb _ _ letter,
       le-ltb _ _ c.if-byte-lt97.false,
       lt-leb _ _ c.if-byte-le102.false,
     )
