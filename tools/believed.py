@@ -47,7 +47,9 @@ APART = ("text",)
 USE = re.compile(r"^(?:ghost )?use Rattle\.(\w+)\.specs\.([\w.-]+)\.\{([^}]*)\};?$")
 # The kit's notions of floats: its file of operations, the one beside it, and what the Prelude has of them.
 KIT = re.compile(r"^use Rattle\.std\.specs\.Float(?:\.\w+)*\.\{([^}]*)\}$")
-PRELUDE = re.compile(r"^use Rattle\.std\.specs\.Prelude\.\{(?:[^}]*, )?(Float)(?:, [^}]*)?\}$")
+PRELUDE = re.compile(r"^use Rattle\.std\.specs\.Prelude\.\{([^}]*)\}$")
+# The words of floats that the Prelude passes on; its others are no words of IEEE 754.
+OF_FLOATS = ("Float", "is_nan", "to_bits", "from_bits")
 WORD = re.compile(r"\.?[^\s(){}\[\];,.:\"λ⌜⌝⟦⟧|]+")
 HEAD = re.compile(r"^(?:(?:unfoldable|abbrev|pub) )*(?:(record|data) )?([^\s:(){}=]+)")
 
@@ -103,8 +105,10 @@ def imported(line):
 
 
 def kit_names(line):
-    match = KIT.match(line) or PRELUDE.match(line)
-    return [item.strip().split(" as ")[0] for item in match.group(1).split(",")] if match else []
+    kit, prelude = KIT.match(line), PRELUDE.match(line)
+    match = kit or prelude
+    words = [item.strip().split(" as ")[0] for item in match.group(1).split(",")] if match else []
+    return [word for word in words if kit or word in OF_FLOATS]
 
 
 def contract_words(path, function):
