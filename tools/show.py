@@ -154,16 +154,21 @@ def shown_case(words, refusals):
 
 
 def read_refusals(path=REFUSALS):
-    """The name and the condition of each refusal, from the constants of the crate that is their home."""
+    """The name and the condition of each refusal, from the enum of the crate that is their home."""
     try:
         with open(path, encoding="utf-8") as file:
             text = file.read()
     except OSError as error:
         raise Failure(f"{path}, where the refusals are named, cannot be read ({error.strerror}); restore it") from error
-    found = re.findall(r"^//+ *(.+)\npub const (\w+): u32 = ([0-9]+);$", text, re.MULTILINE)
-    if not found or len(found) != len(re.findall(r"^pub const \w+: u32", text, re.MULTILINE)):
-        raise Failure(f"{path}: each refusal should stand as `pub const NAME: u32 = N;` below a line `// its condition`")
-    return {int(code): (name, inside(condition)) for condition, name, code in found}
+    found = re.findall(r"^    //+ *(.+)\n    ([A-Z]\w*) = ([0-9]+),$", text, re.MULTILINE)
+    if not found or len(found) != len(re.findall(r"^    [A-Z]\w* = [0-9]+,$", text, re.MULTILINE)):
+        raise Failure(f"{path}: each refusal should stand as `Name = N,` below a line `// its condition`")
+    return {int(code): (spelled(name), inside(condition)) for condition, name, code in found}
+
+
+def spelled(name):
+    """A variant's name as docs/RULES.md and the specs have it: OffsetOverflow is OFFSET_OVERFLOW."""
+    return re.sub(r"(?<=[a-z])(?=[A-Z])|(?<=[A-Z])(?=[A-Z][a-z])", "_", name).upper()
 
 
 def inside(sentence):

@@ -203,7 +203,7 @@ refusals() {
     mv "$copy/crates/refusals" "$work/refusals"
     check 'no names of refusals' 1 '' 'refusals/src/lib.rt, where the refusals are named, cannot be read' run_sh "'$work/good'"
     mkdir -p "$copy/crates/refusals/src"
-    printf 'pub const EMPTY_RANGE: u32 = 5;\n' >"$copy/crates/refusals/src/lib.rt"
+    printf 'pub enum Refusal {\n    EmptyRange = 5,\n}\n' >"$copy/crates/refusals/src/lib.rt"
     check 'a refusal with no condition' 1 '' 'its condition' run_sh "'$work/good'"
     cp "$work/refusals/src/lib.rt" "$copy/crates/refusals/src/lib.rt"
 }

@@ -1,13 +1,13 @@
 -- Rules A1, A3, R9, R10 and C4: the accumulator, joining without and with refusals, and what an answer tells.
-use Rattle.std.specs.Prelude.{ℕ, ◌^◌, Bool, true, false, not, cond, ◌&&◌, ◌||◌, ℤ, pos, negsuc, nat_abs, ◌+ℤ◌, leb, Float}
+use Rattle.std.specs.Prelude.{ℕ, ◌^◌, Bool, true, false, not, cond, ◌&&◌, ◌||◌, ℤ, pos, negsuc, nat_abs, ◌+ℤ◌, leb, Float, Result, Ok, Err}
 use Rattle.std.specs.Float.{fin}
 use Rattle.refusals.specs.Refusals.{ACCUMULATOR_OUT_OF_RANGE, EXPONENT_OUT_OF_RANGE}
+use Rattle.refusals.specs.declared.Refusal.{Refusal}
+use Rattle.refusals.specs.Codes.{number}
 use Rattle.floats.specs.Product.{product_of}
 use Rattle.floats.specs.Factor.{Factor}
 use Rattle.floats.specs.Magnitude.{in_unit, two_or_more, factor_at}
 use Rattle.accumulator.specs.declared.StableProductFloatAcc.{StableProductFloatAcc}
-use Rattle.accumulator.specs.declared.Reduced.{Reduced}
-use Rattle.accumulator.specs.declared.Reduced.TheVariants.{Acc, Refused}
 
 -- rule A1, the identity: 1.0, 0, false
 abbrev pub identity_acc : StableProductFloatAcc
@@ -45,9 +45,9 @@ pub data Answer : Type 0 where
   accumulator : Float → ℤ → Bool → Answer
   refusal : ℕ → Answer
 
-abbrev pub answer_of : Reduced → Answer
-answer_of (Acc a) = accumulator a.m a.e a.bad
-answer_of (Refused n) = refusal n
+abbrev pub answer_of : Result StableProductFloatAcc Refusal → Answer
+answer_of (Ok a) = accumulator a.m a.e a.bad
+answer_of (Err r) = refusal (number r)
 
 -- rule R10, of two within their limits: 10 if neither is bad and the joined |e| would be above 2^52; else the joined accumulator
 unfoldable pub answered : StableProductFloatAcc → StableProductFloatAcc → Answer

@@ -5,6 +5,8 @@ ghost use Rattle.std.specs.Prelude.{◌≡◌, true, ◌^◌, ◌≤◌, nat_abs
 ghost use Rattle.floats.specs.Magnitude.{in_unit, two_or_more};
 ghost use Rattle.accumulator.specs.Joining.{identity_acc, combined, within_limit, in_limits, answer_of, joined};
 
+use refusals::Refusal;
+
 // The largest exponent, either way, of an accumulator that is given or answered: 2^52.
 const LIMIT: i64 = 4503599627370496;
 
@@ -33,14 +35,7 @@ impl StableProductFloatAcc {
     }
 }
 
-// An accumulator, or the number of a refusal.
-#[derive(Clone, Copy)]
-pub enum Reduced {
-    Acc(StableProductFloatAcc),
-    Refused(u32),
-}
-
-// 2 <= |m|, by comparisons: there is no abs.
+// 2 <= |m|, by two comparisons: abs would ask for the sign and for a zero first.
 fn two_or_more(m: f64) -> bool
     ensures { result ≡ two_or_more m }
 {
@@ -125,19 +120,19 @@ pub fn combine_units(
 }
 
 // Joins two accumulators, the first on the left.
-pub fn join(a: StableProductFloatAcc, b: StableProductFloatAcc) -> Reduced
+pub fn join(
+    a: StableProductFloatAcc,
+    b: StableProductFloatAcc,
+) -> Result<StableProductFloatAcc, Refusal>
     ensures { answer_of result ≡ joined a b }
 {
-    if !in_limits(a) {
-        return Reduced::Refused(refusals::ACCUMULATOR_OUT_OF_RANGE);
-    }
-    if !in_limits(b) {
-        return Reduced::Refused(refusals::ACCUMULATOR_OUT_OF_RANGE);
+    if !(in_limits(a) && in_limits(b)) {
+        return Err(Refusal::AccumulatorOutOfRange);
     }
     let r = stable_float_combine(a, b);
     if within_limit(r.e) {
-        Reduced::Acc(r)
+        Ok(r)
     } else {
-        Reduced::Refused(refusals::EXPONENT_OUT_OF_RANGE)
+        Err(Refusal::ExponentOutOfRange)
     }
 }

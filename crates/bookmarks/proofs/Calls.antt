@@ -9,7 +9,7 @@ use lib.Dec.{eqb}
 use lib.IntN.{ℤ}
 use lib.Ieee.{Float}
 use borrow.Author.Tests.{eq-eqb, ne_eqb, eqb-true, eqb-false, not-false}
-use Rattle.refusals.specs.Refusals.{Refusal, first_of}
+use Rattle.refusals.specs.Refusals.{Ranked, first_of}
 use Rattle.layout.specs.declared.traversal.FullTraversal.{FullTraversal}
 use Rattle.layout.specs.Axes.{PLACES}
 use Rattle.layout.specs.Compile.{compile_refusals, compile_of}
@@ -17,13 +17,12 @@ use Rattle.offsets.specs.Lists.{range_refusals, range_code}
 use Rattle.offsets.proofs.Accepted.{refused_none}
 use Rattle.offsets.proofs.Ranges.{first-hides, first-none, ranged}
 use Rattle.accumulator.specs.declared.StableProductFloatAcc.{StableProductFloatAcc}
-use Rattle.accumulator.specs.declared.Reduced.TheVariants.{Acc}
+use Rattle.std.specs.Prelude.{Ok}
 use Rattle.accumulator.specs.Joining.{in_limits, Answer, refusal, answer_of}
 use Rattle.kernels.specs.Pieces.{Piece, rates_of}
 use Rattle.reduction.specs.Ranges.{pieces_from}
 use Rattle.bookmarks.specs.declared.Bookmark.{Bookmark}
-use Rattle.bookmarks.specs.declared.Step.TheVariants.{Done, More, Refused}
-use Rattle.bookmarks.specs.Steps.{begins_piece, step_refusals, step_code, portion_of, told, step_of}
+use Rattle.bookmarks.specs.Steps.{Done, More, Refused, begins_piece, step_refusals, step_code, portion_of, told, step_of}
 use Rattle.bookmarks.proofs.Telling.{told-done, told_more}
 
 module _ (ns : List ℕ) (ss : List ℤ) (base : ℤ) (start end : ℕ) (values : List Float) (mark : Bookmark) (n : ℕ) where
@@ -48,7 +47,7 @@ module _ (ns : List ℕ) (ss : List ℤ) (base : ℤ) (start end : ℕ) (values 
   step-told true e = ap (λ (b : Bool). cond b (told end (mark.next + length (rates_of ps)) (length ps) answer) (Refused code)) e
   step-told false e = ap (λ (b : Bool). cond b (told end (mark.next + length (rates_of ps)) (length ps) answer) (Refused code)) e
 
-  by-code-acc : (b : Bool) (a : StableProductFloatAcc) → eqb code 0 ≡ b → by_code b ≡ answer_of (Acc a) → (code ≡ 0) × (answer ≡ answer_of (Acc a))
+  by-code-acc : (b : Bool) (a : StableProductFloatAcc) → eqb code 0 ≡ b → by_code b ≡ answer_of (Ok a) → (code ≡ 0) × (answer ≡ answer_of (Ok a))
   by-code-acc true a e q = (eqb-true code 0 e, q)
   by-code-acc false a e q = let z : ◌≡◌ {A = ℕ} 0 1 = cc in absurd (omega arith)
 
@@ -64,21 +63,21 @@ module _ (ns : List ℕ) (ss : List ℤ) (base : ℤ) (start end : ℕ) (values 
 
   -- and only such a one is done, or goes on
   pub step-done : (a : StableProductFloatAcc) (pieces : ℕ) → step_of ns ss base start end values mark n ≡ Done a pieces
-      → (code ≡ 0) × (answer ≡ answer_of (Acc a)) × (end ≤ mark.next + length (rates_of ps)) × (length ps ≡ pieces)
+      → (code ≡ 0) × (answer ≡ answer_of (Ok a)) × (end ≤ mark.next + length (rates_of ps)) × (length ps ≡ pieces)
   step-done a pieces e =
       let d = told-done end (mark.next + length (rates_of ps)) (length ps) (by_code (eqb code 0)) a pieces (sym (step-told (eqb code 0) refl) ∙ e) in
       let z = by-code-acc (eqb code 0) a refl d.0 in
       (z.0, z.1, d.1, d.2)
 
   pub step-more : (to : Bookmark) (pieces : ℕ) → step_of ns ss base start end values mark n ≡ More to pieces
-      → (code ≡ 0) × (answer ≡ answer_of (Acc to.acc)) × (mark.next + length (rates_of ps) ≡ to.next) × (to.next < end) × (length ps ≡ pieces)
+      → (code ≡ 0) × (answer ≡ answer_of (Ok to.acc)) × (mark.next + length (rates_of ps) ≡ to.next) × (to.next < end) × (length ps ≡ pieces)
   step-more to pieces e =
       let d = told_more end (mark.next + length (rates_of ps)) (length ps) (by_code (eqb code 0)) to pieces (sym (step-told (eqb code 0) refl) ∙ e) in
       let z = by-code-acc (eqb code 0) to.acc refl d.0 in
       (z.0, z.1, d.1, omega (arith, d.1, d.2), d.3)
 
   -- ---- the code: the range's refusals, and then those of the bookmark
-  abbrev faults : List Refusal
+  abbrev faults : List Ranked
   faults = step_refusals l.run_len start end mark n
 
   pub code-range : (range_code ns ss base start end (length values) ≡ 0 → ⊥) → range_code ns ss base start end (length values) ≡ code
@@ -106,8 +105,8 @@ module _ (ns : List ℕ) (ss : List ℤ) (base : ℤ) (start end : ℕ) (values 
   unfolding step_code range_code step_refusals
   allowed e =
       let z = first-none (compile_refusals PLACES ns ss ++ range_refusals ns ss base start end (length values)) faults e in
-      let r9 : List Refusal = (9, not (eqb mark.next start) && not (in_limits mark.acc)) ∷ [] in
-      let r15 : List Refusal = (15, not (begins_piece l.run_len start end mark.next)) ∷ r9 in
+      let r9 : List Ranked = (9, not (eqb mark.next start) && not (in_limits mark.acc)) ∷ [] in
+      let r15 : List Ranked = (15, not (begins_piece l.run_len start end mark.next)) ∷ r9 in
       let x = refused_none 13 (eqb n 0) r15 (code-faults z ∙ e) in
       let y = refused_none 14 (not (begins_piece l.run_len start end mark.next)) r9 x.1 in
       let w = refused_none 8 (not (eqb mark.next start) && not (in_limits mark.acc)) [] y.1 in

@@ -16,7 +16,7 @@ use Rattle.offsets.specs.InnerCursors.{Bounded, Traversal}
 use Rattle.offsets.specs.Pieces.{run_of, outer_of}
 use Rattle.offsets.proofs.Runs.{run-some}
 use Rattle.accumulator.specs.declared.StableProductFloatAcc.{StableProductFloatAcc}
-use Rattle.accumulator.specs.declared.Reduced.TheVariants.{Acc}
+use Rattle.std.specs.Prelude.{Ok}
 use Rattle.accumulator.specs.Joining.{combined, within_limit, in_limits, Answer, refusal, answer_of, answered}
 use Rattle.accumulator.proofs.Combining.{acc-same}
 use Rattle.kernels.specs.Pieces.{Piece, worked_piece, joined_onto, joined_pieces, rates_of}
@@ -30,15 +30,15 @@ use Rattle.bookmarks.proofs.Portions.{stop-upto, stop-forward, portion-count, po
 
 -- ---- joined with refusals
 -- a join whose exponent is within the limit is not refused
-answered-within : (a b : StableProductFloatAcc) → within_limit (combined a b).e ≡ true → answered a b ≡ answer_of (Acc (combined a b))
+answered-within : (a b : StableProductFloatAcc) → within_limit (combined a b).e ≡ true → answered a b ≡ answer_of (Ok (combined a b))
 unfolding answered
 answered-within a b h =
-    ap (λ (t : Bool). cond (not (a.bad || b.bad) && not t) (refusal 10) (answer_of (Acc (combined a b)))) h
-    ∙ ap (λ (t : Bool). cond t (refusal 10) (answer_of (Acc (combined a b)))) (and-false (not (a.bad || b.bad)))
+    ap (λ (t : Bool). cond (not (a.bad || b.bad) && not t) (refusal 10) (answer_of (Ok (combined a b)))) h
+    ∙ ap (λ (t : Bool). cond t (refusal 10) (answer_of (Ok (combined a b)))) (and-false (not (a.bad || b.bad)))
 
 -- exponents of at most `in_list` for each value, and those of the accumulator, within the limit: nothing is refused
 pub joined-near : (a : StableProductFloatAcc) {ps : List Piece} → Each FullPiece ps → nat_abs a.e + in_list * length (rates_of ps) ≤ 2 ^ 52
-    → joined_within a ps ≡ answer_of (Acc (joined_onto a ps))
+    → joined_within a ps ≡ answer_of (Ok (joined_onto a ps))
 unfolding joined_within rates_of
 joined-near a none h = refl
 joined-near a (more {x = p} {xs = ps} f fs) h =
@@ -54,11 +54,11 @@ joined-near a (more {x = p} {xs = ps} f fs) h =
     (answered-within a (worked_piece p) (le-leb (nat_abs c.e) (2 ^ 52) (omega arith)))
     ∙ joined-near c fs z
 
-pub same-acc : (a r : StableProductFloatAcc) → answer_of (Acc a) ≡ answer_of (Acc r) → r ≡ a
+pub same-acc : (a r : StableProductFloatAcc) → answer_of (Ok a) ≡ answer_of (Ok r) → r ≡ a
 same-acc a r e = acc-same r.m a.m r.e a.e r.bad a.bad (cc) (cc) (cc)
 
 -- what is not refused is the joined accumulator
-pub joined_is : (a : StableProductFloatAcc) (ps : List Piece) (r : StableProductFloatAcc) → joined_within a ps ≡ answer_of (Acc r) → r ≡ joined_onto a ps
+pub joined_is : (a : StableProductFloatAcc) (ps : List Piece) (r : StableProductFloatAcc) → joined_within a ps ≡ answer_of (Ok r) → r ≡ joined_onto a ps
 unfolding joined_within answered
 joined_is a [] r e = same-acc a r e
 joined_is a (p ∷ ps) r e =
@@ -66,8 +66,8 @@ joined_is a (p ∷ ps) r e =
     (joined_is (combined a (worked_piece p)) ps r)
   where
     go : (t : Bool) (c : StableProductFloatAcc)
-        → and_then (cond t (refusal 10) (answer_of (Acc c))) (λ (q : StableProductFloatAcc). joined_within q ps) ≡ answer_of (Acc r)
-        → (joined_within c ps ≡ answer_of (Acc r) → r ≡ joined_onto c ps) → r ≡ joined_onto c ps
+        → and_then (cond t (refusal 10) (answer_of (Ok c))) (λ (q : StableProductFloatAcc). joined_within q ps) ≡ answer_of (Ok r)
+        → (joined_within c ps ≡ answer_of (Ok r) → r ≡ joined_onto c ps) → r ≡ joined_onto c ps
     go true c e f = cc
     go false c e f = f e
 
@@ -123,10 +123,10 @@ module _ (l : FullTraversal) (t : Traversal l) (base : ℤ) (b : Bounded (run_of
 
     -- joined onto the first m they are the first m + n, and nothing is refused
     pub both-joined : joined_within (joined_pieces (pieces_from l base values end m start)) (pieces_from l base values end n (stop_at l.run_len end m start))
-        ≡ answer_of (Acc (joined_pieces (pieces_from l base values end (m + n) start)))
+        ≡ answer_of (Ok (joined_pieces (pieces_from l base values end (m + n) start)))
     both-joined =
         let x = (joined-within (full-pieces l t base b values v end m start)).1 in
         joined-near (joined_pieces (first m)) (full-pieces l t base b values v end n (reach m))
         (omega (arith, x, upto (m + n), first_ends m some, both_end))
-        ∙ ap (λ (r : StableProductFloatAcc). answer_of (Acc r))
+        ∙ ap (λ (r : StableProductFloatAcc). answer_of (Ok r))
         (sym (ap joined_pieces both ∙ pieces-behind (first m) second (omega (arith, portion-count l t base b values end m start some forward))))

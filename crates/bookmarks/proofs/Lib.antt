@@ -5,5 +5,6 @@ pub mod Counting
 pub mod OneByOne
 pub mod Telling
 pub mod Calls
+pub mod Stepping
 pub mod Theorems
 pub mod Cases

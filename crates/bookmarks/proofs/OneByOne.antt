@@ -16,8 +16,8 @@ use Rattle.offsets.specs.declared.pieces.RangeCursor.{RangeCursor}
 use Rattle.offsets.specs.declared.pieces.RangePiece.{RangePiece}
 use Rattle.offsets.specs.InnerPieces.{range_at}
 use Rattle.accumulator.specs.declared.StableProductFloatAcc.{StableProductFloatAcc}
-use Rattle.accumulator.specs.declared.Reduced.{Reduced}
-use Rattle.accumulator.specs.declared.Reduced.TheVariants.{Acc, Refused}
+use Rattle.refusals.specs.declared.Refusal.{Refusal}
+use Rattle.std.specs.Prelude.{Result, Ok, Err}
 use Rattle.accumulator.specs.Joining.{combined, within_limit, in_limits, Answer, answer_of, answered, joined}
 use Rattle.accumulator.proofs.Answers.{answered-joined, accepted, refused-joined}
 use Rattle.kernels.specs.InnerStepped.{Sound}
@@ -38,7 +38,7 @@ in-limits a s h = rw (s.in_unit, h)
 
 module _ (a b : StableProductFloatAcc) (A : in_limits a ≡ true) (B : in_limits b ≡ true) where
   -- an accumulator is the combined one, within its limits
-  pub join_kept : (r : StableProductFloatAcc) → answer_of (Acc r) ≡ joined a b → (r ≡ combined a b) × (within_limit r.e ≡ true)
+  pub join_kept : (r : StableProductFloatAcc) → answer_of (Ok r) ≡ joined a b → (r ≡ combined a b) × (within_limit r.e ≡ true)
   join_kept r e = go (within_limit (combined a b).e) refl
     where
       same : within_limit (combined a b).e ≡ true → r ≡ combined a b
@@ -58,7 +58,7 @@ pub record Joining (l : FullTraversal) (base : ℤ) (values : List Float) (end :
     pub rest : joined_within acc (pieces_of l base values c.at end) ≡ whole
 
 pub joining-all : (l : FullTraversal) (base : ℤ) (values : List Float) (end : ℕ) (whole : Answer) (acc : StableProductFloatAcc) (c : RangeCursor)
-    → Joining l base values end whole acc c → end ≤ c.at → answer_of (Acc acc) ≡ whole
+    → Joining l base values end whole acc c → end ≤ c.at → answer_of (Ok acc) ≡ whole
 unfolding joined_within
 joining-all l base values end whole acc c s h = ap (joined_within acc) (sym (pieces_none l base values end _ c.at h)) ∙ s.rest
 
@@ -67,7 +67,7 @@ module _ (l : FullTraversal) (base : ℤ) (values : List Float) (end : ℕ) (c :
     (b : StableProductFloatAcc)
     (e : b ≡ worked (eq_z l.run_stride (pos 1)) (strided values p.first l.run_stride p.len))
     (v : (i : ℕ) → T (fits binary64 (get_or values i nan))) (few : p.len ≤ 2 ^ 40)
-    (whole : Answer) (acc : StableProductFloatAcc) (s : Joining l base values end whole acc c) (r : Reduced) (j : answer_of r ≡ joined acc b) where
+    (whole : Answer) (acc : StableProductFloatAcc) (s : Joining l base values end whole acc c) (r : Result StableProductFloatAcc Refusal) (j : answer_of r ≡ joined acc b) where
   piece-within : in_limits b ≡ true
   piece-within =
       in-limits b (piece-sound l base values end c p t b e v)
@@ -81,13 +81,13 @@ module _ (l : FullTraversal) (base : ℤ) (values : List Float) (end : ℕ) (c :
       ∙ ap (joined_within acc) (sym t.pieces) ∙ s.rest
 
   -- a refusal is the whole answer
-  pub joining-refused : (n : ℕ) → r ≡ Refused n → answer_of r ≡ whole
+  pub joining-refused : (n : Refusal) → r ≡ Err n → answer_of r ≡ whole
   joining-refused n e =
       subst
-      (λ (x : Reduced). and_then (answer_of x) (λ (a : StableProductFloatAcc). joined_within a (pieces_of l base values p.next.at end)) ≡ whole → answer_of x ≡ whole)
+      (λ (x : Result StableProductFloatAcc Refusal). and_then (answer_of x) (λ (a : StableProductFloatAcc). joined_within a (pieces_of l base values p.next.at end)) ≡ whole → answer_of x ≡ whole)
       (sym e) (λ q. q) next
 
-  pub joining-more : (a : StableProductFloatAcc) → r ≡ Acc a → Joining l base values end whole a p.next
+  pub joining-more : (a : StableProductFloatAcc) → r ≡ Ok a → Joining l base values end whole a p.next
   joining-more a g =
       let k = join_kept acc b s.within piece-within a (sym (ap answer_of g) ∙ j) in
       let sound = subst Sound (sym k.0) (combined-sound acc b s.sound (piece-sound l base values end c p t b e v)) in
@@ -96,5 +96,5 @@ module _ (l : FullTraversal) (base : ℤ) (values : List Float) (end : ℕ) (c :
         cursor_is = t.next_cursor_is;
         within = in-limits a sound k.1;
         sound = sound;
-        rest = sym (ap (λ (x : Reduced). and_then (answer_of x) (λ (y : StableProductFloatAcc). joined_within y (pieces_of l base values p.next.at end))) g) ∙ next;
+        rest = sym (ap (λ (x : Result StableProductFloatAcc Refusal). and_then (answer_of x) (λ (y : StableProductFloatAcc). joined_within y (pieces_of l base values p.next.at end))) g) ∙ next;
       }

@@ -19,14 +19,12 @@ use Rattle.offsets.specs.Lists.{range_code}
 use Rattle.offsets.proofs.Checked.{Checked, accepted-range}
 use Rattle.offsets.proofs.Runs.{run-some}
 use Rattle.accumulator.specs.declared.StableProductFloatAcc.{StableProductFloatAcc}
-use Rattle.accumulator.specs.declared.Reduced.TheVariants.{Acc}
+use Rattle.std.specs.Prelude.{Ok}
 use Rattle.accumulator.specs.Joining.{in_limits, answer_of}
 use Rattle.kernels.specs.Pieces.{Piece, joined_onto, joined_pieces, rates_of}
 use Rattle.reduction.specs.Ranges.{pieces_from, pieces_of, range_product}
 use Rattle.bookmarks.specs.declared.Bookmark.{Bookmark}
-use Rattle.bookmarks.specs.declared.Step.{Step}
-use Rattle.bookmarks.specs.declared.Step.TheVariants.{Done, More}
-use Rattle.bookmarks.specs.Steps.{begins_piece, portion_of, told, step_of}
+use Rattle.bookmarks.specs.Steps.{Done, More, StepAnswer, begins_piece, portion_of, told, step_of}
 use Rattle.bookmarks.specs.InnerPortions.{pieces_left, stop_at}
 use Rattle.bookmarks.specs.Theorems.{pieces_between, Worked, RuleB3Law, Loop, last, again, RuleB4Law}
 use Rattle.bookmarks.proofs.Portions.{stop-all, stop-before, stop-upto, stop-forward, stop-inside, portion-count, portion-stop, portion-pieces}
@@ -72,7 +70,7 @@ module _ (ns : List ℕ) (ss : List ℤ) (base : ℤ) (start end : ℕ) (values 
     product_is true e = ap joined_pieces (pieces_are ∙ ap (λ (k : ℕ). pieces_of l base values k stop) (eqb-true mark.next start e))
     product_is false e = ap (joined_onto mark.acc) pieces_are
 
-    all-worked : (a : StableProductFloatAcc) → portion_of (eqb mark.next start) mark.acc ps ≡ answer_of (Acc a)
+    all-worked : (a : StableProductFloatAcc) → portion_of (eqb mark.next start) mark.acc ps ≡ answer_of (Ok a)
         → Worked l base values start end mark stop (length ps) a
     all-worked a e =
         record {
@@ -122,7 +120,7 @@ calls-more q r n h e =
     omega (arith, add-div_right (r + (n - 1)) h, ap (λ (x : ℕ). x / n) z)
 
 -- a loop of calls: behind m of all the pieces, a call goes on behind n more, or is done with the last
-module _ (call : Bookmark → Step) (n all : ℕ) (some_piece : 1 ≤ n) (product : StableProductFloatAcc) (Behind : ℕ → Bookmark → Type 0)
+module _ (call : Bookmark → StepAnswer) (n all : ℕ) (some_piece : 1 ≤ n) (product : StableProductFloatAcc) (Behind : ℕ → Bookmark → Type 0)
     (goes_on : (m : ℕ) (mark : Bookmark) → Behind m mark → m + n < all
     → (to : Bookmark) × (pieces : ℕ) × (call mark ≡ More to pieces) × Behind (m + n) to)
     (ends : (m : ℕ) (mark : Bookmark) → Behind m mark → all ≤ m + n → (pieces : ℕ) × (call mark ≡ Done product pieces)) where
@@ -168,12 +166,12 @@ module _ (ns : List ℕ) (ss : List ℤ) (base : ℤ) (start end : ℕ) (values 
   abbrev all : ℕ
   all = pieces_left layout.run_len end start
 
-  abbrev call : Bookmark → Step
+  abbrev call : Bookmark → StepAnswer
   call mark = step_of ns ss base start end values mark n
 
   -- what is told of the first m pieces
-  abbrev tells : ℕ → ℕ → Step
-  tells m pieces = told end (reach m) pieces (answer_of (Acc (joined_pieces (first m))))
+  abbrev tells : ℕ → ℕ → StepAnswer
+  tells m pieces = told end (reach m) pieces (answer_of (Ok (joined_pieces (first m))))
 
   tells_more : (m pieces : ℕ) → m < all → tells m pieces ≡ More (marked m) pieces
   tells_more m pieces h =
@@ -198,7 +196,7 @@ module _ (ns : List ℕ) (ss : List ℤ) (base : ℤ) (start end : ℕ) (values 
         begins = begins-start layout.run_len start end;
         stands = ap (λ (b : Bool). not b && not (in_limits any)) q;
       }) in
-      step-tells ns ss base start end values (record { next = start; acc = any }) n z (reach n) (answer_of (Acc (joined_pieces (first n))))
+      step-tells ns ss base start end values (record { next = start; acc = any }) n z (reach n) (answer_of (Ok (joined_pieces (first n))))
       (portion-stop layout c.traversal base c.bounded values end n start some_piece c.forward)
       (ap (λ (b : Bool). portion_of b any (first n)) q)
 
@@ -218,7 +216,7 @@ module _ (ns : List ℕ) (ss : List ℤ) (base : ℤ) (start end : ℕ) (values 
             (first-in-limits layout c.traversal base c.bounded values v start end c.forward few m h)
             ∙ and-false (not (eqb (reach m) start));
       }) in
-      step-tells ns ss base start end values (marked m) n z (reach (m + n)) (answer_of (Acc (joined_pieces (first (m + n)))))
+      step-tells ns ss base start end values (marked m) n z (reach (m + n)) (answer_of (Ok (joined_pieces (first (m + n)))))
       (both_end layout c.traversal base c.bounded values v start end c.forward few m h n)
       (ap (λ (b : Bool). portion_of b (joined_pieces (first m)) (pieces_from layout base values end n (reach m))) (ne_eqb (reach m) start (λ q. omega arith))
       ∙ both-joined layout c.traversal base c.bounded values v start end c.forward few m h n)

@@ -5,9 +5,7 @@ use Rattle.std.specs.Float.{fin, nan}
 use Rattle.accumulator.specs.declared.StableProductFloatAcc.{StableProductFloatAcc}
 use Rattle.reduction.specs.Cases.{whole_float}
 use Rattle.bookmarks.specs.declared.Bookmark.{Bookmark}
-use Rattle.bookmarks.specs.declared.Step.{Step}
-use Rattle.bookmarks.specs.declared.Step.TheVariants.{Done, More, Refused}
-use Rattle.bookmarks.specs.Steps.{step_of}
+use Rattle.bookmarks.specs.Steps.{StepAnswer, Done, More, Refused, step_of}
 
 -- 2^e; 2^e with the mark; and one that no call gives
 abbrev pub power : ℤ → StableProductFloatAcc
@@ -23,7 +21,7 @@ abbrev pub mark : ℕ → StableProductFloatAcc → Bookmark
 mark k a = record { next = k; acc = a }
 
 -- three runs of two, with a 3.0 between them that no element visits: 2 × 1, 2 × 1 and 1/4 × 1
-abbrev pub StepOver : ℕ → ℕ → Bookmark → ℕ → Step → Type 0
+abbrev pub StepOver : ℕ → ℕ → Bookmark → ℕ → StepAnswer → Type 0
 StepOver start end from n answer =
     step_of (2 ∷ 3 ∷ []) (pos 1 ∷ pos 3 ∷ []) (pos 0) start end
     (fin false 1 (pos 1) ∷ whole_float 1 ∷ whole_float 3 ∷ fin false 1 (pos 1) ∷ whole_float 1 ∷ whole_float 3 ∷ fin false 1 (negsuc 1) ∷ whole_float 1 ∷ [])

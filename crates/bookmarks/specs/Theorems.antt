@@ -11,9 +11,7 @@ use Rattle.accumulator.specs.declared.StableProductFloatAcc.{StableProductFloatA
 use Rattle.kernels.specs.Pieces.{joined_onto, joined_pieces}
 use Rattle.reduction.specs.Ranges.{pieces_of, range_product}
 use Rattle.bookmarks.specs.declared.Bookmark.{Bookmark}
-use Rattle.bookmarks.specs.declared.Step.{Step}
-use Rattle.bookmarks.specs.declared.Step.TheVariants.{Done, More}
-use Rattle.bookmarks.specs.Steps.{begins_piece, step_of}
+use Rattle.bookmarks.specs.Steps.{begins_piece, StepAnswer, Done, More, step_of}
 
 -- how many of the n numbers from k on are such
 unfoldable pub count_from : (ℕ → Bool) → ℕ → ℕ → ℕ
@@ -46,7 +44,7 @@ RuleB3Law =
     (ns : List ℕ) (ss : List ℤ) (base : ℤ) (start end : ℕ) (values : List Float) (mark : Bookmark) (n : ℕ) → RuleB3 ns ss base start end values mark n
 
 -- rule B4, a caller's loop from a bookmark on: after so many calls, none of them refused, it is done with the accumulator a
-pub data Loop (call : Bookmark → Step) : Bookmark → ℕ → StableProductFloatAcc → Type 0 where
+pub data Loop (call : Bookmark → StepAnswer) : Bookmark → ℕ → StableProductFloatAcc → Type 0 where
   last : {mark : Bookmark} {a : StableProductFloatAcc} {pieces : ℕ} → call mark ≡ Done a pieces → Loop call mark 1 a
   again : {mark to : Bookmark} {a : StableProductFloatAcc} {pieces calls : ℕ} → call mark ≡ More to pieces → Loop call to calls a
       → Loop call mark (suc calls) a

@@ -3,20 +3,22 @@
 
 ghost use Rattle.std.specs.Prelude.{◌≡◌, true, ◌∷◌, ◌-◌, ◌^◌, ◌≤◌, ◌<◌, min, length, eqb, nat_abs};
 ghost use Rattle.refusals.specs.Refusals.{first_of};
+ghost use Rattle.refusals.specs.Codes.{code_of};
 ghost use Rattle.offsets.specs.Elements.{all_inside};
 ghost use Rattle.offsets.specs.InnerCursors.{Bounded, Traversal};
 ghost use Rattle.offsets.specs.Pieces.{run_of, outer_of};
-ghost use Rattle.accumulator.specs.Joining.{in_limits, answer_of};
+ghost use Rattle.accumulator.specs.Joining.{in_limits, accumulator, answer_of};
 ghost use Rattle.kernels.specs.InnerStepped.{Sound};
 ghost use Rattle.reduction.specs.Ranges.{pieces_of};
-ghost use Rattle.bookmarks.specs.Steps.{begins_piece, step_refusals, joined_within, portion_of, told, step_of};
+ghost use Rattle.bookmarks.specs.Steps.{begins_piece, step_refusals, joined_within, portion_of, told, step_of, step_answer_of};
 ghost use Rattle.bookmarks.specs.InnerPortions.{pieces_left, stop_at};
 
-use accumulator::{Reduced, StableProductFloatAcc};
+use accumulator::StableProductFloatAcc;
 use layout::traversal::FullTraversal;
+use refusals::Refusal;
 
 // From an exponent up to 2^51, either way, no 2^40 values carry an accumulator past 2^52.
-const NEAR: i64 = 2251799813685248;
+const NEAR: u64 = 1 << 51;
 
 // Where a reduction goes on: the next element number, and the accumulator of the pieces before it.
 #[derive(Clone, Copy)]
@@ -25,12 +27,11 @@ pub struct Bookmark {
     pub acc: StableProductFloatAcc,
 }
 
-// The range's product, or a further bookmark, each with the number of pieces that were worked; or the number of a refusal.
+// The range's product, or a further bookmark, each with the number of pieces that were worked.
 #[derive(Clone, Copy)]
 pub enum Step {
     Done(StableProductFloatAcc, u64),
     More(Bookmark, u64),
-    Refused(u32),
 }
 
 // The pieces of one call: the element number behind them, and how many they are.
@@ -44,37 +45,25 @@ fn begins_piece(len: u64, start: u64, end: u64, k: u64) -> bool
     requires { 1 ≤ len }
     ensures { result ≡ begins_piece len start end k }
 {
-    if k == start {
-        return true;
-    }
-    if k < start {
-        return false;
-    }
-    if end <= k {
-        return false;
-    }
-    k % len == 0
+    k == start || (start <= k && k < end && k % len == 0)
 }
 
 // What is asked of the count and of the bookmark. The accumulator is ignored at the start.
-fn step_code(len: u64, start: u64, end: u64, mark: Bookmark, n: u64) -> u32
+fn check_step(len: u64, start: u64, end: u64, mark: Bookmark, n: u64) -> Result<(), Refusal>
     requires { 1 ≤ len }
-    ensures { result ≡ first_of (step_refusals len start end mark n) }
+    ensures { code_of result ≡ first_of (step_refusals len start end mark n) }
 {
     if n == 0 {
-        return refusals::NO_PIECES;
+        return Err(Refusal::NoPieces);
     }
     let at = mark.next;
     if !begins_piece(len, start, end, at) {
-        return refusals::NOT_A_PIECE;
+        return Err(Refusal::NotAPiece);
     }
-    if at == start {
-        return 0;
+    if at != start && !accumulator::in_limits(mark.acc) {
+        return Err(Refusal::AccumulatorOutOfRange);
     }
-    if accumulator::in_limits(mark.acc) {
-        return 0;
-    }
-    refusals::ACCUMULATOR_OUT_OF_RANGE
+    Ok(())
 }
 
 // At most n pieces from element k on: a piece ends with its run, the last one with the range.
@@ -104,7 +93,7 @@ fn join_each(
     end: u64,
     values: &[f64],
     acc: StableProductFloatAcc,
-) -> Reduced
+) -> Result<StableProductFloatAcc, Refusal>
     requires { Traversal l × Bounded (run_of l ∷ outer_of l) base × (k < end) × (end ≤ l.total) × (l.total ≤ 2 ^ 40)
         × (all_inside (run_of l ∷ outer_of l) l.total base (length values.now) ≡ true) × (in_limits acc ≡ true) × Sound acc }
     ensures { answer_of result ≡ joined_within acc (pieces_of l base values.now k end) }
@@ -112,23 +101,20 @@ fn join_each(
     let stride = l.run_stride;
     let mut acc = acc;
     let mut c = offsets::pieces::begin(l, base, k);
+    // Each piece hands on the cursor of the next, so no range counts them.
     while c.at < end {
         let p = offsets::pieces::next_piece(l, end, c);
         let b = reduction::full::reduce_piece(values, p.first, stride, p.len as usize);
-        let r = accumulator::join(acc, b);
-        let Reduced::Acc(a) = r else {
-            return r;
-        };
-        acc = a;
+        acc = accumulator::join(acc, b)?;
         c = p.next;
     }
-    Reduced::Acc(acc)
+    Ok(acc)
 }
 
 fn is_near(e: i64) -> bool
     ensures { result ≡ true → nat_abs e ≤ 2 ^ 51 }
 {
-    -NEAR <= e && e <= NEAR
+    e.unsigned_abs() <= NEAR
 }
 
 // The pieces from element k to end - 1 joined onto an accumulator. Only from one that is far out can they pass 2^52.
@@ -139,15 +125,14 @@ fn join_portion(
     end: u64,
     values: &[f64],
     acc: StableProductFloatAcc,
-) -> Reduced
+) -> Result<StableProductFloatAcc, Refusal>
     requires { Traversal l × Bounded (run_of l ∷ outer_of l) base × (k < end) × (end ≤ l.total) × (l.total ≤ 2 ^ 40)
         × (all_inside (run_of l ∷ outer_of l) l.total base (length values.now) ≡ true) × (in_limits acc ≡ true) }
     ensures { answer_of result ≡ joined_within acc (pieces_of l base values.now k end) }
 {
     if is_near(acc.e) {
         let from = offsets::pieces::begin(l, base, k);
-        let r = reduction::full::join_pieces(l, base, from, end, values, acc);
-        return Reduced::Acc(r);
+        return Ok(reduction::full::join_pieces(l, base, from, end, values, acc));
     }
     join_each(l, base, k, end, values, acc)
 }
@@ -160,7 +145,7 @@ fn reduce_portion(
     mark: Bookmark,
     stop: u64,
     values: &[f64],
-) -> Reduced
+) -> Result<StableProductFloatAcc, Refusal>
     requires { Traversal l × Bounded (run_of l ∷ outer_of l) base × (mark.next < stop) × (stop ≤ l.total) × (l.total ≤ 2 ^ 40)
         × (all_inside (run_of l ∷ outer_of l) l.total base (length values.now) ≡ true)
         × ((mark.next ≡ start → ⊥) → in_limits mark.acc ≡ true) }
@@ -168,25 +153,19 @@ fn reduce_portion(
 {
     let next = mark.next;
     if next == start {
-        let r = reduction::full::reduce_full_range(l, base, start, stop, values);
-        return Reduced::Acc(r);
+        return Ok(reduction::full::reduce_full_range(l, base, start, stop, values));
     }
     join_portion(l, base, next, stop, values, mark.acc)
 }
 
-fn tell(end: u64, p: Portion, answer: Reduced) -> Step
-    ensures { result ≡ told end p.stop p.pieces (answer_of answer) }
+fn tell(end: u64, p: Portion, acc: StableProductFloatAcc) -> Step
+    ensures { step_answer_of (Ok result) ≡ told end p.stop p.pieces (accumulator acc.m acc.e acc.bad) }
 {
-    match answer {
-        Reduced::Acc(acc) => {
-            let next = p.stop;
-            if next < end {
-                Step::More(Bookmark { next, acc }, p.pieces)
-            } else {
-                Step::Done(acc, p.pieces)
-            }
-        }
-        Reduced::Refused(code) => Step::Refused(code),
+    let next = p.stop;
+    if next < end {
+        Step::More(Bookmark { next, acc }, p.pieces)
+    } else {
+        Step::Done(acc, p.pieces)
     }
 }
 
@@ -201,30 +180,14 @@ pub fn reduce_step(
     values: &[f64],
     mark: Bookmark,
     n: u64,
-) -> Step
-    ensures { result ≡ step_of sizes.now strides.now base start end values.now mark n }
+) -> Result<Step, Refusal>
+    ensures { step_answer_of result ≡ step_of sizes.now strides.now base start end values.now mark n }
 {
     let length = values.len() as u64;
-    let compiled = FullTraversal::compile(sizes, strides);
-    let code = offsets::list::range_code(
-        compiled.code,
-        compiled.traversal.total,
-        sizes,
-        strides,
-        base,
-        start,
-        end,
-        length,
-    );
-    if code != 0 {
-        return Step::Refused(code);
-    }
-    let len = compiled.traversal.run_len;
-    let fault = step_code(len, start, end, mark, n);
-    if fault != 0 {
-        return Step::Refused(fault);
-    }
-    let p = portion_from(len, end, n, mark.next);
-    let answer = reduce_portion(compiled.traversal, base, start, mark, p.stop, values);
-    tell(end, p, answer)
+    let l = FullTraversal::compile(sizes, strides)?;
+    offsets::list::check_range(l.total, sizes, strides, base, start, end, length)?;
+    check_step(l.run_len, start, end, mark, n)?;
+    let p = portion_from(l.run_len, end, n, mark.next);
+    let acc = reduce_portion(l, base, start, mark, p.stop, values)?;
+    Ok(tell(end, p, acc))
 }

@@ -8,19 +8,19 @@ ghost use Rattle.ordered.specs.Ranges.{ordered_of};
 ghost use Rattle.figures.specs.Figures.{figure_of};
 ghost use Rattle.handed.specs.Answers.{number_code, number_given};
 
-use finishing::Finished;
+use refusals::Refusal;
 
 // A number into its place, and 0; or the number of a refusal, with the place as it was.
-fn hand_out(answer: Finished, number: &mut f64) -> u32
+fn hand_out(answer: Result<f64, Refusal>, number: &mut f64) -> u32
     ensures value { result ≡ number_code (final_answer_of answer) }
     ensures number_after { number.new ≡ number_given number.old (final_answer_of answer) }
 {
     match answer {
-        Finished::Number(x) => {
+        Ok(x) => {
             *number = x;
             0
         }
-        Finished::Refused(n) => n,
+        Err(refusal) => u32::from(refusal),
     }
 }
 

@@ -1,7 +1,7 @@
 -- The cases of the figure's answer.
 -- Assumes nothing.
 use Prim.Native.Nat.{ℕ}
-use mathlib.Core.Path.{◌≡◌, ap, ◌∙◌}
+use mathlib.Core.Path.{◌≡◌, sym, ap, ◌∙◌}
 use mathlib.Core.Bool.{Bool, true, false, cond}
 use mathlib.Core.List.{List}
 use lib.ListN.{length}
@@ -10,8 +10,16 @@ use lib.Ieee.{Float}
 use borrow.Author.Tests.{eq-eqb, ne_eqb}
 use Rattle.offsets.specs.Lists.{range_code}
 use Rattle.floats.specs.Fields.{value_of}
-use Rattle.finishing.specs.Finishing.{FinalAnswer, value, refusal, value_of_acc}
-use Rattle.reduction.specs.Ranges.{range_product}
+use Rattle.finishing.specs.Finishing.{FinalAnswer, value, refusal, final_answer_of, value_of_acc}
+use Rattle.std.specs.Prelude.{Err}
+use Rattle.refusals.specs.declared.Refusal.{Refusal}
+use Rattle.refusals.specs.Codes.{number}
+use Rattle.layout.specs.declared.traversal.FullTraversal.{FullTraversal}
+use Rattle.refusals.proofs.Numbers.{some-number}
+use Rattle.offsets.proofs.Checked.{Checked}
+use Rattle.accumulator.specs.declared.StableProductFloatAcc.{StableProductFloatAcc}
+use Rattle.kernels.specs.Pieces.{joined_pieces}
+use Rattle.reduction.specs.Ranges.{pieces_of, range_product}
 use Rattle.ordered.specs.Ranges.{range_bits}
 use Rattle.figures.specs.Figures.{range_figure, figure_of}
 
@@ -43,3 +51,11 @@ module _ (ns : List ℕ) (ss : List ℤ) (base : ℤ) (start end : ℕ) (values 
       → figure_of ns ss base start end values ≡ value (value_of_acc (range_product ns ss base start end values))
   unfolding range_figure
   figure-good e b = figure-accepted e ∙ ap by-mark b
+
+  -- what the code answers
+  pub told-refused : (r : Refusal) → number r ≡ code → final_answer_of (Err r) ≡ figure_of ns ss base start end values
+  told-refused r k = ap refusal k ∙ sym (figure-refused (λ z. some-number r (k ∙ z)))
+
+  pub reduced-range : (l : FullTraversal) → Checked ns ss base start end (length values) l → (a : StableProductFloatAcc)
+      → a ≡ joined_pieces (pieces_of l base values start end) → a ≡ range_product ns ss base start end values
+  reduced-range l c a e = e ∙ ap (λ (t : FullTraversal). joined_pieces (pieces_of t base values start end)) c.is

@@ -41,7 +41,7 @@ module _ (ns : List ℕ) (ss : List ℤ) (base : ℤ) (start end : ℕ) (values 
       let d = rule-D3 ns ss base start end values v e in
       record {
         bad = λ b. figure-bad ns ss base start end values e (d.mark ∙ b) ∙ sym (ordered-number ns ss base start end values e);
-        finished = λ r t b. rounded b ∙ sym (d.once r t (d.mark ∙ b));
+        finished = λ b. rounded b ∙ sym (d.once (d.mark ∙ b));
         good = λ b. rounded b ∙ ap (λ (x : StableProductFloatAcc). value (rounded_once (factor_of_acc x))) (d.plain (d.mark ∙ b));
       }
 

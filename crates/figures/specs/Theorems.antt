@@ -8,8 +8,7 @@ use Rattle.layout.specs.Reordered.{SameAxes}
 use Rattle.offsets.specs.Lists.{range_code}
 use Rattle.offsets.specs.Values.{visited_rates}
 use Rattle.floats.specs.Splitting.{is_bad}
-use Rattle.accumulator.specs.declared.Reduced.{Reduced}
-use Rattle.accumulator.specs.Joining.{answer_of, factor_of_acc}
+use Rattle.accumulator.specs.Joining.{factor_of_acc}
 use Rattle.laws.specs.Lists.{Each}
 use Rattle.kernels.specs.Lanes.{some}
 use Rattle.kernels.specs.Plain.{plain_product}
@@ -26,8 +25,8 @@ pub record RuleO4 (ns : List ℕ) (ss : List ℤ) (base : ℤ) (start end : ℕ)
   -- a visited rate is bad: the ordered product call's answer
   pub bad : some is_bad (visited_rates ns ss base start end values) ≡ true → figure_of ns ss base start end values ≡ ordered_of ns ss base start end values
   -- none is: what finishing makes of the reduction's answer, which is the plain product of the pieces, rounded once
-  pub finished : (r : Reduced) → answer_of r ≡ reduce_of ns ss base start end values → some is_bad (visited_rates ns ss base start end values) ≡ false
-      → figure_of ns ss base start end values ≡ finished_of r
+  pub finished : some is_bad (visited_rates ns ss base start end values) ≡ false
+      → figure_of ns ss base start end values ≡ finished_of (reduce_of ns ss base start end values)
   pub good : some is_bad (visited_rates ns ss base start end values) ≡ false → figure_of ns ss base start end values
       ≡ value (rounded_once (factor_of_acc (acc_of (plain_product 11 52 (patterns_of (pieces_of (compile_of PLACES ns ss).traversal base values start end))))))
 

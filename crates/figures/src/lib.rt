@@ -5,9 +5,8 @@ ghost use Rattle.std.specs.Prelude.{◌≡◌};
 ghost use Rattle.finishing.specs.Finishing.{final_answer_of};
 ghost use Rattle.figures.specs.Figures.{figure_of};
 
-use accumulator::Reduced;
-use finishing::Finished;
 use layout::traversal::FullTraversal;
+use refusals::Refusal;
 
 // The finished number of the reduction, or where its mark is bad the ordered product of the same range; or one of refusals 1 to 7. The layout is compiled
 // and tested once for both.
@@ -18,28 +17,15 @@ pub fn figure(
     start: u64,
     end: u64,
     values: &[f64],
-) -> Finished
+) -> Result<f64, Refusal>
     ensures { final_answer_of result ≡ figure_of sizes.now strides.now base start end values.now }
 {
     let length = values.len() as u64;
-    let compiled = FullTraversal::compile(sizes, strides);
-    let code = offsets::list::range_code(
-        compiled.code,
-        compiled.traversal.total,
-        sizes,
-        strides,
-        base,
-        start,
-        end,
-        length,
-    );
-    if code != 0 {
-        return Finished::Refused(code);
-    }
-    let acc = reduction::full::reduce_full_range(compiled.traversal, base, start, end, values);
+    let l = FullTraversal::compile(sizes, strides)?;
+    offsets::list::check_range(l.total, sizes, strides, base, start, end, length)?;
+    let acc = reduction::full::reduce_full_range(l, base, start, end, values);
     if acc.bad {
-        let number = ordered::ordered_full_range(compiled.traversal, base, start, end, values);
-        return Finished::Number(number);
+        return Ok(ordered::ordered_full_range(l, base, start, end, values));
     }
-    finishing::finish(Reduced::Acc(acc))
+    finishing::finish(Ok(acc))
 }

@@ -1,65 +1,97 @@
--- The cases of `finished_of`. Assumes nothing.
+-- The cases of finishing. Assumes nothing.
 use mathlib.Core.Path.{◌≡◌, refl, sym, ap, ◌∙◌}
-use mathlib.Core.Bool.{Bool, true, false, not, cond}
+use mathlib.Core.Bool.{Bool, true, false, not, cond, true≢false}
 use Prim.Native.Nat.{ℕ}
 use lib.Dec.{T, lit<}
-use lib.Ieee.{nan, binary64, fits, div, of_bits}
+use lib.Ieee.{Float, nan, binary64, fits, of_bits}
+use Rattle.std.specs.Prelude.{Result, Ok, Err, IsErrAnd}
+use Rattle.refusals.specs.Codes.{number}
+use Rattle.refusals.specs.declared.Refusal.{Refusal}
+use Rattle.refusals.specs.declared.Refusal.TheVariants.{AccumulatorOutOfRange}
 use Rattle.accumulator.specs.declared.StableProductFloatAcc.{StableProductFloatAcc}
-use Rattle.accumulator.specs.declared.Reduced.{Reduced}
-use Rattle.accumulator.specs.declared.Reduced.TheVariants.{Acc, Refused}
-use Rattle.accumulator.specs.Joining.{factor_of_acc, in_limits}
+use Rattle.accumulator.specs.Joining.{factor_of_acc, in_limits, accumulator, answer_of}
 use Rattle.accumulator.proofs.Answers.{in-limits-unit}
 use Rattle.floats.specs.Factor.{float_of}
 use Rattle.floats.proofs.Magnitude.{at-normal}
 use Rattle.finishing.specs.Once.{rounded_once}
-use Rattle.finishing.specs.InnerFinishing.{code_of}
-use Rattle.finishing.specs.Finishing.{FinalAnswer, value, refusal, value_of_acc, finished_of}
+use Rattle.finishing.specs.Finishing.{value, refusal, final_answer_of, value_of_acc, finished_of, IsFinished}
+use Rattle.finishing.specs.Theorems.{answer_by, final_answer_by}
 use Rattle.finishing.proofs.Once.{once_is}
 
--- ---- by the tag of an answer: 0 is an accumulator, 1 a refusal
-pub code-none : (r : Reduced) (a : StableProductFloatAcc) → r ≡ Acc a → 0 ≡ code_of r
-unfolding code_of
-code-none r a h = sym (ap code_of h)
+-- ---- the value of an accumulator
+pub value-bad : (a : StableProductFloatAcc) → a.bad ≡ true → nan ≡ value_of_acc a
+unfolding value_of_acc
+value-bad a h = ap (λ (t : Bool). cond t nan (rounded_once (factor_of_acc a))) (sym h)
 
-pub code-some : (r : Reduced) (n : ℕ) → r ≡ Refused n → n ≡ code_of r
-unfolding code_of
-code-some r n h = sym (ap code_of h)
+pub value-good : (a : StableProductFloatAcc) → a.bad ≡ false → rounded_once (factor_of_acc a) ≡ value_of_acc a
+unfolding value_of_acc
+value-good a h = ap (λ (t : Bool). cond t nan (rounded_once (factor_of_acc a))) (sym h)
 
-pub handed_out : (r : Reduced) (n : ℕ) → r ≡ Refused n → refusal (code_of r) ≡ finished_of r
-unfolding code_of finished_of
-handed_out r n h = ap (λ (q : Reduced). refusal (code_of q)) h ∙ sym (ap finished_of h)
+-- ---- an accumulator, by any kind of error
+module _ {E : Type 0} (gives : Refusal → E → Type 0) (answer : Result StableProductFloatAcc E) (a : StableProductFloatAcc) (p : answer ≡ Ok a)
+    (h : in_limits a ≡ true) where
+  told : (x : Float) → x ≡ value_of_acc a → IsFinished gives answer (Ok x)
+  told x e = rw p ((λ k. absurd (true≢false (sym h ∙ k))), (λ k. ap Ok e))
 
--- ---- an accumulator
-module _ (r : Reduced) (a : StableProductFloatAcc) (p : r ≡ Acc a) where
-  abbrev at : Bool → Bool → FinalAnswer
-  at s b = cond (not s) (refusal 9) (value (cond b nan (rounded_once (factor_of_acc a))))
+  pub told-bad : a.bad ≡ true → IsFinished gives answer (Ok (of_bits binary64 9221120237041090560))
+  unfolding of_bits
+  told-bad k = told nan (value-bad a k)
 
-  by_tests : (s b : Bool) → in_limits a ≡ s → a.bad ≡ b → at s b ≡ finished_of r
-  unfolding finished_of value_of_acc
-  by_tests s b h k = ap (λ (t : Bool). at t b) (sym h) ∙ ap (at (in_limits a)) (sym k) ∙ sym (ap finished_of p)
+  pub told-good : a.bad ≡ false → (x : Float) → x ≡ rounded_once (factor_of_acc a) → IsFinished gives answer (Ok x)
+  told-good k x e = told x (e ∙ value-good a k)
 
-  pub refused : in_limits a ≡ false → refusal 9 ≡ finished_of r
-  refused h = by_tests false a.bad h refl
+-- ---- what a finished answer tells
+pub acc-refused : (a : StableProductFloatAcc) → in_limits a ≡ false → refusal 9 ≡ finished_of (accumulator a.m a.e a.bad)
+unfolding finished_of
+acc-refused a h = ap (λ (t : Bool). cond (not t) (refusal 9) (value (value_of_acc a))) (sym h)
 
-  -- 0 / 0 is the NaN
-  pub bad-nan : in_limits a ≡ true → a.bad ≡ true → value (div binary64 (of_bits binary64 0) (of_bits binary64 0)) ≡ finished_of r
-  unfolding div of_bits
-  bad-nan h k = by_tests true true h k
+pub acc-value : (a : StableProductFloatAcc) → in_limits a ≡ true → value (value_of_acc a) ≡ finished_of (accumulator a.m a.e a.bad)
+unfolding finished_of
+acc-value a h = ap (λ (t : Bool). cond (not t) (refusal 9) (value (value_of_acc a))) (sym h)
 
-  pub good-value : in_limits a ≡ true → a.bad ≡ false → value (rounded_once (factor_of_acc a)) ≡ finished_of r
-  good-value h k = by_tests true false h k
+-- by numbers of the errors
+module _ {E : Type 0} (gives : Refusal → E → Type 0) (code : E → ℕ) (numbers : (r : Refusal) (e : E) → gives r e → code e ≡ number r) where
+  nine : (result : Result Float E) → IsErrAnd result (gives AccumulatorOutOfRange) → final_answer_by code result ≡ refusal 9
+  nine (Ok x) h = absurd h
+  nine (Err e) h = ap refusal (numbers AccumulatorOutOfRange e h)
+
+  pub finished-by : (answer : Result StableProductFloatAcc E) (result : Result Float E) → IsFinished gives answer result
+      → final_answer_by code result ≡ finished_of (answer_by code answer)
+  unfolding finished_of
+  finished-by (Err e) result h = ap (final_answer_by code) h
+  finished-by (Ok a) result h = go (in_limits a) refl
+    where
+      go : (t : Bool) → in_limits a ≡ t → final_answer_by code result ≡ finished_of (answer_by code (Ok a))
+      go true k = ap (final_answer_by code) (h.1 k) ∙ acc-value a k
+      go false k = nine result (h.0 k) ∙ acc-refused a k
+
+-- by the refusals themselves
+answer-same : (answer : Result StableProductFloatAcc Refusal) → answer_by number answer ≡ answer_of answer
+answer-same (Ok a) = refl
+answer-same (Err r) = refl
+
+final-same : (result : Result Float Refusal) → final_answer_of result ≡ final_answer_by number result
+final-same (Ok x) = refl
+final-same (Err r) = refl
+
+pub finished-told : (answer : Result StableProductFloatAcc Refusal) (result : Result Float Refusal)
+    → IsFinished (λ (x y : Refusal). y ≡ x) answer result → final_answer_of result ≡ finished_of (answer_of answer)
+finished-told answer result h =
+    final-same result
+    ∙ finished-by (λ (x y : Refusal). y ≡ x) number (λ r e k. ap number k) answer result h
+    ∙ ap finished_of (answer-same answer)
 
 -- ---- finishing an accumulator that stands is never a refusal
 module _ (a : StableProductFloatAcc) (h : in_limits a ≡ true) where
-  pub finished-bad : a.bad ≡ true → finished_of (Acc a) ≡ value nan
-  finished-bad k = sym (by_tests (Acc a) a refl true true h k)
+  pub finished-bad : a.bad ≡ true → finished_of (accumulator a.m a.e a.bad) ≡ value nan
+  finished-bad k = sym (acc-value a h) ∙ ap value (sym (value-bad a k))
 
   -- not bad: its factor, rounded once
-  pub finished-once : a.bad ≡ false → finished_of (Acc a) ≡ value (rounded_once (factor_of_acc a))
-  finished-once k = sym (good-value (Acc a) a refl h k)
+  pub finished-once : a.bad ≡ false → finished_of (accumulator a.m a.e a.bad) ≡ value (rounded_once (factor_of_acc a))
+  finished-once k = sym (acc-value a h) ∙ ap value (sym (value-good a k))
 
   -- which is the one rounding of IEEE 754 of the exact m × 2^e
-  pub finished-float : T (fits binary64 a.m) → a.bad ≡ false → finished_of (Acc a) ≡ value (float_of 11 52 (factor_of_acc a))
+  pub finished-float : T (fits binary64 a.m) → a.bad ≡ false → finished_of (accumulator a.m a.e a.bad) ≡ value (float_of 11 52 (factor_of_acc a))
   finished-float f k =
       finished-once k
       ∙ ap value (once_is (factor_of_acc a) (at-normal binary64 11 52 refl refl (lit< tt) a.m f (in-limits-unit a h) a.e))

@@ -29,7 +29,7 @@ use Rattle.accumulator.specs.Joining.{within_limit}
 use Rattle.accumulator.proofs.Exponents.{limits}
 use Rattle.accumulator.proofs.Comparing.{nought, nought-is}
 use Rattle.finishing.specs.Once.{counted, past_largest, from_least_normal, rounded_once}
-use Rattle.finishing.specs.InnerFinishing.{is_infinite}
+use Rattle.std.specs.Float.{float_is_infinite}
 use Rattle.finishing.proofs.Once.{range, float-low, once_is}
 use Rattle.finishing.proofs.Scaling.{float-times-power}
 
@@ -49,8 +49,8 @@ unfolding of_bits
 lowest-is = refl
 
 -- ---- numbers that are neither infinite nor zero
-value-finite : (x : Float) (s : Bool) (a c : ℕ) → HasValue x s a c → is_infinite x ≡ false
-unfolding is_infinite
+value-finite : (x : Float) (s : Bool) (a c : ℕ) → HasValue x s a c → float_is_infinite x ≡ false
+unfolding float_is_infinite
 value-finite nan s a c h = absurd h
 value-finite (inf u) s a c h = absurd h
 value-finite (fin u m e) s a c h = refl
@@ -69,8 +69,8 @@ value-nonzero (fin u m e) s a c A h =
         let q : 0 * c ≡ a * d = subst (λ (x : ℕ). x * c ≡ a * d) n-is e in
         omega arith
 
-infinite-is : (s : Bool) → is_infinite (inf s) ≡ true
-unfolding is_infinite
+infinite-is : (s : Bool) → float_is_infinite (inf s) ≡ true
+unfolding float_is_infinite
 infinite-is s = refl
 
 zero_is : (s : Bool) → eq (fin s 0 (pos 0)) (fin false 0 (pos 0)) ≡ true
@@ -246,7 +246,7 @@ module _ (m : Float) (fm : T (fits binary64 m)) (um : in_unit m ≡ true) where
       → HasValue (at m d) (factor_at 52 m d).sign ((factor_at 52 m d).sig * 2 ^ (range d 52 m h k).place) (2 ^ 1074)
   normal-value d h k = float_of-value binary64 11 52 refl refl (factor_at 52 m d) (N d) (range d 52 m h k)
 
-  finite : (d : ℤ) → past_largest d ≡ false → from_least_normal d ≡ true → is_infinite (at m d) ≡ false
+  finite : (d : ℤ) → past_largest d ≡ false → from_least_normal d ≡ true → float_is_infinite (at m d) ≡ false
   finite d h k = value-finite (at m d) (factor_at 52 m d).sign ((factor_at 52 m d).sig * 2 ^ (range d 52 m h k).place) (2 ^ 1074) (normal-value d h k)
 
   nonzero : (d : ℤ) → past_largest d ≡ false → from_least_normal d ≡ true → eq (at m d) (fin false 0 (pos 0)) ≡ false
@@ -264,18 +264,18 @@ module _ (m : Float) (fm : T (fits binary64 m)) (um : in_unit m ≡ true) where
     fall d p h g = ap (λ (y : Float). mul binary64 y lowest) p ∙ ap (mul binary64 (at m d)) lowest-is ∙ step d (negsuc 1021) h g
 
     -- k is above 1023, and the product is infinite: the second time
-    pub raised_all : Scaling m e x k → past_largest k ≡ true → is_infinite (mul binary64 x highest) ≡ true
+    pub raised_all : Scaling m e x k → past_largest k ≡ true → float_is_infinite (mul binary64 x highest) ≡ true
         → mul binary64 x highest ≡ rounded_once (factor_at 52 m e)
-    raised_all (begun p q) h i = absurd (true≢false (sym i ∙ ap is_infinite (rise (pos 0) (p ∙ sym begin) refl refl) ∙ finite (pos 1023) refl refl))
+    raised_all (begun p q) h i = absurd (true≢false (sym i ∙ ap float_is_infinite (rise (pos 0) (p ∙ sym begin) refl refl) ∙ finite (pos 1023) refl refl))
     raised_all (raised p q r) h i = rise (pos 1023) p refl refl ∙ over (pos 2046) refl ∙ sym (over e (raised-over k e q h)) ∙ once e
     raised_all (lowered p q r) h i = absurd (not-minus k e r h)
 
     -- and it is not: the first time
-    pub raised-more : Scaling m e x k → past_largest k ≡ true → is_infinite (mul binary64 x highest) ≡ false
+    pub raised-more : Scaling m e x k → past_largest k ≡ true → float_is_infinite (mul binary64 x highest) ≡ false
         → Scaling m e (mul binary64 x highest) (k -ℤ pos 1023)
     raised-more (begun p q) h i = raised (rise (pos 0) (p ∙ sym begin) refl refl) (raised-sum k e q) (raised-plus k e h)
     raised-more (raised p q r) h i =
-        absurd (true≢false (sym (ap is_infinite (rise (pos 1023) p refl refl ∙ over (pos 2046) refl) ∙ infinite-is (is_minus m)) ∙ i))
+        absurd (true≢false (sym (ap float_is_infinite (rise (pos 1023) p refl refl ∙ over (pos 2046) refl) ∙ infinite-is (is_minus m)) ∙ i))
     raised-more (lowered p q r) h i = absurd (not-minus k e r h)
 
     -- k is below -1022, and the product is zero: the second time

@@ -1,43 +1,18 @@
--- The patterns of the code: infinity, and a power of two by its exponent field. Assumes nothing.
-use mathlib.Core.Path.{◌≡◌, refl, sym, ap, ◌∙◌, subst}
-use mathlib.Core.Bool.{Bool, true, false, not, ◌||◌}
+-- The patterns of the code: a power of two by its exponent field. Assumes nothing.
+use mathlib.Core.Path.{◌≡◌, sym, ap, ◌∙◌, subst}
+use mathlib.Core.Bool.{true, false, not}
 use Prim.Native.Nat.{ℕ, suc, ◌+◌, ◌-◌, ◌*◌, ◌%◌, ◌^◌, ◌≤◌, ◌<◌}
 use native.Mathlib.Omega.{arith}
 use lib.IntN.{ℤ, pos, negsuc, nat_abs, ◌+ℤ◌}
 use lib.Signed.{lt_z, non_neg}
 use lib.Dec.{T}
-use lib.Ieee.{Float, nan, inf, fin, binary64, minus, eq, neg, of_bits, nan_bits}
+use lib.Ieee.{fin, binary64, minus, of_bits, nan_bits}
 use mir.Syntax.{w64}
 use mir.Val.{SFits, Fits}
 use Rattle.integers.proofs.Difference.{ints, atoms, at-pos, at-neg}
 use Rattle.floats.proofs.Patterns.{minus_is, power-bits, power-number}
 use Rattle.integers.proofs.Machine.{nonneg_pos}
 use Rattle.finishing.specs.Once.{past_largest, from_least_normal}
-use Rattle.finishing.specs.InnerFinishing.{is_infinite}
-
--- ---- infinity
-abbrev pub infinity : Float
-infinity = of_bits binary64 9218868437227405312
-
-infinity-is : infinity ≡ inf false
-unfolding of_bits
-infinity-is = refl
-
-either : (m : Float) → (eq m (inf false) || eq m (neg (inf false))) ≡ is_infinite m
-unfolding eq neg is_infinite
-either nan = refl
-either (inf true) = refl
-either (inf false) = refl
-either (fin s m e) = refl
-
-infinite-test : (m : Float) → (eq m infinity || eq m (neg infinity)) ≡ is_infinite m
-infinite-test m = ap (λ (x : Float). eq m x || eq m (neg x)) infinity-is ∙ either m
-
-pub infinite-taken : (m : Float) → eq m infinity ≡ true → eq m infinity ≡ is_infinite m
-infinite-taken m h = h ∙ ap (λ (t : Bool). t || eq m (neg infinity)) (sym h) ∙ infinite-test m
-
-pub infinite-left : (m : Float) → eq m infinity ≡ false → eq m (neg infinity) ≡ is_infinite m
-infinite-left m h = ap (λ (t : Bool). t || eq m (neg infinity)) (sym h) ∙ infinite-test m
 
 -- ---- a power of two
 -- the exponent of the field x + 1

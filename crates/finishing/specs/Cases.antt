@@ -1,7 +1,6 @@
 -- Two tables of cases of finishing and joining. Each row is an equation that holds by computing.
 use Rattle.std.specs.Prelude.{◌+◌, ◌-◌, ◌^◌, ◌≡◌, Bool, true, false, ℤ, pos, negsuc, Float}
 use Rattle.std.specs.Float.{nan, inf, fin}
-use Rattle.accumulator.specs.declared.Reduced.TheVariants.{Acc}
 use Rattle.accumulator.specs.Joining.{Answer, accumulator, refusal, joined}
 use Rattle.finishing.specs.Finishing.{FinalAnswer, value, refusal as refused, finished_of}
 
@@ -13,7 +12,7 @@ abbrev pub one_half : Float
 one_half = fin false 3 (negsuc 0)
 
 abbrev pub Finishes : Float → ℤ → Bool → FinalAnswer → Type 0
-Finishes m e bad answer = finished_of (Acc (record { m = m; e = e; bad = bad })) ≡ answer
+Finishes m e bad answer = finished_of (accumulator m e bad) ≡ answer
 
 -- docs/RULES.md, "Cases that the rules fix"
 abbrev pub FinishingTable : Type 0

@@ -2,5 +2,4 @@
 pub mod Once
 pub mod Finishing
 pub mod Cases
-pub mod InnerFinishing
 pub mod Theorems

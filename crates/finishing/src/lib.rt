@@ -6,32 +6,15 @@ ghost use Rattle.std.specs.Float.{fin};
 ghost use Rattle.floats.specs.Magnitude.{in_unit, factor_at};
 ghost use Rattle.accumulator.specs.Joining.{within_limit};
 ghost use Rattle.finishing.specs.Once.{past_largest, from_least_normal, rounded_once};
-ghost use Rattle.finishing.specs.InnerFinishing.{is_infinite, code_of};
-ghost use Rattle.finishing.specs.Finishing.{final_answer_of, finished_of};
+ghost use Rattle.finishing.specs.Finishing.{IsFinished};
 
-use accumulator::Reduced;
+use accumulator::StableProductFloatAcc;
+use refusals::Refusal;
 
-// Exponent fields 1, 2046 and 2047: 2^-1022, 2^1023 and infinity.
+// Exponent fields 1 and 2046: 2^-1022 and 2^1023.
 const TWO_POW_M1022: u64 = 1u64 << 52;
 
 const TWO_POW_1023: u64 = 2046u64 << 52;
-
-const INFINITE: u64 = 2047u64 << 52;
-
-// A number, or the number of a refusal.
-#[derive(Clone, Copy)]
-pub enum Finished {
-    Number(f64),
-    Refused(u32),
-}
-
-// m is an infinity, by comparisons: there is no is_infinite.
-fn is_infinite(m: f64) -> bool
-    ensures { result ≡ is_infinite m }
-{
-    let infinity = f64::from_bits(INFINITE);
-    m == infinity || m == -infinity
-}
 
 // 2^e, of an exponent from -1022 to 1023: the field is e + 1023, the fraction 0.
 fn power_of_two(e: i64) -> f64
@@ -41,7 +24,7 @@ fn power_of_two(e: i64) -> f64
     f64::from_bits(((e + 1023) as u64) << 52)
 }
 
-// m × 2^e, rounded once: the products are exact until the last, and the loops end as soon as m saturates.
+// m × 2^e, rounded once: the products are exact until the last. The loops go by whole powers, not by ones, and end as soon as m saturates.
 fn f64_ldexp(m: f64, e: i64) -> f64
     requires { (in_unit m ≡ true) × (within_limit e ≡ true) }
     ensures { result ≡ rounded_once (factor_at 52 m e) }
@@ -51,7 +34,7 @@ fn f64_ldexp(m: f64, e: i64) -> f64
     while k > 1023 {
         x *= f64::from_bits(TWO_POW_1023);
         k -= 1023;
-        if is_infinite(x) {
+        if x.is_infinite() {
             return x;
         }
     }
@@ -65,30 +48,16 @@ fn f64_ldexp(m: f64, e: i64) -> f64
     x * power_of_two(k)
 }
 
-// The number of a refusal, 0 of an accumulator.
-fn code_of(answer: Reduced) -> u32
-    ensures { result ≡ code_of answer }
+// Finishes an answer: a refusal comes out unchanged; 9; else the NaN of a bad mark, or m × 2^e rounded once.
+pub fn finish<E: From<Refusal>>(answer: Result<StableProductFloatAcc, E>) -> Result<f64, E>
+    ensures { IsFinished E.from_gives answer result }
 {
-    match answer {
-        Reduced::Acc(_) => 0,
-        Reduced::Refused(n) => n,
-    }
-}
-
-// Finishes a reduction's answer: a refusal comes out unchanged; 9; else the NaN of a bad mark, or m × 2^e rounded once.
-pub fn finish(answer: Reduced) -> Finished
-    ensures { final_answer_of result ≡ finished_of answer }
-{
-    let Reduced::Acc(a) = answer else {
-        let n = code_of(answer);
-        return Finished::Refused(n);
-    };
+    let a = answer?;
     if !accumulator::in_limits(a) {
-        return Finished::Refused(refusals::ACCUMULATOR_OUT_OF_RANGE);
+        return Err(E::from(Refusal::AccumulatorOutOfRange));
     }
     if a.bad {
-        return Finished::Number(0.0 / 0.0);
+        return Ok(f64::NAN);
     }
-    let x = f64_ldexp(a.m, a.e);
-    Finished::Number(x)
+    Ok(f64_ldexp(a.m, a.e))
 }

@@ -243,6 +243,16 @@ pub split-nan : (x : Float) → x ≡ nan → ◌≡◌ {A = Split} (record { m 
 unfolding split rate_factor factor_of to_bits of_bits value_of is_bad
 split-nan x h = subst (λ (y : Float). ◌≡◌ {A = Split} (record { m = of_bits binary64 0x3ff8000000000000; e = pos 1024; bad = true }) (split y)) (sym h) refl
 
+-- a float argument fits its format
+pub held : (x : Float) → fits binary64 x ≡ true → T (fits binary64 x)
+held x e = subst T (sym e) tt
+
+pub nan_is : (x : Float) → is_nan x ≡ true → x ≡ nan
+unfolding is_nan
+nan_is nan h = refl
+nan_is (inf s) h = cc
+nan_is (fin s m e) h = cc
+
 pub subnormal-number : (x : Float) → is_subnormal x ≡ true → T (not (is_nan x))
 unfolding is_nan is_subnormal to_bits
 subnormal-number nan h = absurd (true≢false (sym h))

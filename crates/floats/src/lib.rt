@@ -29,9 +29,9 @@ fn split_subnormal(value: f64) -> Split
     requires { is_subnormal value ≡ true }
     ensures { result ≡ split value }
 {
-    let bits = f64::to_bits(value);
+    let bits = value.to_bits();
     let fraction = bits & SIZE;
-    let shift = u64::leading_zeros(fraction) - 11;
+    let shift = fraction.leading_zeros() - 11;
     let moved = fraction << shift;
     let m = f64::from_bits((bits - fraction) + (moved + (ONE - LEADING)));
     let lowered = shift as i64;
@@ -48,7 +48,7 @@ pub fn split_ordinary(value: f64) -> Split
     requires { T (fits binary64 value) → is_ordinary value ≡ true }
     ensures { result ≡ split value }
 {
-    let bits = f64::to_bits(value);
+    let bits = value.to_bits();
     let field = (bits & EXP) >> 52;
     let unit = f64::from_bits((bits & !EXP) | ONE);
     Split {
@@ -63,10 +63,10 @@ pub fn split_subnormal_whole(value: f64) -> Split
     requires { T (fits binary64 value) → is_subnormal value ≡ true }
     ensures { result ≡ split value }
 {
-    let bits = f64::to_bits(value);
+    let bits = value.to_bits();
     let fraction = bits & SIZE;
     let p = split_ordinary(fraction as f64);
-    let m = f64::from_bits((bits - fraction) + f64::to_bits(p.m));
+    let m = f64::from_bits((bits - fraction) + p.m.to_bits());
     Split {
         m,
         e: p.e - 1074,
@@ -78,10 +78,10 @@ pub fn split_subnormal_whole(value: f64) -> Split
 fn is_subnormal(value: f64) -> bool
     ensures { result ≡ is_subnormal value }
 {
-    if value != value {
+    if value.is_nan() {
         return false;
     }
-    let size = f64::to_bits(value) & SIZE;
+    let size = value.to_bits() & SIZE;
     (0 < size) & (size < LEADING)
 }
 
@@ -89,10 +89,10 @@ fn is_subnormal(value: f64) -> bool
 pub fn is_bad(value: f64) -> bool
     ensures { result ≡ is_bad value }
 {
-    if value != value {
+    if value.is_nan() {
         return true;
     }
-    let size = f64::to_bits(value) & SIZE;
+    let size = value.to_bits() & SIZE;
     (size == 0) | (EXP <= size)
 }
 
@@ -100,14 +100,14 @@ pub fn is_bad(value: f64) -> bool
 pub fn split_fields(value: f64) -> Split
     ensures { is_subnormal value ≡ false → result ≡ split value }
 {
-    if value != value {
+    if value.is_nan() {
         return Split {
             m: 1.5,
             e: 1024,
             bad: true,
         };
     }
-    let bits = f64::to_bits(value);
+    let bits = value.to_bits();
     let raw_exp = (bits & EXP) >> 52;
     let m = f64::from_bits((bits & !EXP) | ONE);
     Split {

@@ -1,21 +1,21 @@
 -- What the machine's steps on i64 ask and give, over plain integers.
 -- Assumes nothing.
-use Prim.Native.Nat.{ℕ, suc, ◌+◌, ◌*◌, ◌-◌, ◌/◌, ◌^◌, ◌≤◌, ◌<◌}
-use mathlib.Core.Path.{◌≡◌, refl, sym, ◌∙◌, ap, subst}
-use mathlib.Core.Bool.{Bool, true, false}
+use Prim.Native.Nat.{ℕ, suc, ◌+◌, ◌*◌, ◌-◌, ◌^◌, ◌≤◌, ◌<◌}
+use mathlib.Core.Path.{◌≡◌, refl, sym, ◌∙◌, ap}
+use mathlib.Core.Bool.{Bool, true, false, cond}
 use native.Mathlib.Omega.{arith}
-use native.Mathlib.Nat.{le-div_iff_mul-le, div-lt_iff_lt-mul, not-suc-le-zero}
-use lib.Dec.{T, ltb}
+use native.Mathlib.Nat.{not-suc-le-zero}
+use lib.Dec.{ltb}
 use lib.IntN.{ℤ, pos, negsuc, neg_ℤ, ◌+ℤ◌, ◌-ℤ◌, ◌*ℤ◌, nat_abs, +ℤ_idl}
 use lib.Signed.{lt_z, mag}
 use mir.Val.{SFits, to_z, of_z}
 use mir.Facts.{to_z-of_z}
 use mir.Syntax.{w64}
 use borrow.Author.Tests.{lt-ltb, le-ltb, ltb-true, ltb-false, eq-eqb, eqb-true}
-use Rattle.integers.specs.declared.CheckedU64.{CheckedU64}
-use Rattle.integers.specs.declared.CheckedI64.{CheckedI64}
+use Rattle.std.specs.Prelude.{Option, Some, None, SomeIff}
+use Rattle.std.proofs.lemmas.Option.{cond_some, none-some}
 use Rattle.integers.specs.Integers.{fits_i64, eq_z}
-use Rattle.integers.specs.InnerChecked.{keep_u, keep_i, narrow_u64, narrow_i64}
+use Rattle.integers.specs.InnerChecked.{narrow_u64, narrow_i64}
 use Rattle.integers.proofs.Difference.{ints, atoms}
 
 -- one step towards 0 from a negative number
@@ -42,30 +42,36 @@ nat_abs-fits (pos n) f = let h = f.sfits in omega arith
 nat_abs-fits (negsuc n) f = let h = f.sfits in omega arith
 
 -- ---- what a checked step answers
-pub narrow_u64-yes : (n : ℕ) → n < 2 ^ 64 → narrow_u64 n ≡ record { ok = true; value = n }
+pub narrow_u64-yes : (n : ℕ) → n < 2 ^ 64 → narrow_u64 n ≡ Some n
 unfolding narrow_u64
-narrow_u64-yes n h = ap (λ (b : Bool). keep_u b n) (lt-ltb n (2 ^ 64) h)
+narrow_u64-yes n h = ap (λ (b : Bool). cond b (Some n) None) (lt-ltb n (2 ^ 64) h)
 
-pub narrow_u64-no : (n : ℕ) → 2 ^ 64 ≤ n → narrow_u64 n ≡ record { ok = false; value = 0 }
+pub narrow_u64-no : (n : ℕ) → 2 ^ 64 ≤ n → narrow_u64 n ≡ None
 unfolding narrow_u64
-narrow_u64-no n h = ap (λ (b : Bool). keep_u b n) (le-ltb n (2 ^ 64) h)
+narrow_u64-no n h = ap (λ (b : Bool). cond b (Some n) None) (le-ltb n (2 ^ 64) h)
 
-pub narrow_i64-yes : (z : ℤ) → SFits w64 z → narrow_i64 z ≡ record { ok = true; value = z }
-unfolding narrow_i64 fits_i64
-narrow_i64-yes z f = ap (λ (b : Bool). keep_i b z) (lt-ltb (mag z) (2 ^ 63) f.sfits)
+-- as the checked product of std answers
+pub narrow_u64-is : (n : ℕ) (r : Option ℕ) → SomeIff r (n < 2 ^ 64) n → r ≡ narrow_u64 n
+narrow_u64-is n None h = sym (narrow_u64-no n (over h))
+  where
+    over : (n < 2 ^ 64 → ⊥) → 2 ^ 64 ≤ n
+    over k = omega arith
+narrow_u64-is n (Some x) h = ap Some h.1 ∙ sym (narrow_u64-yes n h.0)
 
-pub narrow_i64-no : (z : ℤ) → (SFits w64 z → ⊥) → narrow_i64 z ≡ record { ok = false; value = pos 0 }
+pub narrow_i64-yes : (z : ℤ) → SFits w64 z → narrow_i64 z ≡ Some z
 unfolding narrow_i64 fits_i64
-narrow_i64-no z f = ap (λ (b : Bool). keep_i b z) (le-ltb (mag z) (2 ^ 63) (over (λ h. f (record { sfits = h }))))
+narrow_i64-yes z f = ap (λ (b : Bool). cond b (Some z) None) (lt-ltb (mag z) (2 ^ 63) f.sfits)
+
+pub narrow_i64-no : (z : ℤ) → (SFits w64 z → ⊥) → narrow_i64 z ≡ None
+unfolding narrow_i64 fits_i64
+narrow_i64-no z f = ap (λ (b : Bool). cond b (Some z) None) (le-ltb (mag z) (2 ^ 63) (over (λ h. f (record { sfits = h }))))
   where
     over : (mag z < 2 ^ 63 → ⊥) → 2 ^ 63 ≤ mag z
     over n = omega arith
 
-pub product-over : (a b : ℕ) → 0 < b → (2 ^ 64 - 1) / b < a → 2 ^ 64 ≤ a * b
-product-over a b h k = let l = (div-lt_iff_lt-mul h).0 k in omega arith
-
-pub product-fits-u64 : (a b : ℕ) → 0 < b → a ≤ (2 ^ 64 - 1) / b → a * b < 2 ^ 64
-product-fits-u64 a b h k = let l = (le-div_iff_mul-le h).0 k in omega arith
+pub narrow_i64-is : (z : ℤ) (r : Option ℤ) → SomeIff r (SFits w64 z) z → r ≡ narrow_i64 z
+narrow_i64-is z None h = sym (narrow_i64-no z h)
+narrow_i64-is z (Some x) h = ap Some h.1 ∙ sym (narrow_i64-yes z h.0)
 
 -- the product's sign and magnitude
 pub times-neg : (a : ℤ) (n : ℕ) → lt_z a (pos 0) ≡ true → a *ℤ pos n ≡ pos 0 -ℤ pos (nat_abs a * n)
@@ -85,69 +91,49 @@ negated-fits-only p = simp ints (simp atoms (omega arith))
 pub pos-fits : (p : ℕ) → p < 2 ^ 63 → SFits w64 (pos p)
 pos-fits p h = record { sfits = h }
 
--- a number's opposite fits unless the number is the least
-pub opposite-fits : (x : ℤ) → SFits w64 x → (nat_abs x ≡ 2 ^ 63 → ⊥) → SFits w64 (pos 0 -ℤ x)
-opposite-fits (pos n) f h = let g = f.sfits in negated_fits n (omega arith)
-opposite-fits (negsuc n) f h = let g = f.sfits in record { sfits = omega arith }
-
-pub least-only : (x : ℤ) → SFits w64 x → nat_abs x ≡ 2 ^ 63 → SFits w64 (pos 0 -ℤ x) → ⊥
-least-only (pos n) f h k = let g = f.sfits in omega arith
-least-only (negsuc n) f h k = let g = k.sfits in omega arith
-
 -- a u64 read as an i64
 pub to_z-small : (p : ℕ) → p < 2 ^ 63 → to_z w64 p ≡ pos p
 to_z-small p h = to_z-of_z {w = w64} {z = pos p} (record { sfits = h })
 
--- what an answer of `narrowU` says
-pub narrow_u64-ok : (r : CheckedU64) (n : ℕ) → r ≡ narrow_u64 n → r.ok ≡ true → (r.value ≡ n) × (n < 2 ^ 64)
+-- what an answer of `narrow_u64` says
+pub narrow_u64-some : (n x : ℕ) → narrow_u64 n ≡ Some x → (x ≡ n) × (n < 2 ^ 64)
 unfolding narrow_u64
-narrow_u64-ok r n e = go (ltb n (2 ^ 64)) refl
-  where
-    go : (b : Bool) → ltb n (2 ^ 64) ≡ b → r.ok ≡ true → (r.value ≡ n) × (n < 2 ^ 64)
-    go true t k = let h : r ≡ keep_u true n = e ∙ ap (λ (b : Bool). keep_u b n) t in (ap (λ (r : CheckedU64). r.value) h, ltb-true n (2 ^ 64) t)
-    go false t k =
-        let h : r ≡ keep_u false n = e ∙ ap (λ (b : Bool). keep_u b n) t in
-        let l : true ≡ false = sym k ∙ ap (λ (r : CheckedU64). r.ok) h in
-        absurd (subst T l tt)
+narrow_u64-some n x e = let c = cond_some (ltb n (2 ^ 64)) n x e in (sym c.1, ltb-true n (2 ^ 64) c.0)
 
-pub narrow_u64-not-ok : (r : CheckedU64) (n : ℕ) → r ≡ narrow_u64 n → r.ok ≡ false → 2 ^ 64 ≤ n
-unfolding narrow_u64
-narrow_u64-not-ok r n e = go (ltb n (2 ^ 64)) refl
+pub narrow_u64-none : (n : ℕ) → narrow_u64 n ≡ None → 2 ^ 64 ≤ n
+narrow_u64-none n e = go (ltb n (2 ^ 64)) refl
   where
-    go : (b : Bool) → ltb n (2 ^ 64) ≡ b → r.ok ≡ false → 2 ^ 64 ≤ n
-    go true t k =
-        let h : r ≡ keep_u true n = e ∙ ap (λ (b : Bool). keep_u b n) t in
-        let l : true ≡ false = sym (ap (λ (r : CheckedU64). r.ok) h) ∙ k in
-        absurd (subst T l tt)
-    go false t k = ltb-false n (2 ^ 64) t
+    go : (b : Bool) → ltb n (2 ^ 64) ≡ b → 2 ^ 64 ≤ n
+    go true t = absurd (none-some n (sym e ∙ narrow_u64-yes n (ltb-true n (2 ^ 64) t)))
+    go false t = ltb-false n (2 ^ 64) t
 
 -- ---- a signed product, by its magnitude p
 module _ (a : ℤ) (n p : ℕ) (e : p ≡ nat_abs a * n) where
-  pub signed-neg : lt_z a (pos 0) ≡ true → p < 2 ^ 63 → narrow_i64 (a *ℤ pos n) ≡ record { ok = true; value = pos 0 -ℤ pos p }
+  pub signed-neg : lt_z a (pos 0) ≡ true → p < 2 ^ 63 → narrow_i64 (a *ℤ pos n) ≡ Some (pos 0 -ℤ pos p)
   signed-neg l h = rw (times-neg a n l, ← e) (narrow_i64-yes (pos 0 -ℤ pos p) (negated_fits p (omega arith)))
 
-  pub signed-pos : lt_z a (pos 0) ≡ false → p < 2 ^ 63 → narrow_i64 (a *ℤ pos n) ≡ record { ok = true; value = pos p }
+  pub signed-pos : lt_z a (pos 0) ≡ false → p < 2 ^ 63 → narrow_i64 (a *ℤ pos n) ≡ Some (pos p)
   signed-pos l h = rw (times-pos a n l, ← e) (narrow_i64-yes (pos p) (pos-fits p h))
 
-  pub signed-least : lt_z a (pos 0) ≡ true → p ≡ 2 ^ 63 → narrow_i64 (a *ℤ pos n) ≡ record { ok = true; value = negsuc (2 ^ 63 - 1) }
+  pub signed-least : lt_z a (pos 0) ≡ true → p ≡ 2 ^ 63 → narrow_i64 (a *ℤ pos n) ≡ Some (negsuc (2 ^ 63 - 1))
   signed-least l h = rw (times-neg a n l, ← e, h) (narrow_i64-yes (negsuc (2 ^ 63 - 1)) (record { sfits = omega arith }))
 
-  pub signed-over : lt_z a (pos 0) ≡ true → 2 ^ 63 < p → narrow_i64 (a *ℤ pos n) ≡ record { ok = false; value = pos 0 }
+  pub signed-over : lt_z a (pos 0) ≡ true → 2 ^ 63 < p → narrow_i64 (a *ℤ pos n) ≡ None
   signed-over l h = rw (times-neg a n l, ← e) (narrow_i64-no (pos 0 -ℤ pos p) (λ f. clash (negated-fits-only p f)))
     where
       clash : p ≤ 2 ^ 63 → ⊥
       clash k = omega arith
 
-  pub unsigned-over : lt_z a (pos 0) ≡ false → 2 ^ 63 ≤ p → narrow_i64 (a *ℤ pos n) ≡ record { ok = false; value = pos 0 }
+  pub unsigned-over : lt_z a (pos 0) ≡ false → 2 ^ 63 ≤ p → narrow_i64 (a *ℤ pos n) ≡ None
   unsigned-over l h = rw (times-pos a n l, ← e) (narrow_i64-no (pos p) (λ f. clash f.sfits))
     where
       clash : p < 2 ^ 63 → ⊥
       clash k = omega arith
 
-  pub far-over : 2 ^ 64 ≤ p → narrow_i64 (a *ℤ pos n) ≡ record { ok = false; value = pos 0 }
+  pub far-over : 2 ^ 64 ≤ p → narrow_i64 (a *ℤ pos n) ≡ None
   far-over h = go (lt_z a (pos 0)) refl
     where
-      go : (b : Bool) → lt_z a (pos 0) ≡ b → narrow_i64 (a *ℤ pos n) ≡ record { ok = false; value = pos 0 }
+      go : (b : Bool) → lt_z a (pos 0) ≡ b → narrow_i64 (a *ℤ pos n) ≡ None
       go true l = signed-over l (omega arith)
       go false l = unsigned-over l (omega arith)
 
@@ -180,35 +166,18 @@ pub narrow_i64-fits : (z : ℤ) → fits_i64 z ≡ true → SFits w64 z
 unfolding fits_i64
 narrow_i64-fits z e = record { sfits = ltb-true (mag z) (2 ^ 63) e }
 
-pub narrow_i64-over : (z : ℤ) → fits_i64 z ≡ false → SFits w64 z → ⊥
-unfolding fits_i64
-narrow_i64-over z e f = clash (ltb-false (mag z) (2 ^ 63) e) f.sfits
-  where
-    clash : 2 ^ 63 ≤ mag z → mag z < 2 ^ 63 → ⊥
-    clash h k = omega arith
-
 pub fits-test : (z : ℤ) → SFits w64 z → fits_i64 z ≡ true
 unfolding fits_i64
 fits-test z f = lt-ltb (mag z) (2 ^ 63) f.sfits
 
-pub narrow_i64-ok : (r : CheckedI64) (z : ℤ) → r ≡ narrow_i64 z → r.ok ≡ true → (r.value ≡ z) × (fits_i64 z ≡ true)
+pub narrow_i64-some : (z x : ℤ) → narrow_i64 z ≡ Some x → (x ≡ z) × (fits_i64 z ≡ true)
 unfolding narrow_i64
-narrow_i64-ok r z e = go (fits_i64 z) refl
-  where
-    go : (b : Bool) → fits_i64 z ≡ b → r.ok ≡ true → (r.value ≡ z) × (fits_i64 z ≡ true)
-    go true t k = let h : r ≡ keep_i true z = e ∙ ap (λ (b : Bool). keep_i b z) t in (ap (λ (r : CheckedI64). r.value) h, t)
-    go false t k =
-        let h : r ≡ keep_i false z = e ∙ ap (λ (b : Bool). keep_i b z) t in
-        let l : true ≡ false = sym k ∙ ap (λ (r : CheckedI64). r.ok) h in
-        absurd (subst T l tt)
+narrow_i64-some z x e = let c = cond_some (fits_i64 z) z x e in (sym c.1, c.0)
 
-pub narrow_i64-not-ok : (r : CheckedI64) (z : ℤ) → r ≡ narrow_i64 z → r.ok ≡ false → fits_i64 z ≡ false
+pub narrow_i64-none : (z : ℤ) → narrow_i64 z ≡ None → fits_i64 z ≡ false
 unfolding narrow_i64
-narrow_i64-not-ok r z e = go (fits_i64 z) refl
+narrow_i64-none z e = go (fits_i64 z) refl
   where
-    go : (b : Bool) → fits_i64 z ≡ b → r.ok ≡ false → fits_i64 z ≡ false
-    go true t k =
-        let h : r ≡ keep_i true z = e ∙ ap (λ (b : Bool). keep_i b z) t in
-        let l : true ≡ false = sym (ap (λ (r : CheckedI64). r.ok) h) ∙ k in
-        absurd (subst T l tt)
-    go false t k = t
+    go : (b : Bool) → fits_i64 z ≡ b → fits_i64 z ≡ false
+    go true t = absurd (none-some z (sym e ∙ ap (λ (b : Bool). cond b (Some z) None) t))
+    go false t = t

@@ -1,131 +1,39 @@
-// Machine integers with checked steps: the magnitude of an i64, and products that say whether they fit.
+// Machine integers with checked steps: products that say whether they fit, and places that are formed only where there is one.
 #![tactic(auto)]
 
-ghost use Rattle.std.specs.Prelude.{◌≡◌, ◌+◌, ◌*◌, ◌<◌, min, pos, neg_ℤ, nat_abs, ◌+ℤ◌, ◌*ℤ◌};
+ghost use Rattle.std.specs.Prelude.{◌≡◌, ◌+◌, ◌*◌, ◌<◌, pos, ◌+ℤ◌, ◌*ℤ◌};
 ghost use Rattle.integers.specs.InnerChecked.{narrow_i64, narrow_u64};
 ghost use Rattle.integers.specs.InnerPlaces.{PlacesFit};
 
-pub const I64_MAX: u64 = 0x7fff_ffff_ffff_ffff;
-
-pub const U64_MAX: u64 = 0xffff_ffff_ffff_ffff;
+// The largest i64 as a magnitude.
+const I64_MAX: u64 = i64::MAX as u64;
 
 // The largest number of 32 bits.
 const HALF_MAX: u64 = 0xffff_ffff;
 
-#[derive(Clone, Copy)]
-pub struct CheckedU64 {
-    pub ok: bool,
-    pub value: u64,
-}
-
-#[derive(Clone, Copy)]
-pub struct CheckedI64 {
-    pub ok: bool,
-    pub value: i64,
-}
-
-pub fn min_u64(a: u64, b: u64) -> u64
-    ensures { result ≡ min a b }
+// Two factors of 32 bits have a product that fits, and need no division; std's method divides for any two.
+pub fn checked_mul_u64(a: u64, b: u64) -> Option<u64>
+    ensures { result ≡ narrow_u64 (a * b) }
 {
-    if a < b { a } else { b }
-}
-
-pub fn min_usize(a: usize, b: usize) -> usize
-    ensures { result ≡ min a b }
-{
-    if a < b { a } else { b }
-}
-
-// The magnitude, which takes all 64 bits at the least i64.
-pub fn magnitude(x: i64) -> u64
-    ensures { result ≡ nat_abs x }
-{
-    if x < 0 {
-        let y = 0 - (x + 1);
-        (y as u64) + 1
+    if a <= HALF_MAX && b <= HALF_MAX {
+        Some(a * b)
     } else {
-        x as u64
-    }
-}
-
-// A product of any two: one division says whether it fits.
-fn checked_mul_wide(a: u64, b: u64) -> CheckedU64
-    ensures { result ≡ narrow_u64 (a * b) }
-{
-    if b == 0 {
-        return CheckedU64 { ok: true, value: 0 };
-    }
-    if U64_MAX / b < a {
-        return CheckedU64 {
-            ok: false,
-            value: 0,
-        };
-    }
-    CheckedU64 {
-        ok: true,
-        value: a * b,
-    }
-}
-
-// Two factors of 32 bits have a product that fits, and need no division.
-pub fn checked_mul_u64(a: u64, b: u64) -> CheckedU64
-    ensures { result ≡ narrow_u64 (a * b) }
-{
-    if a <= HALF_MAX {
-        if b <= HALF_MAX {
-            return CheckedU64 {
-                ok: true,
-                value: a * b,
-            };
-        }
-    }
-    checked_mul_wide(a, b)
-}
-
-pub fn checked_neg_i64(x: i64) -> CheckedI64
-    ensures { result ≡ narrow_i64 (neg_ℤ x) }
-{
-    if magnitude(x) == I64_MAX + 1 {
-        return CheckedI64 {
-            ok: false,
-            value: 0,
-        };
-    }
-    CheckedI64 {
-        ok: true,
-        value: 0 - x,
+        a.checked_mul(b)
     }
 }
 
 // A product of a signed and an unsigned number: the magnitudes are multiplied, then the sign is put on.
-pub fn checked_mul_i64(a: i64, n: u64) -> CheckedI64
+pub fn checked_mul_i64(a: i64, n: u64) -> Option<i64>
     ensures { result ≡ narrow_i64 (a *ℤ pos n) }
 {
-    let m = checked_mul_u64(magnitude(a), n);
-    let p = m.value;
-    if m.ok {
-        if p <= I64_MAX {
-            let v = p as i64;
-            if a < 0 {
-                return CheckedI64 {
-                    ok: true,
-                    value: 0 - v,
-                };
-            }
-            return CheckedI64 { ok: true, value: v };
-        }
-        if a < 0 {
-            if p == I64_MAX + 1 {
-                return CheckedI64 {
-                    ok: true,
-                    value: -0x8000_0000_0000_0000,
-                };
-            }
-        }
-    }
-    CheckedI64 {
-        ok: false,
-        value: 0,
+    let p = checked_mul_u64(a.unsigned_abs(), n)?;
+    if p <= I64_MAX {
+        let v = p as i64;
+        Some(if a < 0 { -v } else { v })
+    } else if a < 0 && p == I64_MAX + 1 {
+        Some(i64::MIN)
+    } else {
+        None
     }
 }
 

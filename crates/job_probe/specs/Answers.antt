@@ -1,6 +1,6 @@
 -- Rule C6: what a C host is handed of a job that is read or written: a code, and places that a refusal leaves as they were.
 use Rattle.std.specs.Prelude.{ℕ, cond, eqb}
-use Rattle.jobs.specs.declared.writing.JobWritten.{JobWritten}
+use Rattle.jobs.specs.Writing.{JobWritten}
 
 -- a place after a call with this code
 unfoldable pub given : {A : Type 0} → ℕ → A → A → A

@@ -27,20 +27,20 @@ pub extern "C" fn probe_read(
     ensures start_after { start.new ≡ given (read_of bytes.now).code (read_of bytes.now).start start.old }
     ensures end_after { end.new ≡ given (read_of bytes.now).code (read_of bytes.now).end end.old }
 {
-    let job = jobs::reading::read_job(bytes);
-    if job.code != 0 {
-        return job.code;
+    match jobs::reading::read_job(bytes) {
+        Ok(job) => {
+            let job_sizes = job.sizes;
+            let job_strides = job.strides;
+            *count = job.count;
+            *sizes = job_sizes;
+            *strides = job_strides;
+            *base = job.base;
+            *start = job.start;
+            *end = job.end;
+            0
+        }
+        Err(refusal) => u32::from(refusal),
     }
-    let job_sizes = job.sizes;
-    let job_strides = job.strides;
-    let job_base = job.base;
-    *count = job.count;
-    *sizes = job_sizes;
-    *strides = job_strides;
-    *base = job_base;
-    *start = job.start;
-    *end = job.end;
-    0
 }
 
 // 0 with the job in the first bytes of `out` and their number in count, or the number of a refusal with nothing written.
@@ -62,10 +62,11 @@ pub extern "C" fn probe_write(
     ensures count_after { count.new ≡ count_given count.old
         (write_of (record { sizes = sizes.now; strides = strides.now; base = base; start = start; end = end }) (length out.old)) }
 {
-    let written = jobs::writing::write_job(sizes, strides, base, start, end, &mut *out);
-    if written.code != 0 {
-        return written.code;
+    match jobs::writing::write_job(sizes, strides, base, start, end, &mut *out) {
+        Ok(written) => {
+            *count = written;
+            0
+        }
+        Err(refusal) => u32::from(refusal),
     }
-    *count = written.count;
-    0
 }

@@ -11,9 +11,8 @@ use borrow.Author.Tests.{lt-ltb, le-ltb, eq-eqb, ne_eqb, eqb-false}
 use Rattle.refusals.specs.Refusals.{first_of, STRIDE_LENGTH_MISMATCH, TOO_MANY_AXES, JOB_BUFFER_TOO_SHORT}
 use Rattle.refusals.proofs.Buffers.{buffer-kept, buffer-set}
 use Rattle.layout.specs.Axes.{PLACES}
-use Rattle.jobs.specs.declared.writing.JobWritten.{JobWritten}
 use Rattle.jobs.specs.Sending.{Job, job_bytes}
-use Rattle.jobs.specs.Writing.{write_refusals, write_of, write_buffer}
+use Rattle.jobs.specs.Writing.{JobWritten, write_refusals, write_of, write_buffer}
 
 -- a call's answer r, and its buffer o after it
 abbrev pub Written : Job → List ℕ → JobWritten → List ℕ → Type 0
@@ -35,37 +34,36 @@ module _ (j : Job) (out : List ℕ) where
       ∷ (JOB_BUFFER_TOO_SHORT, ltb (length out) (length (job_bytes j))) ∷ [])) f
       ∙ ap (λ (b : Bool). first_of ((STRIDE_LENGTH_MISMATCH, not p) ∷ (TOO_MANY_AXES, q) ∷ (JOB_BUFFER_TOO_SHORT, b) ∷ [])) g
 
-  refused-by : (k : ℕ) → eqb k 0 ≡ false → code ≡ k → (r : JobWritten) → r ≡ record { code = k; count = 0 } → Written j out r out
+  refused-by : (k : ℕ) → eqb k 0 ≡ false → code ≡ k → Written j out (record { code = k; count = 0 }) out
   unfolding code write_of write_buffer
-  refused-by k z e r f = (
-    f
-        ∙ sym (ap (λ (c : ℕ). record { code = c; count = cond (eqb c 0) (length (job_bytes j)) 0 }) e
+  refused-by k z e = (
+    sym (ap (λ (c : ℕ). record { code = c; count = cond (eqb c 0) (length (job_bytes j)) 0 }) e
         ∙ ap (λ (b : Bool). record { code = k; count = cond b (length (job_bytes j)) 0 }) z),
     buffer-kept code (job_bytes j) out (λ q. eqb-false k 0 z (sym e ∙ q)),
   )
 
-  module _ (r : JobWritten) where
-    pub mismatched : (length j.sizes ≡ length j.strides → ⊥) → r ≡ record { code = STRIDE_LENGTH_MISMATCH; count = 0 } → Written j out r out
+  pub mismatched : (length j.sizes ≡ length j.strides → ⊥) → Written j out (record { code = STRIDE_LENGTH_MISMATCH; count = 0 }) out
+  unfolding first_of
+  mismatched h =
+      refused-by STRIDE_LENGTH_MISMATCH refl
+      (code_by false (ltb PLACES (length j.sizes)) (ltb (length out) (length (job_bytes j))) (ne_eqb _ _ h) refl refl)
+
+  module _ (pairs : length j.sizes ≡ length j.strides) where
+    pub too_many : PLACES < length j.sizes → Written j out (record { code = TOO_MANY_AXES; count = 0 }) out
     unfolding first_of
-    mismatched h =
-        refused-by STRIDE_LENGTH_MISMATCH refl
-        (code_by false (ltb PLACES (length j.sizes)) (ltb (length out) (length (job_bytes j))) (ne_eqb _ _ h) refl refl) r
+    too_many h = refused-by TOO_MANY_AXES refl (code_by true true (ltb (length out) (length (job_bytes j))) (eq-eqb _ _ pairs) (lt-ltb _ _ h) refl)
 
-    module _ (pairs : length j.sizes ≡ length j.strides) where
-      pub too_many : PLACES < length j.sizes → r ≡ record { code = TOO_MANY_AXES; count = 0 } → Written j out r out
+    module _ (few : length j.sizes ≤ PLACES) where
+      pub too_short : length out < length (job_bytes j) → Written j out (record { code = JOB_BUFFER_TOO_SHORT; count = 0 }) out
       unfolding first_of
-      too_many h = refused-by TOO_MANY_AXES refl (code_by true true (ltb (length out) (length (job_bytes j))) (eq-eqb _ _ pairs) (lt-ltb _ _ h) refl) r
+      too_short h = refused-by JOB_BUFFER_TOO_SHORT refl (code_by true false true (eq-eqb _ _ pairs) (le-ltb _ _ few) (lt-ltb _ _ h))
 
-      module _ (few : length j.sizes ≤ PLACES) where
-        pub too_short : length out < length (job_bytes j) → r ≡ record { code = JOB_BUFFER_TOO_SHORT; count = 0 } → Written j out r out
-        unfolding first_of
-        too_short h = refused-by JOB_BUFFER_TOO_SHORT refl (code_by true false true (eq-eqb _ _ pairs) (le-ltb _ _ few) (lt-ltb _ _ h)) r
-
-        pub accepted : length (job_bytes j) ≤ length out → r ≡ record { code = 0; count = length (job_bytes j) } → (o : List ℕ) → o ≡ sets out 0 (job_bytes j)
-            → Written j out r o
-        unfolding first_of code write_of write_buffer
-        accepted h f o g =
-            let e = code_by true false false (eq-eqb _ _ pairs) (le-ltb _ _ few) (le-ltb _ _ h) in (
-              f ∙ sym (ap (λ (c : ℕ). record { code = c; count = cond (eqb c 0) (length (job_bytes j)) 0 }) e),
-              g ∙ buffer-set code (job_bytes j) out e h,
-            )
+      pub accepted : length (job_bytes j) ≤ length out → (n : ℕ) → n ≡ length (job_bytes j) → (o : List ℕ) → o ≡ sets out 0 (job_bytes j)
+          → Written j out (record { code = 0; count = n }) o
+      unfolding first_of code write_of write_buffer
+      accepted h n f o g =
+          let e = code_by true false false (eq-eqb _ _ pairs) (le-ltb _ _ few) (le-ltb _ _ h) in (
+            ap (λ (m : ℕ). record { code = 0; count = m }) f
+                ∙ sym (ap (λ (c : ℕ). record { code = c; count = cond (eqb c 0) (length (job_bytes j)) 0 }) e),
+            g ∙ buffer-set code (job_bytes j) out e h,
+          )

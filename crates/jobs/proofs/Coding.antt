@@ -1,7 +1,7 @@
 -- The coding of signed numbers, as the code goes.
 -- Assumes nothing.
-use Prim.Native.Nat.{ℕ, ◌+◌, ◌-◌, ◌/◌, ◌%◌, ◌^◌, ◌≤◌, ◌<◌}
-use mathlib.Core.Path.{◌≡◌, refl, sym, ◌∙◌, ap, subst}
+use Prim.Native.Nat.{ℕ, ◌+◌, ◌-◌, ◌/◌, ◌%◌, ◌^◌, ◌<◌}
+use mathlib.Core.Path.{◌≡◌, refl, sym, ◌∙◌, ap}
 use mathlib.Core.Bool.{Bool, true, false, cond}
 use native.Mathlib.Omega.{arith}
 use native.Mathlib.Nat.{not-suc-le-zero}
@@ -11,7 +11,6 @@ use mir.Val.{SFits}
 use mir.Syntax.{w64}
 use borrow.Author.Tests.{ltb-true, eq-eqb, ne_eqb}
 use Rattle.integers.proofs.Difference.{ints, atoms}
-use Rattle.integers.proofs.Machine.{nonneg_pos}
 use Rattle.jobs.specs.Words.{sent_of, signed_of}
 
 pub sent-negative : (x : ℤ) → lt_z x (pos 0) ≡ true → nat_abs x + (nat_abs x - 1) ≡ sent_of x
@@ -23,14 +22,6 @@ pub sent-other : (x : ℤ) → lt_z x (pos 0) ≡ false → nat_abs x + nat_abs 
 unfolding sent_of
 sent-other (pos n) e = refl
 sent-other (negsuc k) e = cc
-
-pub negative-some : (x : ℤ) → lt_z x (pos 0) ≡ true → 1 ≤ nat_abs x
-negative-some (pos n) e = absurd (not-suc-le-zero (ltb-true n 0 e))
-negative-some (negsuc k) e = omega arith
-
--- a number that is not negative has a magnitude below 2^63
-pub other_fits : (x : ℤ) → SFits w64 x → lt_z x (pos 0) ≡ false → nat_abs x < 2 ^ 63
-other_fits x f e = (subst (SFits w64) (nonneg_pos x e) f).sfits
 
 pub signed-even : (n : ℕ) → n % 2 ≡ 0 → pos (n / 2) ≡ signed_of n
 unfolding signed_of

@@ -23,16 +23,19 @@ sets-four l i a b c d =
     ∙ ap (λ (j : ℕ). set (set (set (set l i a) (suc i) b) j c) (i + 3) d) e₂
     ∙ ap (λ (j : ℕ). set (set (set (set l i a) (suc i) b) (suc (suc i)) c) j d) e₃
 
+-- the bytes of a word, as the library gives them
+pub bytes-are : (w : ℕ) → w < 2 ^ 32 → w % 2 ^ 8 ∷ w / 2 ^ 8 % 2 ^ 8 ∷ w / 2 ^ 16 % 2 ^ 8 ∷ w / 2 ^ 24 % 2 ^ 8 ∷ [] ≡ bytes_of w
+unfolding bytes_of
+bytes-are w l =
+    let top : w / 2 ^ 24 % 2 ^ 8 ≡ w / 2 ^ 24 = omega arith in
+    ap (λ (t : ℕ). w % 2 ^ 8 ∷ w / 2 ^ 8 % 2 ^ 8 ∷ w / 2 ^ 16 % 2 ^ 8 ∷ t ∷ []) top
+
 -- what is laid behind what was laid
 pub sets-append : (l : List ℕ) (i : ℕ) (vs ws : List ℕ) → sets l i (vs ++ ws) ≡ sets (sets l i vs) (i + length vs) ws
 sets-append l i [] ws = ap (λ (j : ℕ). sets l j ws) (sym (add-zero i))
 sets-append l i (v ∷ vs) ws =
     sets-append (set l i v) (suc i) vs ws
     ∙ ap (λ (j : ℕ). sets (sets (set l i v) (suc i) vs) j ws) (suc-add i (length vs) ∙ sym (add-suc i (length vs)))
-
-pub length-bytes_of : (w : ℕ) → length (bytes_of w) ≡ 4
-unfolding bytes_of
-length-bytes_of w = refl
 
 -- ---- the fewest payloads of a number
 module _ (more n : ℕ) where

@@ -9,56 +9,30 @@ use lib.ListN.{length, drop, set, length-append, length-drop}
 use lib.Dec.{eqb}
 use lib.IntN.{ℤ, pos}
 use borrow.Author.Tests.{eq-eqb, ne_eqb}
+use Rattle.std.specs.Prelude.{Ok, Err}
 use Rattle.refusals.specs.Refusals.{TOO_MANY_AXES, BAD_WORD}
+use Rattle.refusals.specs.declared.Refusal.{Refusal}
+use Rattle.refusals.specs.Codes as codes
 use Rattle.layout.specs.Axes.{PLACES, padded}
 use Rattle.layout.proofs.Tables.{pushed}
 use Rattle.jobs.specs.declared.numbers.Number.{Number}
-use Rattle.jobs.specs.declared.reading.RangeRead.{RangeRead}
-use Rattle.jobs.specs.declared.reading.JobRead.{JobRead}
-use Rattle.jobs.specs.Words.{SIZE, STRIDE, START, END, FINISH, signed_of}
+use Rattle.jobs.specs.Words.{SIZE, STRIDE, BASE, START, END, FINISH, signed_of}
 use Rattle.jobs.specs.Sending.{Job}
-use Rattle.jobs.specs.Reading.{first_word, first_kind, NumberRead, number, faulty, number_from, ReadAnswer, job, refusal, behind, finish_from, range_from}
-use Rattle.jobs.specs.Reading.{axes_from, job_from, record_of}
-use Rattle.jobs.specs.InnerParts.{number_told, range_told}
+use Rattle.jobs.specs.Reading.{first_word, first_kind, NumberRead, number_from, ReadAnswer, job, refusal, behind, finish_from, range_from}
+use Rattle.jobs.specs.Reading.{axes_from, job_from, JobRead, record_of}
+use Rattle.jobs.specs.InnerParts.{IsPayload, number_told}
 
--- ---- behind a number that the record r tells
-module _ (bytes rest : List ℕ) (kind : ℕ) (r : Number) (e : number_told bytes r ≡ number_from kind rest) (on : ℕ → List ℕ → ReadAnswer) where
-  pub reads_on : r.code ≡ 0 → behind (number_from kind rest) on ≡ on r.value (drop r.next bytes)
-  unfolding behind number_told
-  reads_on z =
-      ap (λ (x : NumberRead). behind x on)
-      (sym e ∙ ap (λ (t : Bool). cond t (number r.value (drop r.next bytes)) (faulty r.code)) (eq-eqb r.code 0 z))
+-- ---- behind a number that was read
+module _ (bytes rest : List ℕ) (kind : ℕ) (on : ℕ → List ℕ → ReadAnswer) where
+  pub reads_on : (n : Number) → number_told bytes (Ok n) ≡ number_from kind rest → behind (number_from kind rest) on ≡ on n.value (drop n.next bytes)
+  unfolding behind
+  reads_on n e = ap (λ (x : NumberRead). behind x on) (sym e)
 
-  pub stops_at : (r.code ≡ 0 → ⊥) → behind (number_from kind rest) on ≡ refusal r.code
-  unfolding behind number_told
-  stops_at z =
-      ap (λ (x : NumberRead). behind x on)
-      (sym e ∙ ap (λ (t : Bool). cond t (number r.value (drop r.next bytes)) (faulty r.code)) (ne_eqb r.code 0 z))
+  pub stops_at : (r : Refusal) → number_told bytes (Err r) ≡ number_from kind rest → behind (number_from kind rest) on ≡ refusal (codes.number r)
+  unfolding behind
+  stops_at r e = ap (λ (x : NumberRead). behind x on) (sym e)
 
 -- ---- the range
-pub no-range-told : (ns : List ℕ) (ss : List ℤ) (code : ℕ) → (code ≡ 0 → ⊥) → (r : RangeRead) → r ≡ record { code = code; base = pos 0; start = 0; end = 0 }
-    → range_told ns ss r ≡ refusal code
-unfolding range_told
-no-range-told ns ss code z r e =
-    ap (range_told ns ss) e
-    ∙ ap (λ (t : Bool). cond t (job (record { sizes = ns; strides = ss; base = pos 0; start = 0; end = 0 })) (refusal code)) (ne_eqb code 0 z)
-
--- a range that the record r tells
-module _ (ns : List ℕ) (ss : List ℤ) (r : RangeRead) (a : ReadAnswer) (e : range_told ns ss r ≡ a) where
-  pub range-refused : (r.code ≡ 0 → ⊥) → refusal r.code ≡ a
-  unfolding range_told
-  range-refused z =
-      sym (ap (λ (t : Bool). cond t (job (record { sizes = ns; strides = ss; base = r.base; start = r.start; end = r.end })) (refusal r.code))
-      (ne_eqb r.code 0 z))
-      ∙ e
-
-  pub range-read : r.code ≡ 0 → job (record { sizes = ns; strides = ss; base = r.base; start = r.start; end = r.end }) ≡ a
-  unfolding range_told
-  range-read z =
-      sym (ap (λ (t : Bool). cond t (job (record { sizes = ns; strides = ss; base = r.base; start = r.start; end = r.end })) (refusal r.code))
-      (eq-eqb r.code 0 z))
-      ∙ e
-
 -- what is left of it behind the base, and behind the start
 abbrev pub from_end : List ℕ → List ℤ → ℤ → ℕ → List ℕ → ReadAnswer
 from_end ns ss b s bytes = behind (number_from END bytes) (λ e bytes₃. finish_from (record { sizes = ns; strides = ss; base = b; start = s; end = e }) bytes₃)
@@ -66,25 +40,74 @@ from_end ns ss b s bytes = behind (number_from END bytes) (λ e bytes₃. finish
 abbrev pub from_start : List ℕ → List ℤ → ℤ → List ℕ → ReadAnswer
 from_start ns ss b bytes = behind (number_from START bytes) (λ s bytes₂. from_end ns ss b s bytes₂)
 
-module _ (j : Job) (bytes : List ℕ) (at w : ℕ) (e : w ≡ first_word (drop at bytes)) where
+-- the job, once its end is read
+abbrev pub job_at : List ℕ → List ℤ → ℤ → ℕ → ℕ → Job
+job_at ns ss b s e = record { sizes = ns; strides = ss; base = b; start = s; end = e }
+
+-- a number behind another: what comes of it, and its refusal
+module _ (bytes ns : List ℕ) (ss : List ℤ) where
+  pub base-read : (at : ℕ) (b : Number) → number_told bytes (Ok b) ≡ number_from BASE (drop at bytes)
+      → from_start ns ss (signed_of b.value) (drop b.next bytes) ≡ range_from ns ss (drop at bytes)
+  unfolding range_from
+  base-read at b e = sym (reads_on bytes (drop at bytes) BASE (λ b bytes₁. from_start ns ss (signed_of b) bytes₁) b e)
+
+  pub base-refused : (at : ℕ) (r : Refusal) → number_told bytes (Err r) ≡ number_from BASE (drop at bytes)
+      → refusal (codes.number r) ≡ range_from ns ss (drop at bytes)
+  unfolding range_from
+  base-refused at r e = sym (stops_at bytes (drop at bytes) BASE (λ b bytes₁. from_start ns ss (signed_of b) bytes₁) r e)
+
+  module _ (b : ℤ) (at : ℕ) where
+    pub start-read : (s : Number) → number_told bytes (Ok s) ≡ number_from START (drop at bytes)
+        → from_end ns ss b s.value (drop s.next bytes) ≡ from_start ns ss b (drop at bytes)
+    start-read s e = sym (reads_on bytes (drop at bytes) START (λ s bytes₂. from_end ns ss b s bytes₂) s e)
+
+    pub start-refused : (r : Refusal) → number_told bytes (Err r) ≡ number_from START (drop at bytes)
+        → refusal (codes.number r) ≡ from_start ns ss b (drop at bytes)
+    start-refused r e = sym (stops_at bytes (drop at bytes) START (λ s bytes₂. from_end ns ss b s bytes₂) r e)
+
+  module _ (b : ℤ) (s at : ℕ) where
+    pub end-read : (e : Number) → number_told bytes (Ok e) ≡ number_from END (drop at bytes)
+        → finish_from (job_at ns ss b s e.value) (drop e.next bytes) ≡ from_end ns ss b s (drop at bytes)
+    end-read e f = sym (reads_on bytes (drop at bytes) END (λ e bytes₃. finish_from (job_at ns ss b s e) bytes₃) e f)
+
+    pub end-refused : (r : Refusal) → number_told bytes (Err r) ≡ number_from END (drop at bytes)
+        → refusal (codes.number r) ≡ from_end ns ss b s (drop at bytes)
+    end-refused r f = sym (stops_at bytes (drop at bytes) END (λ e bytes₃. finish_from (job_at ns ss b s e) bytes₃) r f)
+
+-- all three
+pub behind-end : (bytes ns : List ℕ) (ss : List ℤ) (at : ℕ) (b s e : Number) → number_told bytes (Ok b) ≡ number_from BASE (drop at bytes)
+    → number_told bytes (Ok s) ≡ number_from START (drop b.next bytes) → number_told bytes (Ok e) ≡ number_from END (drop s.next bytes)
+    → finish_from (job_at ns ss (signed_of b.value) s.value e.value) (drop e.next bytes) ≡ range_from ns ss (drop at bytes)
+behind-end bytes ns ss at b s e f g h =
+    end-read bytes ns ss (signed_of b.value) s.value s.next e h
+    ∙ start-read bytes ns ss (signed_of b.value) b.next s g
+    ∙ base-read bytes ns ss at b f
+
+module _ (j : Job) (bytes : List ℕ) (at : ℕ) where
   -- the last word, by its two tests
-  finish-by : (p q : Bool) → eqb w (FINISH * 2 ^ 29) ≡ p → eqb (length bytes - at) 4 ≡ q
-      → finish_from j (drop at bytes) ≡ cond (p && q) (job j) (refusal BAD_WORD)
+  finish-by : (p q : Bool) → eqb (first_word (drop at bytes)) (FINISH * 2 ^ 29) ≡ p → eqb (length bytes - at) 4 ≡ q
+      → cond (p && q) (job j) (refusal BAD_WORD) ≡ finish_from j (drop at bytes)
   unfolding finish_from
   finish-by p q f g =
-      ap (λ (v : ℕ). cond (eqb v (FINISH * 2 ^ 29) && eqb (length (drop at bytes)) 4) (job j) (refusal BAD_WORD)) (sym e)
-      ∙ ap (λ (n : ℕ). cond (eqb w (FINISH * 2 ^ 29) && eqb n 4) (job j) (refusal BAD_WORD)) (length-drop at bytes)
+      sym (ap (λ (n : ℕ). cond (eqb (first_word (drop at bytes)) (FINISH * 2 ^ 29) && eqb n 4) (job j) (refusal BAD_WORD)) (length-drop at bytes)
       ∙ ap (λ (t : Bool). cond (t && eqb (length bytes - at) 4) (job j) (refusal BAD_WORD)) f
-      ∙ ap (λ (t : Bool). cond (p && t) (job j) (refusal BAD_WORD)) g
+      ∙ ap (λ (t : Bool). cond (p && t) (job j) (refusal BAD_WORD)) g)
 
-  pub finish-other : (w ≡ FINISH * 2 ^ 29 → ⊥) → finish_from j (drop at bytes) ≡ refusal BAD_WORD
-  finish-other k = finish-by false (eqb (length bytes - at) 4) (ne_eqb w (FINISH * 2 ^ 29) k) refl
+  pub finish-other : (first_word (drop at bytes) ≡ FINISH * 2 ^ 29 → ⊥) → refusal BAD_WORD ≡ finish_from j (drop at bytes)
+  finish-other k = finish-by false (eqb (length bytes - at) 4) (ne_eqb _ _ k) refl
 
-  pub finish-more : w ≡ FINISH * 2 ^ 29 → (length bytes - at ≡ 4 → ⊥) → finish_from j (drop at bytes) ≡ refusal BAD_WORD
-  finish-more k l = finish-by true false (eq-eqb w (FINISH * 2 ^ 29) k) (ne_eqb (length bytes - at) 4 l)
+  module _ (p : ℕ) (w : IsPayload FINISH (drop at bytes) p) where
+    pub finish-filled : (p ≡ 0 → ⊥) → refusal BAD_WORD ≡ finish_from j (drop at bytes)
+    finish-filled n = finish-other (λ e. n (let f = w.is in omega arith))
 
-  pub finishes : w ≡ FINISH * 2 ^ 29 → length bytes - at ≡ 4 → finish_from j (drop at bytes) ≡ job j
-  finishes k l = finish-by true true (eq-eqb w (FINISH * 2 ^ 29) k) (eq-eqb (length bytes - at) 4 l)
+    last : p ≡ 0 → first_word (drop at bytes) ≡ FINISH * 2 ^ 29
+    last z = let k = w.kind_is in let f = w.is in omega arith
+
+    pub finish-more : p ≡ 0 → (length bytes - at ≡ 4 → ⊥) → refusal BAD_WORD ≡ finish_from j (drop at bytes)
+    finish-more z l = finish-by true false (eq-eqb _ _ (last z)) (ne_eqb _ _ l)
+
+    pub finishes : p ≡ 0 → length bytes - at ≡ 4 → job j ≡ finish_from j (drop at bytes)
+    finishes z l = finish-by true true (eq-eqb _ _ (last z)) (eq-eqb _ _ l)
 
 -- ---- the axes
 module _ (ns : List ℕ) (ss : List ℤ) (bytes : List ℕ) where
@@ -144,34 +167,50 @@ module _ (bytes sizes : List ℕ) (strides : List ℤ) (count at : ℕ) (q : Axe
   axes-answer-done k = sym (axes-done q.ns q.ss (drop at bytes) (PLACES - count) k) ∙ q.answer
 
   module _ (k : first_kind (drop at bytes) ≡ SIZE) (room : (count ≡ PLACES → ⊥)) where
-    pub axes-answer-more : one_axis q.ns q.ss (drop at bytes) (PLACES - (count + 1)) ≡ job_from bytes
-    axes-answer-more =
+    -- reading on behind a stride, and behind a size
+    abbrev behind_stride : ℕ → ℕ → List ℕ → ReadAnswer
+    behind_stride n s rest = axes_from (PLACES - (count + 1)) (q.ns ++ n ∷ []) (q.ss ++ signed_of s ∷ []) rest
+
+    abbrev behind_size : ℕ → List ℕ → ReadAnswer
+    behind_size n rest = behind (number_from STRIDE rest) (behind_stride n)
+
+    one_more : behind (number_from SIZE (drop at bytes)) behind_size ≡ job_from bytes
+    one_more =
         let z : suc (PLACES - (count + 1)) ≡ PLACES - count = omega (arith, q.few) in
         sym (axes-more q.ns q.ss (drop at bytes) (PLACES - (count + 1)) k)
         ∙ ap (λ (n : ℕ). axes_from n q.ns q.ss (drop at bytes)) z
         ∙ q.answer
 
-    pub axes-next : (n : ℕ) (s : ℤ) (next : ℕ) → next ≤ length bytes
-        → axes_from (PLACES - (count + 1)) (q.ns ++ n ∷ []) (q.ss ++ s ∷ []) (drop next bytes) ≡ job_from bytes
-        → AxesRead bytes (set sizes count n) (set strides count s) (count + 1) next
-    axes-next n s next h e =
-        record {
-          ns = q.ns ++ n ∷ [];
-          ss = q.ss ++ s ∷ [];
-          size_count = simp length-append (omega (arith, q.size_count));
-          stride_count = simp length-append (omega (arith, q.stride_count));
-          few = omega (arith, q.few);
-          inside = h;
-          sizes_are =
-              ap (λ (l : List ℕ). set l count n) q.sizes_are
-              ∙ ap (λ (i : ℕ). set (padded PLACES 0 q.ns) i n) (sym q.size_count)
-              ∙ pushed PLACES 0 q.ns n (omega (arith, q.few, q.size_count));
-          strides_are =
-              ap (λ (l : List ℤ). set l count s) q.strides_are
-              ∙ ap (λ (i : ℕ). set (padded PLACES (pos 0) q.ss) i s) (sym q.stride_count)
-              ∙ pushed PLACES (pos 0) q.ss s (omega (arith, q.few, q.stride_count));
-          answer = e;
-        }
+    pub size-refused : (r : Refusal) → number_told bytes (Err r) ≡ number_from SIZE (drop at bytes) → refusal (codes.number r) ≡ job_from bytes
+    size-refused r e = sym (stops_at bytes (drop at bytes) SIZE behind_size r e) ∙ one_more
+
+    module _ (n : Number) (e : number_told bytes (Ok n) ≡ number_from SIZE (drop at bytes)) where
+      size-read : behind_size n.value (drop n.next bytes) ≡ job_from bytes
+      size-read = sym (reads_on bytes (drop at bytes) SIZE behind_size n e) ∙ one_more
+
+      pub stride-refused : (r : Refusal) → number_told bytes (Err r) ≡ number_from STRIDE (drop n.next bytes) → refusal (codes.number r) ≡ job_from bytes
+      stride-refused r f = sym (stops_at bytes (drop n.next bytes) STRIDE (behind_stride n.value) r f) ∙ size-read
+
+      pub axis-read : (s : Number) → number_told bytes (Ok s) ≡ number_from STRIDE (drop n.next bytes) → s.next ≤ length bytes
+          → AxesRead bytes (set sizes count n.value) (set strides count (signed_of s.value)) (count + 1) s.next
+      axis-read s f h =
+          record {
+            ns = q.ns ++ n.value ∷ [];
+            ss = q.ss ++ signed_of s.value ∷ [];
+            size_count = simp length-append (omega (arith, q.size_count));
+            stride_count = simp length-append (omega (arith, q.stride_count));
+            few = omega (arith, q.few);
+            inside = h;
+            sizes_are =
+                ap (λ (l : List ℕ). set l count n.value) q.sizes_are
+                ∙ ap (λ (i : ℕ). set (padded PLACES 0 q.ns) i n.value) (sym q.size_count)
+                ∙ pushed PLACES 0 q.ns n.value (omega (arith, q.few, q.size_count));
+            strides_are =
+                ap (λ (l : List ℤ). set l count (signed_of s.value)) q.strides_are
+                ∙ ap (λ (i : ℕ). set (padded PLACES (pos 0) q.ss) i (signed_of s.value)) (sym q.stride_count)
+                ∙ pushed PLACES (pos 0) q.ss (signed_of s.value) (omega (arith, q.few, q.stride_count));
+            answer = sym (reads_on bytes (drop n.next bytes) STRIDE (behind_stride n.value) s f) ∙ size-read;
+          }
 
   -- the record of a job with these axes
   pub axes-record : (b : ℤ) (s e : ℕ)

@@ -1,8 +1,11 @@
 -- Rules J4 and C10: reading a job from its bytes, word by word from the left. The first faulty word ends it.
 use Rattle.std.specs.Prelude.{ℕ, zero, suc, ◌+◌, ◌*◌, ◌/◌, ◌%◌, ◌^◌, cond, ◌&&◌, List, [], ◌∷◌, ◌++◌, length, drop, get_or, ltb, eqb, ℤ, pos}
+use Rattle.std.specs.Prelude.{Result, Ok, Err}
+use Rattle.refusals.specs.declared.Refusal.{Refusal}
+use Rattle.refusals.specs.Codes as codes
 use Rattle.refusals.specs.Refusals.{TOO_MANY_AXES, BAD_WORD, NUMBER_TOO_LONG}
 use Rattle.layout.specs.Axes.{PLACES, padded}
-use Rattle.jobs.specs.declared.reading.JobRead.{JobRead}
+use Rattle.jobs.specs.declared.reading.Job as read
 use Rattle.jobs.specs.Words.{MORE, SIZE, STRIDE, BASE, START, END, FINISH, signed_of}
 use Rattle.jobs.specs.Sending.{Job}
 
@@ -68,7 +71,17 @@ axes_from (suc allowed) ns ss bytes =
 unfoldable pub job_from : List ℕ → ReadAnswer
 job_from bytes = axes_from PLACES [] [] bytes
 
--- rule C10, the record: places past the axes are 0, and beside a refusal all of it is
+-- rule C10, the record of a call: the code and the job's numbers
+pub record JobRead : Type 0 where
+  pub code : ℕ
+  pub count : ℕ
+  pub sizes : List ℕ
+  pub strides : List ℤ
+  pub base : ℤ
+  pub start : ℕ
+  pub end : ℕ
+
+-- places past the axes are 0, and beside a refusal all of it is
 unfoldable pub record_of : ReadAnswer → JobRead
 record_of (job j) =
     record {
@@ -82,6 +95,13 @@ record_of (job j) =
     }
 record_of (refusal code) =
     record { code = code; count = 0; sizes = padded PLACES 0 []; strides = padded PLACES (pos 0) []; base = pos 0; start = 0; end = 0 }
+
+-- the record of what the code answers: a job has code 0, and beside a refusal all the rest is 0
+abbrev pub read_told : Result read.Job Refusal → JobRead
+read_told (Ok j) =
+    record { code = 0; count = j.count; sizes = j.sizes; strides = j.strides; base = j.base; start = j.start; end = j.end }
+read_told (Err r) =
+    record { code = codes.number r; count = 0; sizes = padded PLACES 0 []; strides = padded PLACES (pos 0) []; base = pos 0; start = 0; end = 0 }
 
 unfoldable pub read_of : List ℕ → JobRead
 read_of bytes = record_of (job_from bytes)

@@ -1,15 +1,15 @@
 // The reader of jobs.
-ghost use Rattle.std.specs.Prelude.{◌≡◌, List, ℕ, ◌≤◌, length, drop, ℤ, pos};
-ghost use Rattle.jobs.specs.Reading.{range_from, record_of, refusal, read_of};
+ghost use Rattle.std.specs.Prelude.{◌≡◌, List, ℕ, ◌≤◌, length, drop, ℤ};
+ghost use Rattle.jobs.specs.Reading.{range_from, read_told, read_of};
 ghost use Rattle.jobs.specs.InnerParts.{range_told};
 
-use crate::words::{BASE, END, FINISH, PAYLOADS, SIZE, START, STRIDE, WORD_BYTES};
+use crate::words::{Kind, WORD_BYTES};
 use layout::axis::PLACES;
+use refusals::Refusal;
 
-// A job that was read, beside its code: 0, or the refusal, with zeros in all the rest. Places past the axes are 0.
+// A job that was read. Places past the axes are 0.
 #[derive(Clone, Copy)]
-pub struct JobRead {
-    pub code: u32,
+pub struct Job {
     pub count: usize,
     pub sizes: [u64; PLACES],
     pub strides: [i64; PLACES],
@@ -20,106 +20,61 @@ pub struct JobRead {
 
 // What stands behind the axes.
 #[derive(Clone, Copy)]
-pub struct RangeRead {
-    pub code: u32,
+pub struct Range {
     pub base: i64,
     pub start: u64,
     pub end: u64,
 }
 
-fn refused(code: u32) -> JobRead
-    ensures { result ≡ record_of (refusal code) }
-{
-    JobRead {
-        code,
-        count: 0,
-        sizes: [0; PLACES],
-        strides: [0; PLACES],
-        base: 0,
-        start: 0,
-        end: 0,
-    }
-}
-
-fn no_range(code: u32) -> RangeRead
-    ensures { result ≡ record { code = code; base = pos 0; start = 0; end = 0 } }
-{
-    RangeRead {
-        code,
-        base: 0,
-        start: 0,
-        end: 0,
-    }
-}
-
 // Base, start, end and the last word.
-fn read_range(bytes: &[u8], at: usize) -> RangeRead
+fn read_range(bytes: &[u8], at: usize) -> Result<Range, Refusal>
     requires { at ≤ length bytes.now }
     ensures { (ns : List ℕ) (ss : List ℤ) → range_told ns ss result ≡ range_from ns ss (drop at bytes.now) }
 {
-    let base = crate::numbers::read_number(bytes, at, BASE);
-    if base.code != 0 {
-        return no_range(base.code);
-    }
-    let start = crate::numbers::read_number(bytes, base.next, START);
-    if start.code != 0 {
-        return no_range(start.code);
-    }
-    let end = crate::numbers::read_number(bytes, start.next, END);
-    if end.code != 0 {
-        return no_range(end.code);
-    }
+    let base = crate::numbers::read_number(bytes, at, Kind::Base)?;
+    let start = crate::numbers::read_number(bytes, base.next, Kind::Start)?;
+    let end = crate::numbers::read_number(bytes, start.next, Kind::End)?;
     let last = end.next;
-    if crate::words::word_at(bytes, last) != FINISH * PAYLOADS {
-        return no_range(refusals::BAD_WORD);
+    let Some(payload) = crate::words::payload_at(bytes, last, Kind::Finish) else {
+        return Err(Refusal::BadWord);
+    };
+    if payload != 0 || bytes.len() - last != WORD_BYTES {
+        return Err(Refusal::BadWord);
     }
-    if bytes.len() - last != WORD_BYTES {
-        return no_range(refusals::BAD_WORD);
-    }
-    RangeRead {
-        code: 0,
+    Ok(Range {
         base: crate::numbers::signed(base.value),
         start: start.value,
         end: end.value,
-    }
+    })
 }
 
 // Reads a job: the axes into two tables, then the range.
-pub fn read_job(bytes: &[u8]) -> JobRead
-    ensures { result ≡ read_of bytes.now }
+pub fn read_job(bytes: &[u8]) -> Result<Job, Refusal>
+    ensures { read_told result ≡ read_of bytes.now }
 {
     let mut sizes: [u64; PLACES] = [0; PLACES];
     let mut strides: [i64; PLACES] = [0; PLACES];
     let mut count: usize = 0;
     let mut at: usize = 0;
-    while crate::words::word_at(bytes, at) / PAYLOADS == SIZE {
+    // `while`: what is read says when the axes end.
+    while crate::words::payload_at(bytes, at, Kind::Size).is_some() {
         if count == PLACES {
-            return refused(refusals::TOO_MANY_AXES);
+            return Err(Refusal::TooManyAxes);
         }
-        let n = crate::numbers::read_number(bytes, at, SIZE);
-        if n.code != 0 {
-            return refused(n.code);
-        }
-        let s = crate::numbers::read_number(bytes, n.next, STRIDE);
-        if s.code != 0 {
-            return refused(s.code);
-        }
-        sizes[count] = n.value;
-        strides[count] = crate::numbers::signed(s.value);
+        let size = crate::numbers::read_number(bytes, at, Kind::Size)?;
+        let stride = crate::numbers::read_number(bytes, size.next, Kind::Stride)?;
+        sizes[count] = size.value;
+        strides[count] = crate::numbers::signed(stride.value);
         count += 1;
-        at = s.next;
+        at = stride.next;
     }
-    let range = read_range(bytes, at);
-    if range.code != 0 {
-        return refused(range.code);
-    }
-    JobRead {
-        code: 0,
+    let range = read_range(bytes, at)?;
+    Ok(Job {
         count,
         sizes,
         strides,
         base: range.base,
         start: range.start,
         end: range.end,
-    }
+    })
 }

@@ -3,22 +3,21 @@ ghost use Rattle.std.specs.Prelude.{◌≡◌, ◌+◌, ◌≤◌, length};
 ghost use Rattle.std.proofs.lemmas.List.Edits.{sets};
 ghost use Rattle.layout.specs.Axes.{PLACES};
 ghost use Rattle.jobs.specs.Sending.{axes_bytes, size_payloads, stride_payloads, job_bytes};
-ghost use Rattle.jobs.specs.Writing.{write_of, write_buffer};
+ghost use Rattle.jobs.specs.InnerParts.{job_of};
+ghost use Rattle.jobs.specs.Writing.{write_told, write_of, write_buffer};
 
-use crate::words::{BASE, END, FINISH, SIZE, START, STRIDE, WORD_BYTES};
+use crate::words::{Kind, WORD_BYTES};
 use layout::axis::PLACES;
+use refusals::Refusal;
 
-// The code of a call, and the number of bytes that it wrote: 0 beside a refusal.
+// A job that is to be written: below `write_job`, whose parameters C hosts name, they go together.
 #[derive(Clone, Copy)]
-pub struct JobWritten {
-    pub code: u32,
-    pub count: usize,
-}
-
-fn refused(code: u32) -> JobWritten
-    ensures { result ≡ record { code = code; count = 0 } }
-{
-    JobWritten { code, count: 0 }
+struct ToWrite<'a> {
+    sizes: &'a [u64],
+    strides: &'a [i64],
+    base: i64,
+    start: u64,
+    end: u64,
 }
 
 // How many bytes the axes take.
@@ -28,25 +27,23 @@ fn axes_length(sizes: &[u64], strides: &[i64]) -> usize
     ensures upper_bound { result ≤ 384 }
 {
     let mut total: usize = 0;
-    let mut i: usize = 0;
-    while i < sizes.len() {
-        let size = crate::numbers::bytes_of(sizes[i]);
-        let stride = crate::numbers::bytes_of(crate::numbers::sent(strides[i]));
+    for (size, stride) in sizes.iter().zip(strides) {
+        let size = crate::numbers::bytes_of(*size);
+        let stride = crate::numbers::bytes_of(crate::numbers::sent(*stride));
         total += size + stride;
-        i += 1;
     }
     total
 }
 
 // How many bytes the job takes.
-fn job_length(sizes: &[u64], strides: &[i64], base: i64, start: u64, end: u64) -> usize
-    requires { (length sizes.now ≡ length strides.now) × (length sizes.now ≤ PLACES) }
-    ensures { result ≡ length (job_bytes (record { sizes = sizes.now; strides = strides.now; base = base; start = start; end = end })) }
+fn job_length(job: &ToWrite) -> usize
+    requires { (length job.now.sizes.now ≡ length job.now.strides.now) × (length job.now.sizes.now ≤ PLACES) }
+    ensures { result ≡ length (job_bytes (job_of job.now)) }
 {
-    let axes = axes_length(sizes, strides);
-    let base = crate::numbers::bytes_of(crate::numbers::sent(base));
-    let start = crate::numbers::bytes_of(start);
-    let end = crate::numbers::bytes_of(end);
+    let axes = axes_length(job.sizes, job.strides);
+    let base = crate::numbers::bytes_of(crate::numbers::sent(job.base));
+    let start = crate::numbers::bytes_of(job.start);
+    let end = crate::numbers::bytes_of(job.end);
     axes + base + start + end + WORD_BYTES
 }
 
@@ -58,29 +55,25 @@ fn put_axes(out: &mut [u8], sizes: &[u64], strides: &[i64]) -> usize
     ensures out_after { out.new ≡ sets out.old 0 (axes_bytes (size_payloads sizes.now) (stride_payloads strides.now)) }
 {
     let mut at: usize = 0;
-    let mut i: usize = 0;
-    while i < sizes.len() {
-        let stride = crate::numbers::sent(strides[i]);
-        let next = crate::numbers::put_number(&mut *out, at, SIZE, sizes[i]);
-        at = crate::numbers::put_number(&mut *out, next, STRIDE, stride);
-        i += 1;
+    for (size, stride) in sizes.iter().zip(strides) {
+        let stride = crate::numbers::sent(*stride);
+        let next = crate::numbers::put_number(&mut *out, at, Kind::Size, *size);
+        at = crate::numbers::put_number(&mut *out, next, Kind::Stride, stride);
     }
     at
 }
 
 // Puts the job at the front.
-fn put_job(out: &mut [u8], sizes: &[u64], strides: &[i64], base: i64, start: u64, end: u64)
-    requires { (length sizes.now ≡ length strides.now) × (length sizes.now ≤ PLACES)
-        × (length (job_bytes (record { sizes = sizes.now; strides = strides.now; base = base; start = start; end = end })) ≤ length out.old) }
-    ensures { out.new ≡ sets out.old 0
-        (job_bytes (record { sizes = sizes.now; strides = strides.now; base = base; start = start; end = end })) }
+fn put_job(out: &mut [u8], job: &ToWrite)
+    requires { (length job.now.sizes.now ≡ length job.now.strides.now) × (length job.now.sizes.now ≤ PLACES)
+        × (length (job_bytes (job_of job.now)) ≤ length out.old) }
+    ensures { out.new ≡ sets out.old 0 (job_bytes (job_of job.now)) }
 {
-    let sent = crate::numbers::sent(base);
-    let at = put_axes(&mut *out, sizes, strides);
-    let at = crate::numbers::put_number(&mut *out, at, BASE, sent);
-    let at = crate::numbers::put_number(&mut *out, at, START, start);
-    let at = crate::numbers::put_number(&mut *out, at, END, end);
-    crate::words::put_word(&mut *out, at, FINISH, 0);
+    let at = put_axes(&mut *out, job.sizes, job.strides);
+    let at = crate::numbers::put_number(&mut *out, at, Kind::Base, crate::numbers::sent(job.base));
+    let at = crate::numbers::put_number(&mut *out, at, Kind::Start, job.start);
+    let at = crate::numbers::put_number(&mut *out, at, Kind::End, job.end);
+    crate::words::put_word(&mut *out, at, Kind::Finish, 0);
 }
 
 // Writes a job into the first bytes of a buffer, if it fits; otherwise nothing is written.
@@ -91,22 +84,29 @@ pub fn write_job(
     start: u64,
     end: u64,
     out: &mut [u8],
-) -> JobWritten
-    ensures value { result
+) -> Result<usize, Refusal>
+    ensures value { write_told result
         ≡ write_of (record { sizes = sizes.now; strides = strides.now; base = base; start = start; end = end }) (length out.old) }
     ensures out_after { out.new
         ≡ write_buffer (record { sizes = sizes.now; strides = strides.now; base = base; start = start; end = end }) out.old }
 {
     if sizes.len() != strides.len() {
-        return refused(refusals::STRIDE_LENGTH_MISMATCH);
+        return Err(Refusal::StrideLengthMismatch);
     }
     if PLACES < sizes.len() {
-        return refused(refusals::TOO_MANY_AXES);
+        return Err(Refusal::TooManyAxes);
     }
-    let count = job_length(sizes, strides, base, start, end);
+    let job = ToWrite {
+        sizes,
+        strides,
+        base,
+        start,
+        end,
+    };
+    let count = job_length(&job);
     if out.len() < count {
-        return refused(refusals::JOB_BUFFER_TOO_SHORT);
+        return Err(Refusal::JobBufferTooShort);
     }
-    put_job(&mut *out, sizes, strides, base, start, end);
-    JobWritten { code: 0, count }
+    put_job(&mut *out, &job);
+    Ok(count)
 }

@@ -3,13 +3,12 @@
 #![tactic(auto)]
 
 ghost use Rattle.std.specs.Prelude.{◌≡◌};
-ghost use Rattle.accumulator.specs.declared.Reduced.TheVariants.{Acc};
-ghost use Rattle.accumulator.specs.Joining.{joined};
+ghost use Rattle.accumulator.specs.Joining.{accumulator, joined};
 ghost use Rattle.finishing.specs.Finishing.{finished_of};
 ghost use Rattle.handed.specs.Answers.{handed_in, code_given, m_given, e_given, bad_given, number_code, number_given};
 
-use accumulator::{Reduced, StableProductFloatAcc};
-use finishing::Finished;
+use accumulator::StableProductFloatAcc;
+use refusals::Refusal;
 
 // 0 with the left accumulator joined with the right one in m, e and bad, or the number of a refusal with nothing written.
 #[unsafe(no_mangle)]
@@ -42,32 +41,30 @@ pub extern "C" fn probe_join(
         e: right_e,
         bad: right_bad,
     };
-    let answer = accumulator::join(left, right);
-    match answer {
-        Reduced::Acc(a) => {
+    match accumulator::join(left, right) {
+        Ok(a) => {
             let exponent = a.e;
             *m = a.m;
             *e = exponent;
             *bad = a.bad;
             0
         }
-        Reduced::Refused(n) => n,
+        Err(refusal) => u32::from(refusal),
     }
 }
 
 // 0 with the finished number of an accumulator in number, or the number of a refusal with nothing written.
 #[unsafe(no_mangle)]
 pub extern "C" fn probe_finish(m: f64, e: i64, bad: bool, number: &mut f64) -> u32
-    ensures value { result ≡ number_code (finished_of (Acc (handed_in m e bad))) }
-    ensures number_after { number.new ≡ number_given number.old (finished_of (Acc (handed_in m e bad))) }
+    ensures value { result ≡ number_code (finished_of (accumulator m e bad)) }
+    ensures number_after { number.new ≡ number_given number.old (finished_of (accumulator m e bad)) }
 {
     let acc = StableProductFloatAcc { m, e, bad };
-    let answer = finishing::finish(Reduced::Acc(acc));
-    match answer {
-        Finished::Number(x) => {
+    match finishing::finish::<Refusal>(Ok(acc)) {
+        Ok(x) => {
             *number = x;
             0
         }
-        Finished::Refused(n) => n,
+        Err(refusal) => u32::from(refusal),
     }
 }

@@ -2,7 +2,7 @@
 -- Any states, any values: no float and no format is in it. Assumes nothing.
 use Prim.Native.Nat.{ℕ, zero, suc, ◌+◌, ◌*◌, ◌≤◌, ◌<◌, zero-le}
 use mathlib.Core.Path.{◌≡◌, refl, sym, ap, ◌∙◌, subst}
-use mathlib.Core.Bool.{Bool, true, false, ◌&&◌, ◌||◌, or-false, or_assoc}
+use mathlib.Core.Bool.{Bool, true, false, ◌||◌, or-false, or_assoc}
 use mathlib.Core.List.{List, [], ◌∷◌, ◌++◌, map}
 use native.Mathlib.Nat.{le_refl, le_of_lt, add-zero, zero-add}
 use native.Mathlib.Numerals.{add-one}
@@ -120,21 +120,6 @@ module _ {S X : Type 0} (step : ℕ → S → X → S) (d : X) (xs : List X) whe
   worked-fed {s = s} l w h = worked-all w h ∙ ap (λ (m : ℕ). in_order (over step xs d) m s) (sym l) ∙ sym (feed-order s)
 
 -- ---- tests of every value
--- value k is tested besides those before it
-abbrev pub tested : {X : Type 0} → (X → Bool) → ℕ → Bool → X → Bool
-tested q k ok x = ok && q x
-
-module _ {X : Type 0} (q : X → Bool) where
-  every-feed : (i : ℕ) (ok : Bool) (xs : List X) → feed (tested q) i ok xs ≡ (ok && every q xs)
-  unfolding feed every
-  every-feed i true [] = refl
-  every-feed i false [] = refl
-  every-feed i true (x ∷ xs) = every-feed (suc i) (q x) xs
-  every-feed i false (x ∷ xs) = every-feed (suc i) false xs
-
-  pub worked-tested : (d : X) (xs : List X) {n k : ℕ} {ok : Bool} → length xs ≡ n → Worked (over (tested q) xs d) n true ok k → n ≤ k → ok ≡ every q xs
-  worked-tested d xs l w h = worked-fed (tested q) d xs l w h ∙ every-feed 0 true xs
-
 pub every-each : {X : Type 0} (p : X → Bool) (xs : List X) → every p xs ≡ true → Each (λ (x : X). p x ≡ true) xs
 unfolding every
 every-each p [] h = none

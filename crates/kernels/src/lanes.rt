@@ -10,6 +10,7 @@ use floats::Split;
 const LANES: usize = StableProductFloatAcc::LANES;
 
 // The lanes of a piece worked in blocks: each lane's m and e, and whether a bad value entered.
+// Two arrays, and not one of pairs, since eight of m are multiplied at once.
 #[derive(Clone, Copy)]
 pub struct Lanes {
     pub m: [f64; LANES],
@@ -64,10 +65,8 @@ pub fn stable_renorm(s: Lanes) -> Lanes
     ensures { result ≡ renorm s }
 {
     let mut t = s;
-    let mut k: usize = 0;
-    while k < LANES {
+    for k in 0..LANES {
         t = renorm_lane(t, k);
-        k += 1;
     }
     t
 }

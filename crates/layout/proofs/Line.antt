@@ -4,7 +4,7 @@ use Prim.Native.Nat.{ℕ, ◌*◌, ◌^◌, ◌≤◌, ◌<◌}
 use mathlib.Core.Path.{◌≡◌, refl, ◌∙◌, ap}
 use mathlib.Core.Bool.{Bool, true, false, cond, ◌&&◌}
 use mathlib.Core.List.{List, [], ◌∷◌}
-use mathlib.Core.Option.{none, some}
+use Rattle.std.specs.Prelude.{None, Some}
 use native.Mathlib.Omega.{arith}
 use lib.ListN.{length, get_or}
 use lib.IntN.{ℤ, pos}
@@ -23,7 +23,7 @@ single d (x ∷ []) e = refl
 single d (x ∷ y ∷ ys) e = absurd (omega arith)
 
 -- an axis that is kept: the order and the fusing leave it alone
-fuse-one : (a : ReduceOuterAxis) → fuse (order_from [] (a ∷ [])) ≡ some (a ∷ [])
+fuse-one : (a : ReduceOuterAxis) → fuse (order_from [] (a ∷ [])) ≡ Some (a ∷ [])
 unfolding order_from insert_axis fuse fuse_from
 fuse-one a = refl
 
@@ -42,28 +42,28 @@ module _ (n : ℕ) (s : ℤ) where
   kept-one e = ap (λ (b : Bool). cond b [] (axis_of n s ∷ [])) (ne_eqb n 1 e)
 
   -- the fused axes by the kept ones
-  fused-kept : (xs : List ReduceOuterAxis) → kept_axes (n ∷ []) (s ∷ []) ≡ xs → fused_of (n ∷ []) (s ∷ []) ≡ cond (resets_fit xs) (fuse (order_from [] xs)) none
+  fused-kept : (xs : List ReduceOuterAxis) → kept_axes (n ∷ []) (s ∷ []) ≡ xs → fused_of (n ∷ []) (s ∷ []) ≡ cond (resets_fit xs) (fuse (order_from [] xs)) None
   unfolding fused_of axes_of
-  fused-kept xs e = ap (λ (z : List ReduceOuterAxis). cond (resets_fit z) (fuse (order_from [] z)) none) e
+  fused-kept xs e = ap (λ (z : List ReduceOuterAxis). cond (resets_fit z) (fuse (order_from [] z)) None) e
 
-  line-dropped : n ≡ 1 → fused_of (n ∷ []) (s ∷ []) ≡ some []
+  line-dropped : n ≡ 1 → fused_of (n ∷ []) (s ∷ []) ≡ Some []
   unfolding resets_fit order_from fuse
   line-dropped e = fused-kept [] (kept-none e)
 
   module _ (e : n ≡ 1 → ⊥) where
-    line-fused : reset_fits n s ≡ true → fused_of (n ∷ []) (s ∷ []) ≡ some (axis_of n s ∷ [])
+    line-fused : reset_fits n s ≡ true → fused_of (n ∷ []) (s ∷ []) ≡ Some (axis_of n s ∷ [])
     unfolding axis_of
     line-fused f =
         fused-kept _ (kept-one e)
-        ∙ ap (λ (b : Bool). cond b (fuse (order_from [] (axis_of n s ∷ []))) none) (resets-one (axis_of n s) true f)
+        ∙ ap (λ (b : Bool). cond b (fuse (order_from [] (axis_of n s ∷ []))) None) (resets-one (axis_of n s) true f)
         ∙ fuse-one (axis_of n s)
 
-    line-unfused : reset_fits n s ≡ false → fused_of (n ∷ []) (s ∷ []) ≡ none
+    line-unfused : reset_fits n s ≡ false → fused_of (n ∷ []) (s ∷ []) ≡ None
     unfolding axis_of
-    line-unfused f = fused-kept _ (kept-one e) ∙ ap (λ (b : Bool). cond b (fuse (order_from [] (axis_of n s ∷ []))) none) (resets-one (axis_of n s) false f)
+    line-unfused f = fused-kept _ (kept-one e) ∙ ap (λ (b : Bool). cond b (fuse (order_from [] (axis_of n s ∷ []))) None) (resets-one (axis_of n s) false f)
 
   module _ (h : n < 2 ^ 64) where
-    line-total : total_of (n ∷ []) ≡ some n
+    line-total : total_of (n ∷ []) ≡ Some n
     unfolding total_of total_from
     line-total =
         let e : 1 * n ≡ n = omega arith in
@@ -87,7 +87,7 @@ module _ (n : ℕ) (s : ℤ) where
       line-3 f = code-3 (n ∷ []) (s ∷ []) refl (omega arith) (unfused (n ∷ []) (s ∷ []) n line-total z (line-unfused e f))
 
       module _ (f : reset_fits n s ≡ true) where
-        is-line : traversal_of PLACES (n ∷ []) (s ∷ []) ≡ some (layout_of PLACES n (axis_of n s ∷ []))
+        is-line : traversal_of PLACES (n ∷ []) (s ∷ []) ≡ Some (layout_of PLACES n (axis_of n s ∷ []))
         is-line = fused-is (n ∷ []) (s ∷ []) n line-total z (axis_of n s ∷ []) (line-fused e f)
 
         pub line-4 : 2 ^ 40 < n → compile_of PLACES (n ∷ []) (s ∷ []) ≡ record { code = 4; traversal = empty_layout PLACES }

@@ -4,7 +4,7 @@ use Prim.Native.Nat.{ℕ, zero, suc, ◌+◌, ◌-◌, ◌≤◌}
 use mathlib.Core.Path.{◌≡◌, refl, sym, ◌∙◌, ap}
 use mathlib.Core.Bool.{Bool, true, false, cond}
 use mathlib.Core.List.{List, [], ◌∷◌, ◌++◌, append_assoc}
-use mathlib.Core.Option.{Option, none, some, map}
+use Rattle.std.specs.Prelude.{Option, None, Some, option_map}
 use native.Mathlib.Omega.{arith}
 use lib.Dec.{eqb}
 use lib.ListN.{length, replicate, replicate-append-replicate}
@@ -18,10 +18,10 @@ use Rattle.layout.specs.Compile.{total_of, fused_of, layout_of, empty_layout, tr
 use Rattle.layout.specs.Theorems.{with_places, MorePlaces}
 use Rattle.layout.proofs.Compiling.{length-fused}
 
-over-same : (f : FullTraversal → FullTraversal) (o : Option FullTraversal) → overflows (map f o) ≡ overflows o
+over-same : (f : FullTraversal → FullTraversal) (o : Option FullTraversal) → overflows (option_map f o) ≡ overflows o
 unfolding overflows
-over-same f none = refl
-over-same f (some l) = refl
+over-same f None = refl
+over-same f (Some l) = refl
 
 module _ (p n : ℕ) where
   -- rule L5
@@ -55,32 +55,32 @@ module _ (p n : ℕ) where
         run_axes = l;
       }) (places-more xs (omega arith))
 
-  beside-more : (c : ℕ) (o : Option FullTraversal) → layout_beside (p + n) c (map (with_places n) o) ≡ with_places n (layout_beside p c o)
+  beside-more : (c : ℕ) (o : Option FullTraversal) → layout_beside (p + n) c (option_map (with_places n) o) ≡ with_places n (layout_beside p c o)
   unfolding layout_beside
-  beside-more zero none = empty-more
-  beside-more zero (some l) = refl
+  beside-more zero None = empty-more
+  beside-more zero (Some l) = refl
   beside-more (suc c) o = empty-more
 
   module _ (ns : List ℕ) (ss : List ℤ) (h : length ns ≤ p) where
     -- the fused axes are no more than those of the input, so they fit both tables
-    at_more : (o : Option ℕ) → traversal_at (p + n) ns ss o ≡ map (with_places n) (traversal_at p ns ss o)
+    at_more : (o : Option ℕ) → traversal_at (p + n) ns ss o ≡ option_map (with_places n) (traversal_at p ns ss o)
     unfolding traversal_at
-    at_more none = refl
-    at_more (some t) = elements (eqb t 0)
+    at_more None = refl
+    at_more (Some t) = elements (eqb t 0)
       where
         fused : (o : Option (List ReduceOuterAxis)) → fused_of ns ss ≡ o
-            → elim o [ none ↦ none | some xs ↦ some (layout_of (p + n) t xs) ]
-            ≡ map (with_places n) (elim o [ none ↦ none | some xs ↦ some (layout_of p t xs) ])
-        fused none e = refl
-        fused (some xs) e = ap some (layout-more t xs (let few = length-fused ns ss xs e in omega arith))
+            → elim o [ None ↦ None | Some xs ↦ Some (layout_of (p + n) t xs) ]
+            ≡ option_map (with_places n) (elim o [ None ↦ None | Some xs ↦ Some (layout_of p t xs) ])
+        fused None e = refl
+        fused (Some xs) e = ap Some (layout-more t xs (let few = length-fused ns ss xs e in omega arith))
 
         elements : (b : Bool)
-            → cond b (some (empty_layout (p + n))) (elim (fused_of ns ss) [ none ↦ none | some xs ↦ some (layout_of (p + n) t xs) ])
-            ≡ map (with_places n) (cond b (some (empty_layout p)) (elim (fused_of ns ss) [ none ↦ none | some xs ↦ some (layout_of p t xs) ]))
-        elements true = ap some empty-more
+            → cond b (Some (empty_layout (p + n))) (elim (fused_of ns ss) [ None ↦ None | Some xs ↦ Some (layout_of (p + n) t xs) ])
+            ≡ option_map (with_places n) (cond b (Some (empty_layout p)) (elim (fused_of ns ss) [ None ↦ None | Some xs ↦ Some (layout_of p t xs) ]))
+        elements true = ap Some empty-more
         elements false = fused (fused_of ns ss) refl
 
-    traversal-more : traversal_of (p + n) ns ss ≡ map (with_places n) (traversal_of p ns ss)
+    traversal-more : traversal_of (p + n) ns ss ≡ option_map (with_places n) (traversal_of p ns ss)
     unfolding traversal_of
     traversal-more = at_more (total_of ns)
 

@@ -1,18 +1,19 @@
 -- Laws of rule L3: when an axis has a reset.
 -- Assumes nothing.
 use Prim.Native.Nat.{ℕ, ◌-◌, ◌^◌, ◌≤◌, ◌<◌}
-use mathlib.Core.Path.{◌≡◌, refl, sym, ◌∙◌, ap, subst}
-use mathlib.Core.Bool.{Bool, true, false, ◌&&◌, and-eq-true_iff}
-use lib.Dec.{T}
+use mathlib.Core.Path.{◌≡◌, refl, sym, ◌∙◌, ap}
+use mathlib.Core.Bool.{Bool, true, false, cond, ◌&&◌, and-eq-true_iff}
 use lib.IntN.{ℤ, pos, neg_ℤ, ◌*ℤ◌, ◌-ℤ◌, +ℤ_idl}
 use mir.Val.{SFits}
 use mir.Syntax.{w64}
 use borrow.Author.Tests.{lt-ltb, le-ltb}
+use Rattle.std.specs.Prelude.{Some, None}
+use Rattle.std.proofs.lemmas.Option.{cond_some, none-some}
+use Rattle.layout.specs.declared.axis.ReduceOuterAxis.{ReduceOuterAxis}
 use Rattle.integers.specs.Integers.{fits_i64}
-use Rattle.integers.specs.InnerChecked.{keep_i, narrow_i64}
-use Rattle.integers.specs.declared.CheckedI64.{CheckedI64}
-use Rattle.integers.proofs.Machine.{narrow_i64-ok, narrow_i64-not-ok, narrow_i64-fits}
-use Rattle.layout.specs.Axes.{span, reset_fits}
+use Rattle.integers.specs.InnerChecked.{narrow_i64}
+use Rattle.integers.proofs.Machine.{narrow_i64-fits}
+use Rattle.layout.specs.Axes.{span, axis_of, reset_fits}
 
 fits_below : (n : ℕ) → n < 2 ^ 63 → fits_i64 (pos n) ≡ true
 unfolding fits_i64
@@ -27,45 +28,36 @@ pub reset-large : (n : ℕ) (s : ℤ) → 2 ^ 63 ≤ n - 1 → reset_fits n s �
 unfolding reset_fits
 reset-large n s h = ap (λ (b : Bool). b && fits_i64 (span n s) && fits_i64 (neg_ℤ (span n s))) (fits-large (n - 1) h)
 
-module _ (n : ℕ) (s : ℤ) (h : n - 1 < 2 ^ 63) (r : CheckedI64) (e : r ≡ narrow_i64 (s *ℤ pos (n - 1))) where
+module _ (n : ℕ) (s : ℤ) (h : n - 1 < 2 ^ 63) where
   small : reset_fits n s ≡ fits_i64 (span n s) && fits_i64 (neg_ℤ (span n s))
   unfolding reset_fits
   small = ap (λ (b : Bool). b && fits_i64 (span n s) && fits_i64 (neg_ℤ (span n s))) (fits_below (n - 1) h)
 
-  pub reset-no-span : r.ok ≡ false → reset_fits n s ≡ false
+  pub reset-no-span : fits_i64 (s *ℤ pos (n - 1)) ≡ false → reset_fits n s ≡ false
   unfolding span
-  reset-no-span k = small ∙ ap (λ (b : Bool). b && fits_i64 (neg_ℤ (s *ℤ pos (n - 1)))) (narrow_i64-not-ok r (s *ℤ pos (n - 1)) e k)
+  reset-no-span k = small ∙ ap (λ (b : Bool). b && fits_i64 (neg_ℤ (s *ℤ pos (n - 1)))) k
 
-  pub reset-span : r.ok ≡ true → narrow_i64 (neg_ℤ r.value) ≡ keep_i (reset_fits n s) (neg_ℤ (span n s))
+  -- where the span fits, what is left to check is its opposite
+  pub reset-span : fits_i64 (s *ℤ pos (n - 1)) ≡ true → reset_fits n s ≡ fits_i64 (neg_ℤ (s *ℤ pos (n - 1)))
+  unfolding span
+  reset-span k = small ∙ ap (λ (b : Bool). b && fits_i64 (neg_ℤ (s *ℤ pos (n - 1)))) k
+
+  pub reset-is : fits_i64 (s *ℤ pos (n - 1)) ≡ true
+      → narrow_i64 (neg_ℤ (s *ℤ pos (n - 1))) ≡ cond (reset_fits n s) (Some (neg_ℤ (span n s))) None
   unfolding span narrow_i64
-  reset-span k =
-      let v = narrow_i64-ok r (s *ℤ pos (n - 1)) e k in
-      ap (λ (z : ℤ). keep_i (fits_i64 (neg_ℤ z)) (neg_ℤ z)) v.0
-      ∙ ap (λ (b : Bool). keep_i b (neg_ℤ (s *ℤ pos (n - 1)))) (sym (small ∙ ap (λ (b : Bool). b && fits_i64 (neg_ℤ (s *ℤ pos (n - 1)))) v.1))
+  reset-is k = ap (λ (b : Bool). cond b (Some (neg_ℤ (s *ℤ pos (n - 1)))) None) (sym (reset-span k))
 
--- what an answer of `checked_reduce_reset` says
-pub reset-ok : (r : CheckedI64) (n : ℕ) (s : ℤ) → r ≡ keep_i (reset_fits n s) (neg_ℤ (span n s)) → r.ok ≡ true
-    → (reset_fits n s ≡ true) × (r.value ≡ neg_ℤ (span n s))
-reset-ok r n s e = go (reset_fits n s) refl
+-- what `checked_axis` says
+pub axis-some : (n : ℕ) (s : ℤ) (a : ReduceOuterAxis) → Some a ≡ cond (reset_fits n s) (Some (axis_of n s)) None
+    → (reset_fits n s ≡ true) × (a ≡ axis_of n s)
+axis-some n s a e = let v = cond_some _ _ _ (sym e) in (v.0, sym v.1)
+
+pub axis-none : {A : Type 0} (n : ℕ) (s : ℤ) (a : A) → None ≡ cond (reset_fits n s) (Some a) None → reset_fits n s ≡ false
+axis-none n s a e = go (reset_fits n s) refl
   where
-    go : (b : Bool) → reset_fits n s ≡ b → r.ok ≡ true → (reset_fits n s ≡ true) × (r.value ≡ neg_ℤ (span n s))
-    go true f k = (f, ap (λ (r : CheckedI64). r.value) (e ∙ ap (λ (b : Bool). keep_i b (neg_ℤ (span n s))) f))
-    go false f k =
-        let z : true ≡ false = sym k ∙ ap (λ (r : CheckedI64). r.ok) (e ∙ ap (λ (b : Bool). keep_i b (neg_ℤ (span n s))) f) in
-        absurd (subst T z tt)
-
-pub reset-not-ok : (r : CheckedI64) (n : ℕ) (s : ℤ) → r ≡ keep_i (reset_fits n s) (neg_ℤ (span n s)) → r.ok ≡ false → reset_fits n s ≡ false
-reset-not-ok r n s e = go (reset_fits n s) refl
-  where
-    go : (b : Bool) → reset_fits n s ≡ b → r.ok ≡ false → reset_fits n s ≡ false
-    go true f k =
-        let z : true ≡ false = sym (ap (λ (r : CheckedI64). r.ok) (e ∙ ap (λ (b : Bool). keep_i b (neg_ℤ (span n s))) f)) ∙ k in
-        absurd (subst T z tt)
-    go false f k = f
-
--- the reset of an axis that has one
-pub reset-value : (r : CheckedI64) (n : ℕ) (s : ℤ) → r ≡ keep_i (reset_fits n s) (neg_ℤ (span n s)) → reset_fits n s ≡ true → r.value ≡ neg_ℤ (span n s)
-reset-value r n s e f = ap (λ (r : CheckedI64). r.value) (e ∙ ap (λ (b : Bool). keep_i b (neg_ℤ (span n s))) f)
+    go : (b : Bool) → reset_fits n s ≡ b → reset_fits n s ≡ false
+    go true q = absurd (none-some a (e ∙ ap (λ (b : Bool). cond b (Some a) None) q))
+    go false q = q
 
 -- the three numbers of rule L3, where it holds
 module _ (n : ℕ) (s : ℤ) (f : reset_fits n s ≡ true) where

@@ -4,7 +4,7 @@ use Prim.Native.Nat.{ℕ, zero, suc, ◌*◌, ◌^◌, ◌≤◌, ◌<◌}
 use mathlib.Core.Path.{◌≡◌, refl, sym, ◌∙◌, ap}
 use mathlib.Core.Bool.{Bool, true, false, cond}
 use mathlib.Core.List.{List, [], ◌∷◌}
-use mathlib.Core.Option.{none, some}
+use Rattle.std.specs.Prelude.{None, Some}
 use native.Mathlib.Omega.{arith}
 use native.Mathlib.Nat.{mul_assoc, mul-one, mul-zero, zero-mul, le-mul_of_pos_right}
 use lib.Dec.{eqb, ltb}
@@ -33,14 +33,14 @@ unfoldable pub sizes-product : List ℕ → ℕ
 sizes-product [] = 1
 sizes-product (n ∷ ns) = n * sizes-product ns
 
-pub total-product : (u : ℕ) (ns : List ℕ) (t : ℕ) → total_from u ns ≡ some t → t ≡ u * sizes-product ns
+pub total-product : (u : ℕ) (ns : List ℕ) (t : ℕ) → total_from u ns ≡ Some t → t ≡ u * sizes-product ns
 unfolding total_from sizes-product
 total-product u [] t e = let q : u ≡ t = some_inj e in omega arith
 total-product u (n ∷ ns) t e = go (ltb (u * n) (2 ^ 64)) refl (total-product (u * n) ns t)
   where
-    go : (b : Bool) → ltb (u * n) (2 ^ 64) ≡ b → (total_from (u * n) ns ≡ some t → t ≡ u * n * sizes-product ns) → t ≡ u * (n * sizes-product ns)
-    go true q f = f (sym (ap (λ (b : Bool). cond b (total_from (u * n) ns) none) q) ∙ e) ∙ mul_assoc u n (sizes-product ns)
-    go false q f = absurd (none-some (sym (ap (λ (b : Bool). cond b (total_from (u * n) ns) none) q) ∙ e))
+    go : (b : Bool) → ltb (u * n) (2 ^ 64) ≡ b → (total_from (u * n) ns ≡ Some t → t ≡ u * n * sizes-product ns) → t ≡ u * (n * sizes-product ns)
+    go true q f = f (sym (ap (λ (b : Bool). cond b (total_from (u * n) ns) None) q) ∙ e) ∙ mul_assoc u n (sizes-product ns)
+    go false q f = absurd (none-some (sym (ap (λ (b : Bool). cond b (total_from (u * n) ns) None) q) ∙ e))
 
 -- ---- the elements of the axes
 axis-elements : (n : ℕ) (s : ℤ) (l : List ReduceOuterAxis) → elements (axis_of n s ∷ l) ≡ n * elements l
@@ -66,7 +66,7 @@ axes-elements ns ss e = same-elements ns ss ∙ kept-elements ns ss e
 
 -- ---- without a size of 0 the order of the sizes does not count
 total-from : (u : ℕ) (ns : List ℕ) → u < 2 ^ 64 → 0 < sizes-product ns
-    → total_from u ns ≡ cond (ltb (u * sizes-product ns) (2 ^ 64)) (some (u * sizes-product ns)) none
+    → total_from u ns ≡ cond (ltb (u * sizes-product ns) (2 ^ 64)) (Some (u * sizes-product ns)) None
 unfolding total_from sizes-product
 total-from u [] h k = rw (mul-one u, lt-ltb u (2 ^ 64) h)
 total-from u (n ∷ ns) h k = go (ltb (u * n) (2 ^ 64)) refl (λ l. total-from (u * n) ns l (pos-of-mul-right n (sizes-product ns) k))
@@ -75,15 +75,15 @@ total-from u (n ∷ ns) h k = go (ltb (u * n) (2 ^ 64)) refl (λ l. total-from (
     p = sizes-product ns
 
     go : (b : Bool) → ltb (u * n) (2 ^ 64) ≡ b
-        → (u * n < 2 ^ 64 → total_from (u * n) ns ≡ cond (ltb (u * n * p) (2 ^ 64)) (some (u * n * p)) none)
-        → cond (ltb (u * n) (2 ^ 64)) (total_from (u * n) ns) none ≡ cond (ltb (u * (n * p)) (2 ^ 64)) (some (u * (n * p))) none
+        → (u * n < 2 ^ 64 → total_from (u * n) ns ≡ cond (ltb (u * n * p) (2 ^ 64)) (Some (u * n * p)) None)
+        → cond (ltb (u * n) (2 ^ 64)) (total_from (u * n) ns) None ≡ cond (ltb (u * (n * p)) (2 ^ 64)) (Some (u * (n * p))) None
     go true q i =
-        ap (λ (b : Bool). cond b (total_from (u * n) ns) none) q
+        ap (λ (b : Bool). cond b (total_from (u * n) ns) None) q
         ∙ i (ltb-true (u * n) (2 ^ 64) q)
-        ∙ ap (λ (x : ℕ). cond (ltb x (2 ^ 64)) (some x) none) (mul_assoc u n p)
+        ∙ ap (λ (x : ℕ). cond (ltb x (2 ^ 64)) (Some x) None) (mul_assoc u n p)
     go false q i =
-        ap (λ (b : Bool). cond b (total_from (u * n) ns) none) q
-        ∙ sym (ap (λ (b : Bool). cond b (some (u * (n * p))) none) (le-ltb (u * (n * p)) (2 ^ 64) over))
+        ap (λ (b : Bool). cond b (total_from (u * n) ns) None) q
+        ∙ sym (ap (λ (b : Bool). cond b (Some (u * (n * p))) None) (le-ltb (u * (n * p)) (2 ^ 64) over))
       where
         over : 2 ^ 64 ≤ u * (n * p)
         over =
@@ -92,6 +92,6 @@ total-from u (n ∷ ns) h k = go (ltb (u * n) (2 ^ 64)) refl (λ l. total-from (
             let a = mul_assoc u n p in
             omega arith
 
-pub total-is : (ns : List ℕ) → 0 < sizes-product ns → total_of ns ≡ cond (ltb (1 * sizes-product ns) (2 ^ 64)) (some (1 * sizes-product ns)) none
+pub total-is : (ns : List ℕ) → 0 < sizes-product ns → total_of ns ≡ cond (ltb (1 * sizes-product ns) (2 ^ 64)) (Some (1 * sizes-product ns)) None
 unfolding total_of
 total-is ns k = total-from 1 ns (omega arith) k

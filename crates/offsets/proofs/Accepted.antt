@@ -3,7 +3,7 @@ use Prim.Native.Nat.{ℕ, suc, ◌-◌, ◌*◌, ◌≤◌, ◌<◌}
 use mathlib.Core.Path.{◌≡◌, refl, sym, ◌∙◌, ap, subst}
 use mathlib.Core.Bool.{Bool, true, false, cond}
 use mathlib.Core.List.{List, [], ◌∷◌}
-use mathlib.Core.Option.{Option, none, some}
+use Rattle.std.specs.Prelude.{Option, None, Some}
 use native.Mathlib.Omega.{arith}
 use native.Mathlib.Nat.{mod-one}
 use lib.Dec.{T, eqb}
@@ -19,7 +19,7 @@ use Rattle.layout.specs.Order.{kept_axes, precedes, insert_axis, order_from, axe
 use native.Mathlib.Decide.{dec_lt}
 use lib.Seq.{take-append_seam}
 use Rattle.layout.specs.declared.traversal.FullTraversal.{FullTraversal}
-use Rattle.refusals.specs.Refusals.{Refusal, first_of}
+use Rattle.refusals.specs.Refusals.{Ranked, first_of}
 use Rattle.layout.specs.Compile.{total_of, fused_of, layout_of, empty_layout, traversal_at, traversal_of, overflows}
 use Rattle.layout.proofs.Tables.{length-places_of}
 use Rattle.layout.proofs.Totals.{pos-of-mul-right, pos-of-mul-left, sizes-product, total-product, axes-elements}
@@ -129,7 +129,7 @@ layout-traversal t (a ∷ xs) w h e = (
     same = ap (λ (b : ReduceOuterAxis). b ∷ take (length xs) (places_of PLACES xs)) run ∙ ap (λ (l : List ReduceOuterAxis). a ∷ l) outer
 
 -- ---- what an accepted compile says
-pub refused_none : (n : ℕ) (b : Bool) (rs : List Refusal) → first_of ((suc n, b) ∷ rs) ≡ 0 → (b ≡ false) × (first_of rs ≡ 0)
+pub refused_none : (n : ℕ) (b : Bool) (rs : List Ranked) → first_of ((suc n, b) ∷ rs) ≡ 0 → (b ≡ false) × (first_of rs ≡ 0)
 unfolding first_of
 refused_none n true rs e = absurd (no e)
   where
@@ -137,12 +137,12 @@ refused_none n true rs e = absurd (no e)
     no h = omega arith
 refused_none n false rs e = (refl, e)
 
-pub not-over : (o : Option FullTraversal) → overflows o ≡ false → (l : FullTraversal) × (o ≡ some l)
+pub not-over : (o : Option FullTraversal) → overflows o ≡ false → (l : FullTraversal) × (o ≡ Some l)
 unfolding overflows
-not-over none e = absurd (subst T e tt)
-not-over (some l) e = (l, refl)
+not-over None e = absurd (subst T e tt)
+not-over (Some l) e = (l, refl)
 
-fuse-all : (xs ys : List ReduceOuterAxis) → Axes xs → fuse xs ≡ some ys → SameElements xs ys
+fuse-all : (xs ys : List ReduceOuterAxis) → Axes xs → fuse xs ≡ Some ys → SameElements xs ys
 unfolding fuse
 fuse-all [] ys w e = subst (SameElements []) (some_inj e) (record { axes = w; elements = refl; offsets = λ base k. refl })
 fuse-all (a ∷ xs) ys w e = fuse-same [] a xs ys w e
@@ -152,19 +152,19 @@ pub record AcceptedLayout (ns : List ℕ) (ss : List ℤ) (l : FullTraversal) : 
   pub same : SameElements (axes_of ns ss) (run_of l ∷ outer_of l)
   pub axes : Axes (axes_of ns ss)
   pub total : elements (axes_of ns ss) ≡ l.total
-  pub product : total_of ns ≡ some l.total
+  pub product : total_of ns ≡ Some l.total
 
 module _ (ns : List ℕ) (ss : List ℤ) (eq : length ns ≡ length ss) (small : length ns ≤ PLACES) where
-  with-fused : (t : ℕ) → total_of ns ≡ some t → (t ≡ 0 → ⊥) → (xs : List ReduceOuterAxis) → fused_of ns ss ≡ some xs → AcceptedLayout ns ss (layout_of PLACES t xs)
+  with-fused : (t : ℕ) → total_of ns ≡ Some t → (t ≡ 0 → ⊥) → (xs : List ReduceOuterAxis) → fused_of ns ss ≡ Some xs → AcceptedLayout ns ss (layout_of PLACES t xs)
   unfolding fused_of total_of
   with-fused t e n xs f = go (resets_fit (kept_axes ns ss)) refl
     where
       go : (b : Bool) → resets_fit (kept_axes ns ss) ≡ b → AcceptedLayout ns ss (layout_of PLACES t xs)
-      go false q = absurd (none-some (ap (λ (b : Bool). cond b (fuse (axes_of ns ss)) none) (sym q) ∙ f))
+      go false q = absurd (none-some (ap (λ (b : Bool). cond b (fuse (axes_of ns ss)) None) (sym q) ∙ f))
       go true q =
           let p : t ≡ 1 * sizes-product ns = total-product 1 ns t e in
           let k = axes-kept ns ss (kept-axes ns ss (omega arith) q) in
-          let z : fuse (axes_of ns ss) ≡ some xs = ap (λ (b : Bool). cond b (fuse (axes_of ns ss)) none) (sym q) ∙ f in
+          let z : fuse (axes_of ns ss) ≡ Some xs = ap (λ (b : Bool). cond b (fuse (axes_of ns ss)) None) (sym q) ∙ f in
           let s = fuse-all (axes_of ns ss) xs k z in
           let m = axes-elements ns ss eq in
           let c : elements (axes_of ns ss) ≡ t = omega arith in
@@ -175,23 +175,23 @@ module _ (ns : List ℕ) (ss : List ℤ) (eq : length ns ≡ length ss) (small :
             same = same-trans (axes_of ns ss) xs _ s r.1;
             axes = k;
             total = c ∙ sym (layout-total t xs);
-            product = e ∙ ap some (sym (layout-total t xs));
+            product = e ∙ ap Some (sym (layout-total t xs));
           }
 
   -- a layout that compiling gives
-  pub is-accepted : (l : FullTraversal) → traversal_of PLACES ns ss ≡ some l → 0 < l.total → AcceptedLayout ns ss l
+  pub is-accepted : (l : FullTraversal) → traversal_of PLACES ns ss ≡ Some l → 0 < l.total → AcceptedLayout ns ss l
   unfolding traversal_of traversal_at empty_layout
   is-accepted l e h = go (total_of ns) refl
     where
       go : (o : Option ℕ) → total_of ns ≡ o → AcceptedLayout ns ss l
-      go none q = absurd (none-some (ap (traversal_at PLACES ns ss) (sym q) ∙ e))
-      go (some t) q = zero_or (dec_lt 0 t)
+      go None q = absurd (none-some (ap (traversal_at PLACES ns ss) (sym q) ∙ e))
+      go (Some t) q = zero_or (dec_lt 0 t)
         where
-          at-t : traversal_at PLACES ns ss (some t) ≡ some l
+          at-t : traversal_at PLACES ns ss (Some t) ≡ Some l
           at-t = ap (traversal_at PLACES ns ss) (sym q) ∙ e
 
           zero_or : Dec (0 < t) → AcceptedLayout ns ss l
-          zero_or (no n) = absurd (empty (ap (λ (x : FullTraversal). x.total) (some_inj (ap (λ (m : ℕ). traversal_at PLACES ns ss (some m)) z ∙ at-t))))
+          zero_or (no n) = absurd (empty (ap (λ (x : FullTraversal). x.total) (some_inj (ap (λ (m : ℕ). traversal_at PLACES ns ss (Some m)) z ∙ at-t))))
             where
               z : 0 ≡ t
               z = omega arith
@@ -204,22 +204,22 @@ module _ (ns : List ℕ) (ss : List ℤ) (eq : length ns ≡ length ss) (small :
               nz k = omega arith
 
               fused : (o : Option (List ReduceOuterAxis)) → fused_of ns ss ≡ o → AcceptedLayout ns ss l
-              fused none f =
+              fused None f =
                   absurd
-                  (none-some (ap (λ (o : Option (List ReduceOuterAxis)). elim o [ none ↦ none | some xs ↦ some (layout_of PLACES t xs) ]) (sym f) ∙ at-fused))
+                  (none-some (ap (λ (o : Option (List ReduceOuterAxis)). elim o [ None ↦ None | Some xs ↦ Some (layout_of PLACES t xs) ]) (sym f) ∙ at-fused))
                 where
-                  at-fused : elim (fused_of ns ss) [ none ↦ none | some xs ↦ some (layout_of PLACES t xs) ] ≡ some l
+                  at-fused : elim (fused_of ns ss) [ None ↦ None | Some xs ↦ Some (layout_of PLACES t xs) ] ≡ Some l
                   at-fused =
-                      ap (λ (b : Bool). cond b (some (empty_layout PLACES)) (elim (fused_of ns ss) [ none ↦ none | some xs ↦ some (layout_of PLACES t xs) ]))
+                      ap (λ (b : Bool). cond b (Some (empty_layout PLACES)) (elim (fused_of ns ss) [ None ↦ None | Some xs ↦ Some (layout_of PLACES t xs) ]))
                       (sym (ne_eqb t 0 nz))
                       ∙ at-t
-              fused (some xs) f =
+              fused (Some xs) f =
                   subst (AcceptedLayout ns ss)
-                  (some_inj (ap (λ (o : Option (List ReduceOuterAxis)). elim o [ none ↦ none | some xs ↦ some (layout_of PLACES t xs) ]) (sym f) ∙ at-fused))
+                  (some_inj (ap (λ (o : Option (List ReduceOuterAxis)). elim o [ None ↦ None | Some xs ↦ Some (layout_of PLACES t xs) ]) (sym f) ∙ at-fused))
                   (with-fused t q nz xs f)
                 where
-                  at-fused : elim (fused_of ns ss) [ none ↦ none | some xs ↦ some (layout_of PLACES t xs) ] ≡ some l
+                  at-fused : elim (fused_of ns ss) [ None ↦ None | Some xs ↦ Some (layout_of PLACES t xs) ] ≡ Some l
                   at-fused =
-                      ap (λ (b : Bool). cond b (some (empty_layout PLACES)) (elim (fused_of ns ss) [ none ↦ none | some xs ↦ some (layout_of PLACES t xs) ]))
+                      ap (λ (b : Bool). cond b (Some (empty_layout PLACES)) (elim (fused_of ns ss) [ None ↦ None | Some xs ↦ Some (layout_of PLACES t xs) ]))
                       (sym (ne_eqb t 0 nz))
                       ∙ at-t

@@ -4,17 +4,21 @@ use Prim.Native.Nat.{ℕ, ◌^◌, ◌≤◌, ◌<◌}
 use mathlib.Core.Path.{◌≡◌, refl, sym, ◌∙◌, ap, subst}
 use mathlib.Core.Bool.{true}
 use mathlib.Core.List.{List, ◌∷◌}
+use native.Mathlib.Omega.{arith}
+use Rattle.std.specs.Prelude.{Ok, Err}
+use Rattle.refusals.specs.declared.Refusal.{Refusal}
+use Rattle.refusals.specs.Codes.{number}
+use Rattle.refusals.proofs.Numbers.{some-number}
 use lib.IntN.{ℤ}
 use Rattle.layout.specs.declared.traversal.FullTraversal.{FullTraversal}
-use Rattle.layout.specs.declared.traversal.Compiled.{Compiled}
 use Rattle.layout.specs.Axes.{PLACES}
 use Rattle.layout.specs.Order.{axes_of}
-use Rattle.layout.specs.Compile.{compile_of}
+use Rattle.layout.specs.Compile.{Compiled, compile_of, told}
 use Rattle.offsets.specs.Elements.{all_inside}
 use Rattle.offsets.specs.InnerCursors.{Bounded, Traversal}
 use Rattle.offsets.specs.Pieces.{run_of, outer_of}
 use Rattle.offsets.specs.Lists.{range_code, offsets_from}
-use Rattle.offsets.proofs.Ranges.{Ranged, ranged as all_of, ranged-accepted, ranged-bounded, ranged-inside, ranged-few, offsets-same}
+use Rattle.offsets.proofs.Ranges.{Ranged, ranged as all_of, ranged-accepted, ranged-bounded, ranged-inside, ranged-few, offsets-same, range-compile}
 
 -- an accepted range, with its compiled layout
 pub record Checked (ns : List ℕ) (ss : List ℤ) (base : ℤ) (start end len : ℕ) (l : FullTraversal) : Type 0 where
@@ -47,7 +51,25 @@ module _ (ns : List ℕ) (ss : List ℤ) (base : ℤ) (start end len : ℕ) wher
         offsets = offsets-same (axes_of ns ss) _ base a.same;
       }
 
-  -- a compiled layout whose range's code is 0
-  pub checked : (r : Compiled) → r ≡ compile_of PLACES ns ss → (c : ℕ) → c ≡ range_code ns ss base start end len → c ≡ 0
-      → Checked ns ss base start end len r.traversal
-  checked r e c k z = subst (Checked ns ss base start end len) (sym (ap (λ (x : Compiled). x.traversal) e)) (accepted-range (sym k ∙ z))
+-- ---- what the code's answers tell
+module _ (ns : List ℕ) (ss : List ℤ) where
+  -- compiling gave a layout
+  module _ (l : FullTraversal) (t : told (Ok l) ≡ compile_of PLACES ns ss) where
+    pub code-compiled : (compile_of PLACES ns ss).code ≡ 0
+    code-compiled = sym (ap (λ (c : Compiled). c.code) t)
+
+    pub layout-compiled : l ≡ (compile_of PLACES ns ss).traversal
+    layout-compiled = ap (λ (c : Compiled). c.traversal) t
+
+    -- what `check_range` asks for
+    pub compiled : ((compile_of PLACES ns ss).code ≡ 0) × (l.total ≡ (compile_of PLACES ns ss).traversal.total)
+    compiled = (code-compiled, ap (λ (x : FullTraversal). x.total) layout-compiled)
+
+    -- and the range over it is accepted
+    pub checked : (base : ℤ) (start end len : ℕ) → range_code ns ss base start end len ≡ 0 → Checked ns ss base start end len l
+    checked base start end len e = subst (Checked ns ss base start end len) (sym layout-compiled) (accepted-range ns ss base start end len e)
+
+  -- compiling gave a refusal: its number is the code of every range
+  pub compile-refused : (e : Refusal) → told (Err e) ≡ compile_of PLACES ns ss → (base : ℤ) (start end len : ℕ) → number e ≡ range_code ns ss base start end len
+  compile-refused e t base start end len =
+      let c = ap (λ (c : Compiled). c.code) t in c ∙ range-compile ns ss base start end len (λ z. some-number e (c ∙ z))

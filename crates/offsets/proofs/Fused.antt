@@ -3,7 +3,7 @@ use Prim.Native.Nat.{ℕ, ◌+◌, ◌*◌, ◌/◌, ◌%◌}
 use mathlib.Core.Path.{◌≡◌, refl, sym, ◌∙◌, ap, subst}
 use mathlib.Core.Bool.{Bool, true, false}
 use mathlib.Core.List.{List, [], ◌∷◌, ◌++◌, append_assoc}
-use mathlib.Core.Option.{some}
+use Rattle.std.specs.Prelude.{Option, None, Some}
 use native.Mathlib.Omega.{arith}
 use native.Mathlib.Nat.{mul_comm, mul_assoc, div-div-eq-div-mul, mul-pos}
 use lib.Arith.{mod-mul}
@@ -13,7 +13,7 @@ use Rattle.integers.proofs.Difference.{ints, atoms}
 use Rattle.integers.proofs.Machine.{eq_z-true}
 use Rattle.layout.specs.declared.axis.ReduceOuterAxis.{ReduceOuterAxis}
 use Rattle.layout.specs.declared.fuse.Joined.{Joined}
-use Rattle.layout.specs.declared.fuse.Joined.TheVariants.{One, Two, Overflow}
+use Rattle.layout.specs.declared.fuse.Joined.TheVariants.{One, Two}
 use Rattle.layout.specs.Axes.{reset_fits, axis_of}
 use Rattle.offsets.specs.InnerCursors.{Axes}
 use Rattle.layout.specs.Fuse.{reach, join_of, fuse_from}
@@ -98,7 +98,7 @@ module _ (a b : ReduceOuterAxis) (xs : List ReduceOuterAxis) (w : Axes (a ∷ b 
       }
 
 -- what a join tells of two axes
-fused-pair : (a b c : ReduceOuterAxis) → join_of a b ≡ One c
+fused-pair : (a b c : ReduceOuterAxis) → join_of a b ≡ Some (One c)
     → (c ≡ axis_of (a.extent * b.extent) a.source_step) × (reach a ≡ b.source_step) × (reset_fits (a.extent * b.extent) a.source_step ≡ true)
 fused-pair a b c e = go (fits_i64 (reach a)) (eq_z (reach a) b.source_step) (reset_fits (a.extent * b.extent) a.source_step) refl refl refl
   where
@@ -106,16 +106,16 @@ fused-pair a b c e = go (fits_i64 (reach a)) (eq_z (reach a) b.source_step) (res
     Goal =
         (c ≡ axis_of (a.extent * b.extent) a.source_step) × (reach a ≡ b.source_step) × (reset_fits (a.extent * b.extent) a.source_step ≡ true)
 
-    bad : {j : Joined} → join_of a b ≡ j → (j ≡ One c → ⊥) → Goal
+    bad : {j : Option Joined} → join_of a b ≡ j → (j ≡ Some (One c) → ⊥) → Goal
     bad f n = absurd (n (sym f ∙ e))
 
-    over : Overflow ≡ One c → ⊥
-    over q = let z : ◌≡◌ {A = ℕ} 0 1 = cc in omega arith
+    over : None ≡ Some (One c) → ⊥
+    over q = cc
 
-    two : Two ≡ One c → ⊥
-    two q = let z : ◌≡◌ {A = ℕ} 0 1 = cc in omega arith
+    two : Some Two ≡ Some (One c) → ⊥
+    two q = cc
 
-    one : (x y : ReduceOuterAxis) → One x ≡ One y → x ≡ y
+    one : (x y : ReduceOuterAxis) → Some (One x) ≡ Some (One y) → x ≡ y
     one x y q = cc
 
     go : (x y z : Bool) → fits_i64 (reach a) ≡ x → eq_z (reach a) b.source_step ≡ y → reset_fits (a.extent * b.extent) a.source_step ≡ z → Goal
@@ -126,7 +126,7 @@ fused-pair a b c e = go (fits_i64 (reach a)) (eq_z (reach a) b.source_step) (res
         (one c (axis_of (a.extent * b.extent) a.source_step) (sym e ∙ join_one a b p q r), eq_z-true (reach a) b.source_step q, r)
 
 -- fusing changes no element's offset
-pub fuse-same : (done : List ReduceOuterAxis) (a : ReduceOuterAxis) (bs ys : List ReduceOuterAxis) → Axes (done ++ a ∷ bs) → fuse_from done a bs ≡ some ys
+pub fuse-same : (done : List ReduceOuterAxis) (a : ReduceOuterAxis) (bs ys : List ReduceOuterAxis) → Axes (done ++ a ∷ bs) → fuse_from done a bs ≡ Some ys
     → SameElements (done ++ a ∷ bs) ys
 unfolding fuse_from
 fuse-same done a [] ys w e =
@@ -138,15 +138,15 @@ fuse-same done a (b ∷ bs) ys w e =
     tail : Axes (a ∷ b ∷ bs)
     tail = axes-right done (a ∷ b ∷ bs) w
 
-    go : (j : Joined) → join_of a b ≡ j → ((c : ReduceOuterAxis) → Axes (done ++ c ∷ bs) → fuse_from done c bs ≡ some ys → SameElements (done ++ c ∷ bs) ys)
-        → (Axes (done ++ a ∷ [] ++ b ∷ bs) → fuse_from (done ++ a ∷ []) b bs ≡ some ys → SameElements (done ++ a ∷ [] ++ b ∷ bs) ys)
+    go : (j : Option Joined) → join_of a b ≡ j → ((c : ReduceOuterAxis) → Axes (done ++ c ∷ bs) → fuse_from done c bs ≡ Some ys → SameElements (done ++ c ∷ bs) ys)
+        → (Axes (done ++ a ∷ [] ++ b ∷ bs) → fuse_from (done ++ a ∷ []) b bs ≡ Some ys → SameElements (done ++ a ∷ [] ++ b ∷ bs) ys)
         → SameElements (done ++ a ∷ b ∷ bs) ys
-    go (One c) q f g =
+    go (Some (One c)) q f g =
         let j = fused-pair a b c q in
         let s : SameElements (done ++ a ∷ b ∷ bs) (done ++ c ∷ bs) = rw j.0 (same_after done (a ∷ b ∷ bs) _ (axes-left done (a ∷ b ∷ bs) w)
         (same-both a b bs tail j.1 j.2)) in
         same-trans (done ++ a ∷ b ∷ bs) (done ++ c ∷ bs) ys s (f c s.axes (sym (fused-one done a b bs c q) ∙ e))
-    go Two q f g =
+    go (Some Two) q f g =
         let m = append_assoc done (a ∷ []) (b ∷ bs) in
         subst (λ (l : List ReduceOuterAxis). SameElements l ys) m (g (rw m w) (sym (fused-two done a b bs q) ∙ e))
-    go Overflow q f g = absurd (none-some (sym (fused-over done a b bs q) ∙ e))
+    go None q f g = absurd (none-some (sym (fused-over done a b bs q) ∙ e))

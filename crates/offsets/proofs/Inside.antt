@@ -1,14 +1,12 @@
 -- The bounds test, axis by axis.
 -- Assumes nothing.
-use Prim.Native.Nat.{ℕ, zero, suc, ◌+◌, ◌-◌, ◌^◌, ◌≤◌, ◌<◌}
-use mathlib.Core.Path.{◌≡◌, refl, sym, ◌∙◌, ap, subst}
+use Prim.Native.Nat.{ℕ, zero, suc, ◌+◌, ◌-◌, ◌^◌, ◌≤◌, ◌<◌, min}
+use mathlib.Core.Path.{◌≡◌, refl, sym, ◌∙◌, ap}
 use mathlib.Core.Bool.{Bool, true, false, ◌&&◌, and-false, and-true}
 use mathlib.Core.List.{List, [], ◌∷◌}
+use Rattle.std.specs.Prelude.{Option, None, Some, MatchOption}
 use native.Mathlib.Omega.{arith}
 use native.Mathlib.Decide.{dec_lt}
-use native.Mathlib.Numerals.{unary_clauses}
-use lib.Dec.{T}
-use lib.ListN.{length, drop, get_or}
 use lib.IntN.{ℤ, pos, negsuc, neg_ℤ, nat_abs, ◌+ℤ◌}
 use lib.Signed.{le_z, lt_z, ◌≤ℤ◌}
 use borrow.Author.Tests.{lt-ltb, le-ltb}
@@ -18,8 +16,9 @@ use Rattle.layout.specs.Axes.{span, axis_of, axes_in}
 use Rattle.layout.specs.InnerTables.{elements}
 use Rattle.offsets.specs.declared.bounds.Span.{Span}
 use Rattle.offsets.specs.Elements.{all_inside}
-use Rattle.offsets.specs.InnerBounds.{negative_part, positive_part, low_sum, high_sum, lowest_offset, highest_offset, nowhere, widened, stay_inside}
-use Rattle.offsets.specs.InnerCursors.{Axes}
+use Rattle.offsets.specs.InnerBounds.{negative_part, positive_part, low_sum, high_sum, lowest_offset, highest_offset, widened, stay_inside}
+use Rattle.offsets.specs.InnerCursors.{Axis, Axes}
+use Rattle.offsets.proofs.Stepping.{axes-at}
 use Rattle.offsets.proofs.Ends.{low-zero, zero_high, ends_inside, ends-exact}
 
 -- one axis: its reset is r, its share z
@@ -61,36 +60,15 @@ opposite-test : (n : ℕ) → lt_z (pos 0) (neg_ℤ (pos n)) ≡ false
 opposite-test zero = refl
 opposite-test (suc n) = refl
 
--- the cases of a widening, by the magnitude p of the reset
-module _ (s : Span) (r : ℤ) (last p : ℕ) (e : p ≡ nat_abs r) where
-  pub back-nowhere : lt_z (pos 0) r ≡ true → s.low < p → widened s r last ≡ nowhere
-  unfolding widened
-  back-nowhere t h = rw (t, ← e, lt-ltb s.low p h)
-
-  pub back-widened : lt_z (pos 0) r ≡ true → p ≤ s.low → widened s r last ≡ record { ok = true; low = s.low - p; high = s.high }
-  unfolding widened
-  back-widened t h = rw (t, ← e, le-ltb s.low p h)
-
-  pub forth-nowhere : lt_z (pos 0) r ≡ false → last - s.high < p → widened s r last ≡ nowhere
-  unfolding widened
-  forth-nowhere t h = rw (t, ← e, lt-ltb (last - s.high) p h)
-
-  pub forth-widened : lt_z (pos 0) r ≡ false → p ≤ last - s.high → widened s r last ≡ record { ok = true; low = s.low; high = s.high + p }
-  unfolding widened
-  forth-widened t h = rw (t, ← e, le-ltb (last - s.high) p h)
-
 -- what one axis does to the test
-pub record Widens (a : ReduceOuterAxis) (xs : List ReduceOuterAxis) (s r : Span) (last : ℕ) : Type 0 where
-  pub high : r.ok ≡ true → r.high ≤ last
-  pub same : r.ok ≡ true → stay_inside xs r.low r.high last ≡ stay_inside (a ∷ xs) s.low s.high last
-  pub out : r.ok ≡ false → stay_inside (a ∷ xs) s.low s.high last ≡ false
-
-false-true : {A : Type 0} → false ≡ true → A
-false-true e = absurd (subst T (sym e) tt)
+abbrev pub Widens : ReduceOuterAxis → List ReduceOuterAxis → Span → Option Span → ℕ → Type 0
+Widens a xs s r last =
+    MatchOption r (stay_inside (a ∷ xs) s.low s.high last ≡ false)
+    (λ t. (t.high ≤ last) × (stay_inside xs t.low t.high last ≡ stay_inside (a ∷ xs) s.low s.high last))
 
 pub widens : (a : ReduceOuterAxis) (xs : List ReduceOuterAxis) (s : Span) (last : ℕ) (r : ℤ) → r ≡ neg_ℤ (span a.extent a.source_step)
     → s.high ≤ last → Widens a xs s (widened s r last) last
-unfolding stay_inside low_sum high_sum widened negative_part positive_part
+unfolding stay_inside low_sum high_sum negative_part positive_part
 widens a xs s last r e h = rw e (go (span a.extent a.source_step) refl)
   where
     L : ℤ
@@ -107,53 +85,31 @@ widens a xs s last r e h = rw e (go (span a.extent a.source_step) refl)
       where
         back : Dec (s.low < suc n) → Widens a xs s (widened s (neg_ℤ z) last) last
         back (yes l) =
-            let w : widened s (neg_ℤ z) last ≡ nowhere = rw (q, lt-ltb 0 (suc n) (omega arith), lt-ltb s.low (suc n) l) in
-            rw w
-            (record {
-              high = λ k. false-true k;
-              same = λ k. false-true k;
-              out = λ k. rw (q, back-out s.low s.high last L H (low-zero xs) (zero_high xs) n l);
-            })
+            let w : widened s (neg_ℤ z) last ≡ None = rw (q, lt-ltb 0 (suc n) (omega arith), lt-ltb s.low (suc n) l) in
+            rw w (rw (q, back-out s.low s.high last L H (low-zero xs) (zero_high xs) n l))
         back (no l) =
             let m : suc n ≤ s.low = omega arith in
-            let w : widened s (neg_ℤ z) last ≡ record { ok = true; low = s.low - suc n; high = s.high } = rw (
+            let w : widened s (neg_ℤ z) last ≡ Some (record { low = s.low - suc n; high = s.high }) = rw (
               q,
               lt-ltb 0 (suc n) (omega arith),
               le-ltb s.low (suc n) m,
             ) in
-            rw w
-            (record {
-              high = λ k. h;
-              same = λ k. rw (q, back_in s.low s.high last L H (low-zero xs) (zero_high xs) n m, no-share s.high H);
-              out = λ k. absurd (subst T k tt);
-            })
+            rw w (h, rw (q, back_in s.low s.high last L H (low-zero xs) (zero_high xs) n m, no-share s.high H))
     go (pos n) q = forth (dec_lt (last - s.high) n)
       where
         forth : Dec (last - s.high < n) → Widens a xs s (widened s (neg_ℤ z) last) last
         forth (yes l) =
-            let w : widened s (neg_ℤ z) last ≡ nowhere = rw (q, opposite-test n, opposite-size n, lt-ltb (last - s.high) n l) in
-            rw w
-            (record {
-              high = λ k. false-true k;
-              same = λ k. false-true k;
-              out =
-                  λ k.
-                  rw (q, forth-out s.low s.high last L H (low-zero xs) (zero_high xs) n h l) (and-false (le_z (pos 0) (pos s.low +ℤ (pos 0 +ℤ L))));
-            })
+            let w : widened s (neg_ℤ z) last ≡ None = rw (q, opposite-test n, opposite-size n, lt-ltb (last - s.high) n l) in
+            rw w (rw (q, forth-out s.low s.high last L H (low-zero xs) (zero_high xs) n h l) (and-false (le_z (pos 0) (pos s.low +ℤ (pos 0 +ℤ L)))))
         forth (no l) =
             let m : n ≤ last - s.high = omega arith in
-            let w : widened s (neg_ℤ z) last ≡ record { ok = true; low = s.low; high = s.high + n } = rw (
+            let w : widened s (neg_ℤ z) last ≡ Some (record { low = s.low; high = s.high + n }) = rw (
               q,
               opposite-test n,
               opposite-size n,
               le-ltb (last - s.high) n m,
             ) in
-            rw w
-            (record {
-              high = λ k. omega arith;
-              same = λ k. rw (q, forth-in s.low s.high last L H (low-zero xs) (zero_high xs) n, no-share s.low L);
-              out = λ k. absurd (subst T k tt);
-            })
+            rw w (omega arith, rw (q, forth-in s.low s.high last L H (low-zero xs) (zero_high xs) n, no-share s.low L))
 
 -- no axis left: the span is inside
 pub stays-in : (lo hi last : ℕ) → hi ≤ last → stay_inside [] lo hi last ≡ true
@@ -167,37 +123,39 @@ stays-in lo hi last h = rw (low lo, high hi last h)
     high hi last h = simp ints (simp atoms (omega arith))
 
 -- ---- the loop over the axes
--- the axis at place i, and those after it
-pub axes-from : (ns : List ℕ) (ss : List ℤ) (i : ℕ) → length ns ≡ length ss → i < length ns
-    → drop i (axes_in ns ss) ≡ axis_of (get_or ns i 0) (get_or ss i (pos 0)) ∷ drop (i + 1) (axes_in ns ss)
-unfolding axes_in
-axes-from [] ss i e h = absurd (omega arith)
-axes-from (n ∷ ns) [] i e h = absurd (omega arith)
-axes-from (n ∷ ns) (s ∷ ss) zero e h = refl
-axes-from (n ∷ ns) (s ∷ ss) (suc i) e h = simp unary_clauses (simp unary_clauses at (axes-from ns ss i (omega arith) (omega arith)))
-
 pub record Spanning (all xs : List ReduceOuterAxis) (b last : ℕ) (s : Span) : Type 0 where
-  pub ok : s.ok ≡ true
   pub high : s.high ≤ last
   pub same : stay_inside xs s.low s.high last ≡ stay_inside all b b last
 
-pub spanning-first : (all : List ReduceOuterAxis) (b last : ℕ) → b ≤ last → Spanning all all b last (record { ok = true; low = b; high = b })
-spanning-first all b last h = record { ok = refl; high = h; same = refl }
+pub spanning-first : (all : List ReduceOuterAxis) (b last : ℕ) → b ≤ last → Spanning all all b last (record { low = b; high = b })
+spanning-first all b last h = record { high = h; same = refl }
 
-module _ (all xs ys : List ReduceOuterAxis) (a : ReduceOuterAxis) (b last : ℕ) (s r : Span) (z : ℤ) (e : xs ≡ a ∷ ys)
-    (q : z ≡ neg_ℤ (span a.extent a.source_step)) (p : Spanning all xs b last s)
-    (w : r ≡ widened s z last) where
-  at-axis : stay_inside (a ∷ ys) s.low s.high last ≡ stay_inside all b b last
-  at-axis = ap (λ (l : List ReduceOuterAxis). stay_inside l s.low s.high last) (sym e) ∙ p.same
+-- one more axis, of the first size and stride of those left
+module _ (ns ms : List ℕ) (ss ts : List ℤ) (n : ℕ) (d : ℤ) (e : ns ≡ n ∷ ms) (f : ss ≡ d ∷ ts) (w : Axes (axes_in ns ss)) where
+  here : axes_in ns ss ≡ axis_of n d ∷ axes_in ms ts
+  unfolding axes_in
+  here = rw (e, f) refl
 
-  widening : Widens a ys s r last
-  widening = rw w (widens a ys s last z q p.high)
+  pub left-axis : Axis (axis_of n d)
+  left-axis = (axes-at _ _ _ here w).0
 
-  pub spanning-more : r.ok ≡ true → Spanning all ys b last r
-  spanning-more k = record { ok = k; high = widening.high k; same = widening.same k ∙ at-axis }
+  pub left-axes : Axes (axes_in ms ts)
+  left-axes = (axes-at _ _ _ here w).1
 
-  pub spanning-out : r.ok ≡ false → false ≡ stay_inside all b b last
-  spanning-out k = sym (widening.out k) ∙ at-axis
+  module _ (all : List ReduceOuterAxis) (b last : ℕ) (s : Span) (a : ReduceOuterAxis) (q : a ≡ axis_of n d)
+      (p : Spanning all (axes_in ns ss) b last s) where
+    at-axis : stay_inside (axis_of n d ∷ axes_in ms ts) s.low s.high last ≡ stay_inside all b b last
+    at-axis = ap (λ (l : List ReduceOuterAxis). stay_inside l s.low s.high last) (sym here) ∙ p.same
+
+    widening : Widens (axis_of n d) (axes_in ms ts) s (widened s a.source_reset last) last
+    unfolding axis_of
+    widening = widens (axis_of n d) (axes_in ms ts) s last a.source_reset (ap (λ (x : ReduceOuterAxis). x.source_reset) q) p.high
+
+    pub spanning-more : (r : Span) → widened s a.source_reset last ≡ Some r → Spanning all (axes_in ms ts) b last r
+    spanning-more r v = let k = rw v at widening in record { high = k.0; same = k.1 ∙ at-axis }
+
+    pub spanning-out : widened s a.source_reset last ≡ None → false ≡ stay_inside all b b last
+    spanning-out v = let k = rw v at widening in sym k ∙ at-axis
 
 pub spanning-all : (all xs : List ReduceOuterAxis) (b last : ℕ) (s : Span) → xs ≡ [] → Spanning all xs b last s → true ≡ stay_inside all b b last
 spanning-all all xs b last s e p =
@@ -221,7 +179,7 @@ module _ (xs : List ReduceOuterAxis) (w : Axes xs) (length : ℕ) where
       high : (b : ℕ) (H : ℤ) (n : ℕ) → n ≤ b → pos 0 ≤ℤ H → lt_z (pos b +ℤ H) (pos n) ≡ false
       high b H n h = simp ints (simp atoms (omega arith))
 
-  pub last-short : (b : ℕ) → 0 < length → length < 2 ^ 63 → stay_inside xs b b (length - 1) ≡ all_inside xs (elements xs) (pos b) length
+  last-short : (b : ℕ) → 0 < length → length < 2 ^ 63 → stay_inside xs b b (length - 1) ≡ all_inside xs (elements xs) (pos b) length
   unfolding ends_inside stay_inside lowest_offset highest_offset
   last-short b n h = sym (ends-exact xs w (pos b) length ∙ go (le_z (pos 0) (pos b +ℤ low_sum xs)) (lt_z (pos b +ℤ high_sum xs) (pos length)) refl)
     where
@@ -240,7 +198,7 @@ module _ (xs : List ReduceOuterAxis) (w : Axes xs) (length : ℕ) where
       go x false k =
           rw (k, over (pos b +ℤ high_sum xs) length (length - 1) (omega arith) k) (and-false (x && lt_z (pos b +ℤ high_sum xs) (pos (2 ^ 63))) ∙ sym (and-false x))
 
-  pub last-long : (b : ℕ) → 2 ^ 63 ≤ length → stay_inside xs b b (2 ^ 63 - 1) ≡ all_inside xs (elements xs) (pos b) length
+  last-long : (b : ℕ) → 2 ^ 63 ≤ length → stay_inside xs b b (2 ^ 63 - 1) ≡ all_inside xs (elements xs) (pos b) length
   unfolding ends_inside stay_inside lowest_offset highest_offset
   last-long b h = sym (ends-exact xs w (pos b) length ∙ go (le_z (pos 0) (pos b +ℤ low_sum xs)) (lt_z (pos b +ℤ high_sum xs) (pos (2 ^ 63))) refl)
     where
@@ -262,3 +220,10 @@ module _ (xs : List ReduceOuterAxis) (w : Axes xs) (length : ℕ) where
           none : (x y : Bool) → (x && false && y) ≡ (x && false)
           none true y = refl
           none false y = refl
+
+  pub last-inside : (b : ℕ) → 0 < length → stay_inside xs b b (min (length - 1) (2 ^ 63 - 1)) ≡ all_inside xs (elements xs) (pos b) length
+  last-inside b n = go (dec_lt length (2 ^ 63))
+    where
+      go : Dec (length < 2 ^ 63) → stay_inside xs b b (min (length - 1) (2 ^ 63 - 1)) ≡ all_inside xs (elements xs) (pos b) length
+      go (yes h) = let e : min (length - 1) (2 ^ 63 - 1) ≡ length - 1 = omega arith in rw e (last-short b n h)
+      go (no h) = let e : min (length - 1) (2 ^ 63 - 1) ≡ 2 ^ 63 - 1 = omega arith in rw e (last-long b (omega arith))

@@ -4,7 +4,7 @@ use Prim.Native.Nat.{ℕ, zero, suc, ◌-◌, ◌^◌, ◌≤◌, ◌<◌}
 use mathlib.Core.Path.{◌≡◌, refl, sym, ◌∙◌, ap, subst}
 use mathlib.Core.Bool.{Bool, true, false, cond, not}
 use mathlib.Core.List.{List, [], ◌∷◌, ◌++◌, append_assoc}
-use mathlib.Core.Option.{some}
+use Rattle.std.specs.Prelude.{Some}
 use native.Mathlib.Omega.{arith}
 use lib.Dec.{ltb, leb, eqb}
 use lib.ListN.{length, drop}
@@ -14,7 +14,7 @@ use Rattle.layout.specs.declared.axis.ReduceOuterAxis.{ReduceOuterAxis}
 use Rattle.layout.specs.declared.traversal.FullTraversal.{FullTraversal}
 use Rattle.layout.specs.Axes.{PLACES, axes_in}
 use Rattle.layout.specs.Order.{axes_of}
-use Rattle.refusals.specs.Refusals.{Refusal, first_of}
+use Rattle.refusals.specs.Refusals.{Ranked, first_of}
 use Rattle.refusals.proofs.Buffers.{buffer-kept, buffer-filled}
 use Rattle.layout.specs.Compile.{compile_refusals, compile_of, layout_beside, total_of, traversal_of, overflows, above_most}
 use Rattle.offsets.specs.Elements.{offset, inside_values, every_below, all_inside}
@@ -39,7 +39,7 @@ inside-same xs ys n base len s =
     every-below-same n (λ k. inside_values len (offset ys base k)) (λ k. inside_values len (offset xs base k)) (λ k. ap (inside_values len) (s.offsets base k))
 
 -- a refusal that applies hides those after it
-pub first-hides : (rs qs : List Refusal) → (first_of rs ≡ 0 → ⊥) → first_of (rs ++ qs) ≡ first_of rs
+pub first-hides : (rs qs : List Ranked) → (first_of rs ≡ 0 → ⊥) → first_of (rs ++ qs) ≡ first_of rs
 unfolding first_of
 first-hides [] qs n = absurd (n refl)
 first-hides (r ∷ rs) qs n = go r.1 refl (first-hides rs qs)
@@ -49,8 +49,8 @@ first-hides (r ∷ rs) qs n = go r.1 refl (first-hides rs qs)
     go true e f = rw e
     go false e f = rw e (f (λ z. n (rw e z)))
 
--- where none of a longer list applies, none of its beginning does
-pub first-none : (rs qs : List Refusal) → first_of (rs ++ qs) ≡ 0 → first_of rs ≡ 0
+-- where None of a longer list applies, None of its beginning does
+pub first-none : (rs qs : List Ranked) → first_of (rs ++ qs) ≡ 0 → first_of rs ≡ 0
 unfolding first_of
 first-none [] qs e = refl
 first-none (r ∷ rs) qs e = go r.1 (first-none rs qs) e
@@ -65,17 +65,17 @@ module _ (ns : List ℕ) (ss : List ℤ) where
     pub same : length ns ≡ length ss
     pub few : length ns ≤ PLACES
     pub layout : FullTraversal
-    pub compiled : traversal_of PLACES ns ss ≡ some layout
+    pub compiled : traversal_of PLACES ns ss ≡ Some layout
     pub most : above_most (total_of ns) ≡ false
     pub is : (compile_of PLACES ns ss).traversal ≡ layout
-    pub after : (rs : List Refusal) → first_of (compile_refusals PLACES ns ss ++ rs) ≡ first_of rs
+    pub after : (rs : List Ranked) → first_of (compile_refusals PLACES ns ss ++ rs) ≡ first_of rs
 
   pub clear : (compile_of PLACES ns ss).code ≡ 0 → Clear
   unfolding compile_of compile_refusals layout_beside first_of
   clear e =
-      let r4 : List Refusal = (4, above_most (total_of ns)) ∷ [] in
-      let r3 : List Refusal = (3, overflows (traversal_of PLACES ns ss)) ∷ r4 in
-      let r2 : List Refusal = (2, ltb PLACES (length ns)) ∷ r3 in
+      let r4 : List Ranked = (4, above_most (total_of ns)) ∷ [] in
+      let r3 : List Ranked = (3, overflows (traversal_of PLACES ns ss)) ∷ r4 in
+      let r2 : List Ranked = (2, ltb PLACES (length ns)) ∷ r3 in
       let a = refused_none 0 (not (eqb (length ns) (length ss))) r2 e in
       let b = refused_none 1 (ltb PLACES (length ns)) r3 a.1 in
       let c = refused_none 2 (overflows (traversal_of PLACES ns ss)) r4 b.1 in
@@ -115,12 +115,12 @@ module _ (total start end : ℕ) where
   pub record Within : Type 0 where
     pub forward : start < end
     pub inside : end ≤ total
-    pub after : (rs : List Refusal) → first_of (end_refusals total start end ++ rs) ≡ first_of rs
+    pub after : (rs : List Ranked) → first_of (end_refusals total start end ++ rs) ≡ first_of rs
 
   pub within : first_of (end_refusals total start end) ≡ 0 → Within
   unfolding first_of
   within e =
-      let r6 : List Refusal = (6, ltb total end) ∷ [] in
+      let r6 : List Ranked = (6, ltb total end) ∷ [] in
       let a = refused_none 4 (leb end start) r6 e in
       let b = refused_none 5 (ltb total end) [] a.1 in
       record { forward = leb-false end start a.0; inside = ltb-false total end b.0; after = λ rs. rw (a.0, b.0) }
@@ -134,7 +134,7 @@ module _ (ns : List ℕ) (ss : List ℤ) (base : ℤ) (len : ℕ) where
   unfolding first_of total_in
   place-7 e = rw e
 
-  pub place-0 : all-inside ≡ true → (rs : List Refusal) → first_of (place_refusals ns ss base len ++ rs) ≡ first_of rs
+  pub place-0 : all-inside ≡ true → (rs : List Ranked) → first_of (place_refusals ns ss base len ++ rs) ≡ first_of rs
   unfolding first_of total_in
   place-0 e rs = rw e
 
@@ -159,7 +159,7 @@ module _ (ns : List ℕ) (ss : List ℤ) (base : ℤ) (len : ℕ) where
         ap (λ (n : ℕ). all_inside (axes_of ns ss) n base len) (sym accepted.total) ∙ sym (given_inside ns ss base len clear-axes accepted.axes) ∙ sym e
 
 module _ (ns : List ℕ) (ss : List ℤ) (base : ℤ) (start end len : ℕ) where
-  abbrev ends : List Refusal
+  abbrev ends : List Ranked
   ends = end_refusals (compile_of PLACES ns ss).traversal.total start end
 
   -- refusals 1 to 4 are the compile's
@@ -193,7 +193,7 @@ pub record Ranged (ns : List ℕ) (ss : List ℤ) (base : ℤ) (start end len : 
   pub forward : start < end
   pub inside : end ≤ (compile_of PLACES ns ss).traversal.total
   pub within : all_inside (axes_of ns ss) (compile_of PLACES ns ss).traversal.total base len ≡ true
-  pub after : (rs : List Refusal) → first_of (compile_refusals PLACES ns ss ++ range_refusals ns ss base start end len ++ rs) ≡ first_of rs
+  pub after : (rs : List Ranked) → first_of (compile_refusals PLACES ns ss ++ range_refusals ns ss base start end len ++ rs) ≡ first_of rs
 
 module _ (ns : List ℕ) (ss : List ℤ) (base : ℤ) (start end len : ℕ) where
   code_is : first_of (compile_refusals PLACES ns ss) ≡ 0 → (compile_of PLACES ns ss).code ≡ 0

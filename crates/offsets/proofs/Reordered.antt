@@ -7,12 +7,11 @@ use mathlib.Core.List.{List, [], ◌∷◌, ◌++◌}
 use lib.ListN.{length}
 use lib.Dec.{ltb}
 use lib.IntN.{ℤ}
-use Rattle.refusals.specs.Refusals.{Refusal, first_of, buffer_after, ELEMENT_OUTSIDE, BUFFER_TOO_SHORT}
+use Rattle.refusals.specs.Refusals.{Ranked, first_of, buffer_after, ELEMENT_OUTSIDE, BUFFER_TOO_SHORT}
 use Rattle.layout.specs.declared.axis.ReduceOuterAxis.{ReduceOuterAxis}
-use Rattle.layout.specs.declared.traversal.Compiled.{Compiled}
 use Rattle.layout.specs.Axes.{PLACES}
 use Rattle.layout.specs.Order.{axes_of}
-use Rattle.layout.specs.Compile.{compile_refusals}
+use Rattle.layout.specs.Compile.{Compiled, compile_refusals}
 use Rattle.layout.specs.Reordered.{SameAxes}
 use Rattle.layout.proofs.OneOrder.{same-axes, same-refusals, same-record}
 use Rattle.offsets.specs.Elements.{all_inside}
@@ -27,13 +26,13 @@ module _ (ns ns' : List ℕ) (ss ss' : List ℤ) (w : SameAxes ns ss ns' ss') (b
   unfolding range_refusals
   same-range-refusals = ap (by (axes_of ns ss)) same-total-in ∙ ap (λ (xs : List ReduceOuterAxis). by xs (total_in ns' ss')) (same-axes ns ns' ss ss' w)
     where
-      by : List ReduceOuterAxis → ℕ → List Refusal
+      by : List ReduceOuterAxis → ℕ → List Ranked
       by xs t = end_refusals t start end ++ (ELEMENT_OUTSIDE, not (all_inside xs t base len)) ∷ []
 
   same-seven : compile_refusals PLACES ns ss ++ range_refusals ns ss base start end len ≡ compile_refusals PLACES ns' ss' ++ range_refusals ns' ss' base start end len
   same-seven =
-      ap (λ (z : List Refusal). z ++ range_refusals ns ss base start end len) (same-refusals ns ns' ss ss' w)
-      ∙ ap (λ (z : List Refusal). compile_refusals PLACES ns' ss' ++ z) same-range-refusals
+      ap (λ (z : List Ranked). z ++ range_refusals ns ss base start end len) (same-refusals ns ns' ss ss' w)
+      ∙ ap (λ (z : List Ranked). compile_refusals PLACES ns' ss' ++ z) same-range-refusals
 
   pub same-range-code : range_code ns ss base start end len ≡ range_code ns' ss' base start end len
   unfolding range_code
@@ -41,7 +40,7 @@ module _ (ns ns' : List ℕ) (ss ss' : List ℤ) (w : SameAxes ns ss ns' ss') (b
 
   pub same-list-code : (room : ℕ) → list_code ns ss base start end len room ≡ list_code ns' ss' base start end len room
   unfolding list_code
-  same-list-code room = ap (λ (z : List Refusal). first_of (z ++ (BUFFER_TOO_SHORT, ltb room (end - start)) ∷ [])) same-seven
+  same-list-code room = ap (λ (z : List Ranked). first_of (z ++ (BUFFER_TOO_SHORT, ltb room (end - start)) ∷ [])) same-seven
 
   pub same-list-buffer : (out : List ℤ) → list_buffer ns ss base start end len out ≡ list_buffer ns' ss' base start end len out
   unfolding list_buffer

@@ -5,9 +5,11 @@ use mathlib.Core.Bool.{cond}
 use mathlib.Core.List.{List, [], ◌∷◌, ◌++◌}
 use native.Mathlib.Omega.{arith}
 use native.Mathlib.Nat.{mod-lt, div-add-mod'}
+use native.Mathlib.Numerals.{add-one}
 use native.Mathlib.Decide.{dec_lt}
 use lib.Dec.{T, ltb}
-use lib.ListN.{length, drop, replicate}
+use lib.ListN.{length, drop, get_or, replicate}
+use lib.Seq.{drop-cons}
 use lib.Arith.{digits_div, digits_mod}
 use lib.IntN.{ℤ, pos, neg_ℤ, ◌+ℤ◌, ◌*ℤ◌}
 use lib.Signed.{◌≤ℤ◌, ◌<ℤ◌}
@@ -17,7 +19,7 @@ use borrow.Author.Tests.{lt-ltb, le-ltb}
 use Rattle.integers.proofs.Difference.{ints, atoms}
 use Rattle.integers.proofs.Places.{place-first, place-next}
 use Rattle.layout.specs.declared.axis.ReduceOuterAxis.{ReduceOuterAxis}
-use Rattle.layout.specs.Axes.{PLACES, span, axis_of}
+use Rattle.layout.specs.Axes.{PLACES, no_axis, span, axis_of}
 use Rattle.layout.proofs.Resets.{reset-large}
 use Rattle.offsets.specs.Elements.{digits, shift, offset}
 use Rattle.offsets.specs.InnerBounds.{negative_part, positive_part, low_sum, high_sum, lowest_offset, highest_offset}
@@ -231,3 +233,7 @@ axis-small a w = go (dec_lt (a.extent - 1) (2 ^ 63))
     go : Dec (a.extent - 1 < 2 ^ 63) → a.extent ≤ 2 ^ 63
     go (yes h) = let k = w.1 in omega arith
     go (no h) = absurd (subst T (sym w.2 ∙ reset-large a.extent a.source_step (omega arith)) tt)
+
+-- the axis at place i, and those after it
+pub axes-here : (xs : List ReduceOuterAxis) (i : ℕ) → i < length xs → drop i xs ≡ get_or xs i no_axis ∷ drop (i + 1) xs
+axes-here xs i h = rw add-one (drop-cons xs i no_axis h)

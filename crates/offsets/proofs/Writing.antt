@@ -6,12 +6,12 @@ use mathlib.Core.List.{List, [], ◌∷◌, ◌++◌, append_assoc, append-nil}
 use native.Mathlib.Omega.{arith}
 use native.Mathlib.Numerals.{add-one}
 use native.Mathlib.Nat.{add-zero, zero-add, suc-add, add-suc}
-use lib.ListN.{length, take, drop, get_or, set, length-append, length-drop, take-append-drop}
-use lib.Seq.{drop-cons, set_at, drop-append-add, length-take-le, drop-drop, take_at}
+use lib.ListN.{length, take, drop, get_or, set, length-append, length-drop, drop_of_length-le}
+use lib.Seq.{drop-cons, set_at, drop-append-add, drop-drop, take_at}
 use lib.Arith.{digits_mod}
 use lib.IntN.{ℤ, pos, ◌+ℤ◌, ◌*ℤ◌}
 use Rattle.integers.proofs.Difference.{ints, atoms}
-use Rattle.integers.proofs.Places.{place-first, place-later}
+use Rattle.integers.proofs.Places.{place-first, place-next, place-later}
 use Rattle.layout.specs.declared.axis.ReduceOuterAxis.{ReduceOuterAxis}
 use Rattle.offsets.specs.Elements.{offset}
 use Rattle.offsets.specs.InnerLists.{steps}
@@ -45,43 +45,33 @@ unfolding steps
 length-steps z s zero = refl
 length-steps z s (suc n) = ap suc (length-steps (z +ℤ s) s n)
 
--- the buffer with i numbers written from `at` on
-unfoldable pub filled : List ℤ → ℕ → ℤ → ℤ → ℕ → List ℤ
-filled out at z s i = take at out ++ steps z s i ++ drop (at + i) out
+-- the number of place k, a stride on from that of the place before it; at the first place it is the first itself
+pub place-on : (z s at : ℤ) (k : ℕ) → at ≡ z +ℤ s *ℤ pos (k - 1) → 0 < k → at +ℤ s ≡ z +ℤ s *ℤ pos k
+place-on z s at k e h =
+    let n : k - 1 + 1 ≡ k = omega arith in ap (λ (y : ℤ). y +ℤ s) e ∙ place-next z s (k - 1) ∙ ap (λ (m : ℕ). z +ℤ s *ℤ pos m) n
 
-module _ (out : List ℤ) (at : ℕ) (z s : ℤ) (i : ℕ) (h : at + i < length out) where
-  head : List ℤ
-  head = take at out ++ steps z s i
+pub place-kept : (z s at : ℤ) (k : ℕ) → at ≡ z +ℤ s *ℤ pos (k - 1) → k ≤ 0 → at ≡ z +ℤ s *ℤ pos k
+place-kept z s at k e h = let n : k - 1 ≡ k = omega arith in e ∙ ap (λ (m : ℕ). z +ℤ s *ℤ pos m) n
 
-  head-length : length head ≡ at + i
-  unfolding head
-  head-length = simp (length-append, length-steps) (let e = length-take-le at out (omega arith) in omega arith)
+-- a run with its first i numbers written
+unfoldable pub filled : List ℤ → ℤ → ℤ → ℕ → List ℤ
+filled run z s i = steps z s i ++ drop i run
 
-  pub filled_more : set (filled out at z s i) (at + i) (z +ℤ s *ℤ pos i) ≡ filled out at z s (i + 1)
-  unfolding filled head
-  filled_more =
-      ap (λ (l : List ℤ). set (take at out ++ steps z s i ++ l) (at + i) (z +ℤ s *ℤ pos i)) (drop-cons out (at + i) (pos 0) h)
-      ∙ set_at (take at out ++ steps z s i) (get_or out (at + i) (pos 0)) (drop (suc (at + i)) out) (z +ℤ s *ℤ pos i) (at + i) head-length
-      ∙ ap (λ (n : ℕ). take at out ++ steps z s i ++ (z +ℤ s *ℤ pos i) ∷ drop n out) next
-      ∙ sym (ap (λ (l : List ℤ). take at out ++ l ++ drop (at + (i + 1)) out) (steps-more z s i) ∙ regroup)
-    where
-      next : suc (at + i) ≡ at + (i + 1)
-      next = omega arith
+module _ (run : List ℤ) (z s : ℤ) where
+  pub filled_none : run ≡ filled run z s 0
+  unfolding filled steps
+  filled_none = refl
 
-      regroup : take at out ++ (steps z s i ++ (z +ℤ s *ℤ pos i) ∷ []) ++ drop (at + (i + 1)) out
-          ≡ take at out ++ steps z s i ++ (z +ℤ s *ℤ pos i) ∷ drop (at + (i + 1)) out
-      regroup =
-          ap (λ (l : List ℤ). l ++ drop (at + (i + 1)) out) (sym (append_assoc (take at out) (steps z s i) ((z +ℤ s *ℤ pos i) ∷ [])))
-          ∙ append_assoc (take at out ++ steps z s i) ((z +ℤ s *ℤ pos i) ∷ []) (drop (at + (i + 1)) out)
+  pub filled_more : (i : ℕ) → i < length run → set (filled run z s i) i (z +ℤ s *ℤ pos i) ≡ filled run z s (i + 1)
+  unfolding filled
+  filled_more i h =
+      ap (λ (l : List ℤ). set (steps z s i ++ l) i (z +ℤ s *ℤ pos i)) (drop-cons run i (pos 0) h)
+      ∙ set_at (steps z s i) (get_or run i (pos 0)) (drop (suc i) run) (z +ℤ s *ℤ pos i) i (length-steps z s i)
+      ∙ rw (steps-more z s i, append_assoc, add-one) refl
 
-pub filled_none : (out : List ℤ) (at : ℕ) (z s : ℤ) → at ≤ length out → filled out at z s 0 ≡ out
-unfolding filled steps
-filled_none out at z s h =
-    ap (λ (l : List ℤ). l ++ drop (at + 0) out) (append-nil (take at out)) ∙ ap (λ (n : ℕ). take at out ++ drop n out) (add-zero at) ∙ take-append-drop at out
-
-pub length-filled : (out : List ℤ) (at : ℕ) (z s : ℤ) (i : ℕ) → at + i ≤ length out → length (filled out at z s i) ≡ length out
-unfolding filled
-length-filled out at z s i h = simp (length-append, length-steps, length-drop) (let e = length-take-le at out (omega arith) in omega arith)
+  pub filled-all : filled run z s (length run) ≡ steps z s (length run)
+  unfolding filled
+  filled-all = let all : length run ≤ length run = omega arith in rw (drop_of_length-le run all) (append-nil (steps z s (length run)))
 
 -- a piece of a run, as numbers a stride apart
 pub piece-offsets : (a : ReduceOuterAxis) (xs : List ReduceOuterAxis) (base : ℤ) (n k : ℕ) → 1 ≤ a.extent → k % a.extent + n ≤ a.extent

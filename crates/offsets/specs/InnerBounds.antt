@@ -1,5 +1,5 @@
 -- Inner: the test of a layout against a length (rule R7), as the code makes it: by the smallest and the largest offset, axis by axis.
-use Rattle.std.specs.Prelude.{ℕ, ◌+◌, ◌-◌, Bool, true, false, cond, ◌&&◌, List, [], ◌∷◌, ltb, ℤ, pos, nat_abs, ◌+ℤ◌, negsuc}
+use Rattle.std.specs.Prelude.{ℕ, ◌+◌, ◌-◌, Bool, cond, ◌&&◌, Option, None, Some, List, [], ◌∷◌, ltb, ℤ, pos, nat_abs, ◌+ℤ◌, negsuc}
 use Rattle.std.specs.Int.Signed.{le_z, lt_z}
 use Rattle.layout.specs.declared.axis.ReduceOuterAxis.{ReduceOuterAxis}
 use Rattle.offsets.specs.declared.bounds.Span.{Span}
@@ -29,15 +29,12 @@ lowest_offset xs base = base +ℤ low_sum xs
 unfoldable pub highest_offset : List ReduceOuterAxis → ℤ → ℤ
 highest_offset xs base = base +ℤ high_sum xs
 
-abbrev pub nowhere : Span
-nowhere = record { ok = false; low = 0; high = 0 }
-
--- a span with one more axis, whose reset is r; nowhere if it leaves 0 to last
-unfoldable pub widened : Span → ℤ → ℕ → Span
+-- a span with one more axis, whose reset is r; none if it leaves 0 to last
+abbrev pub widened : Span → ℤ → ℕ → Option Span
 widened s r last =
     cond (lt_z (pos 0) r)
-    (cond (ltb s.low (nat_abs r)) nowhere (record { ok = true; low = s.low - nat_abs r; high = s.high }))
-    (cond (ltb (last - s.high) (nat_abs r)) nowhere (record { ok = true; low = s.low; high = s.high + nat_abs r }))
+    (cond (ltb s.low (nat_abs r)) None (Some (record { low = s.low - nat_abs r; high = s.high })))
+    (cond (ltb (last - s.high) (nat_abs r)) None (Some (record { low = s.low; high = s.high + nat_abs r })))
 
 -- whether the offsets that begin at lo and at hi stay from 0 to last over the axes
 unfoldable pub stay_inside : List ReduceOuterAxis → ℕ → ℕ → ℕ → Bool

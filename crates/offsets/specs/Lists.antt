@@ -3,7 +3,7 @@ use Rattle.std.specs.Prelude.{ℕ, zero, suc, ◌-◌, not, List, [], ◌∷◌,
 use Rattle.layout.specs.declared.axis.ReduceOuterAxis.{ReduceOuterAxis}
 use Rattle.layout.specs.Axes.{PLACES}
 use Rattle.layout.specs.Order.{axes_of}
-use Rattle.refusals.specs.Refusals.{Refusal, first_of, buffer_after, EMPTY_RANGE, RANGE_PAST_END, ELEMENT_OUTSIDE, BUFFER_TOO_SHORT}
+use Rattle.refusals.specs.Refusals.{Ranked, first_of, buffer_after, EMPTY_RANGE, RANGE_PAST_END, ELEMENT_OUTSIDE, BUFFER_TOO_SHORT}
 use Rattle.layout.specs.Compile.{compile_refusals, compile_of}
 use Rattle.offsets.specs.Elements.{offset, all_inside}
 
@@ -12,15 +12,15 @@ unfoldable pub total_in : List ℕ → List ℤ → ℕ
 total_in sizes strides = (compile_of PLACES sizes strides).traversal.total
 
 -- rules R5 and R6, in rank: a range of a layout of so many elements
-abbrev pub end_refusals : ℕ → ℕ → ℕ → List Refusal
+abbrev pub end_refusals : ℕ → ℕ → ℕ → List Ranked
 end_refusals total start end = (EMPTY_RANGE, leb end start) ∷ (RANGE_PAST_END, ltb total end) ∷ []
 
 -- rule R7: a layout over so many values, whatever the range
-abbrev pub place_refusals : List ℕ → List ℤ → ℤ → ℕ → List Refusal
+abbrev pub place_refusals : List ℕ → List ℤ → ℤ → ℕ → List Ranked
 place_refusals sizes strides base length = (ELEMENT_OUTSIDE, not (all_inside (axes_of sizes strides) (total_in sizes strides) base length)) ∷ []
 
 -- rules R5 to R7, in rank
-unfoldable pub range_refusals : List ℕ → List ℤ → ℤ → ℕ → ℕ → ℕ → List Refusal
+unfoldable pub range_refusals : List ℕ → List ℤ → ℤ → ℕ → ℕ → ℕ → List Ranked
 range_refusals sizes strides base start end length = end_refusals (total_in sizes strides) start end ++ place_refusals sizes strides base length
 
 -- the code of a range: 1 to 7, or 0

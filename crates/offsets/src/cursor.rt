@@ -5,6 +5,7 @@ ghost use Rattle.offsets.specs.InnerCursors.{Axes, Bounded, AtElement, cursor_at
 
 use layout::axis::{PLACES, ReduceOuterAxis};
 
+// The axes are handed in as a table and a count: of a slice of the layout's table the whole is copied at each call.
 #[derive(Clone, Copy)]
 pub struct ReduceOuterCursor {
     pub source_offset: i64,
@@ -21,14 +22,12 @@ impl ReduceOuterCursor {
             digits: [0u64; PLACES],
         };
         let mut rest = index;
-        let mut i: usize = 0;
-        while i < count {
+        for i in 0..count {
             let a = axes[i];
             let d = rest % a.extent;
             rest = rest / a.extent;
             c.digits[i] = d;
             c.source_offset = c.source_offset + a.source_step * (d as i64);
-            i += 1;
         }
         c
     }
@@ -39,8 +38,7 @@ impl ReduceOuterCursor {
         ensures { result ≡ advanced (take count axes) self }
     {
         let mut c = self;
-        let mut i: usize = 0;
-        while i < count {
+        for i in 0..count {
             let a = axes[i];
             let d = c.digits[i] + 1;
             if d < a.extent {
@@ -50,7 +48,6 @@ impl ReduceOuterCursor {
             }
             c.digits[i] = 0;
             c.source_offset = c.source_offset + a.source_reset;
-            i += 1;
         }
         c
     }

@@ -1,19 +1,19 @@
 // The offset list, and the refusals of a range.
-ghost use Rattle.std.specs.Prelude.{◌≡◌, ◌∷◌, ◌++◌, ◌+◌, ◌-◌, ◌≤◌, ◌<◌, length, length as places, take, drop};
+ghost use Rattle.std.specs.Prelude.{◌≡◌, ◌∷◌, ◌++◌, ◌-◌, ◌≤◌, ◌<◌, length, length as places, drop};
 ghost use Rattle.integers.specs.InnerPlaces.{PlacesFit};
 ghost use Rattle.layout.specs.Axes.{PLACES};
 ghost use Rattle.layout.specs.Compile.{compile_of};
+ghost use Rattle.refusals.specs.Codes.{code_of};
 ghost use Rattle.offsets.specs.InnerCursors.{Bounded, Traversal};
 ghost use Rattle.offsets.specs.Pieces.{run_of, outer_of};
 ghost use Rattle.offsets.specs.InnerLists.{steps};
 ghost use Rattle.offsets.specs.Lists.{range_code, offsets_from, list_code, list_buffer};
 
 use layout::traversal::FullTraversal;
+use refusals::Refusal;
 
-// Refusals 1 to 7 of a range. Compiling its layout gave the total, and a refusal or 0. The layout itself is not handed in and out, since that would copy
-// its table.
-pub fn range_code(
-    refusal: u32,
+// Refusals 5 to 7 of a range over a layout that was compiled. Of the layout only its total is handed in: the whole would be copied, with its table.
+pub fn check_range(
     total: u64,
     sizes: &[u64],
     strides: &[i64],
@@ -21,38 +21,33 @@ pub fn range_code(
     start: u64,
     end: u64,
     length: u64,
-) -> u32
-    requires { (refusal ≡ (compile_of PLACES sizes.now strides.now).code) × (total ≡ (compile_of PLACES sizes.now strides.now).traversal.total) }
-    ensures { result ≡ range_code sizes.now strides.now base start end length }
+) -> Result<(), Refusal>
+    requires { ((compile_of PLACES sizes.now strides.now).code ≡ 0) × (total ≡ (compile_of PLACES sizes.now strides.now).traversal.total) }
+    ensures { code_of result ≡ range_code sizes.now strides.now base start end length }
 {
-    if refusal != 0 {
-        return refusal;
-    }
     if end <= start {
-        return refusals::EMPTY_RANGE;
+        return Err(Refusal::EmptyRange);
     }
     if total < end {
-        return refusals::RANGE_PAST_END;
+        return Err(Refusal::RangePastEnd);
     }
     if crate::bounds::inside(sizes, strides, base, length) {
-        return 0;
+        return Ok(());
     }
-    refusals::ELEMENT_OUTSIDE
+    Err(Refusal::ElementOutside)
 }
 
-// Writes count offsets from `first` on, a stride apart, into out from `at` on. The stride is not added after the last: that sum may not fit.
-fn write_run(out: &mut [i64], at: usize, count: usize, first: i64, stride: i64)
-    requires { (at + count ≤ length out.old) × PlacesFit first stride count }
-    ensures { out.new ≡ take at out.old ++ steps first stride count ++ drop (at + count) out.old }
+// Fills a run with offsets from `first` on, a stride apart. The stride is added before each but the first: behind the last the sum may not fit.
+fn write_run(run: &mut [i64], first: i64, stride: i64)
+    requires { PlacesFit first stride (length run.old) }
+    ensures { run.new ≡ steps first stride (length run.old) }
 {
     let mut offset = first;
-    let mut i = at;
-    let mut left = count;
-    while 0 < left {
-        out[i] = offset;
-        i += 1;
-        left -= 1;
-        offset = integers::next_place(offset, stride, left);
+    for (k, place) in run.iter_mut().enumerate() {
+        if 0 < k {
+            offset += stride;
+        }
+        *place = offset;
     }
 }
 
@@ -64,13 +59,9 @@ fn write_offsets(l: FullTraversal, base: i64, start: u64, end: u64, out: &mut [i
     let mut c = crate::pieces::begin(l, base, start);
     while c.at < end {
         let p = crate::pieces::next_piece(l, end, c);
-        write_run(
-            &mut *out,
-            (c.at - start) as usize,
-            p.len as usize,
-            p.first,
-            stride,
-        );
+        let at = (c.at - start) as usize;
+        let len = p.len as usize;
+        write_run(&mut out[at..at + len], p.first, stride);
         c = p.next;
     }
 }
@@ -83,27 +74,15 @@ pub fn offset_list(
     end: u64,
     length: u64,
     out: &mut [i64],
-) -> u32
-    ensures result_value { result ≡ list_code sizes.now strides.now base start end length (places out.old) }
+) -> Result<(), Refusal>
+    ensures result_value { code_of result ≡ list_code sizes.now strides.now base start end length (places out.old) }
     ensures out_after { out.new ≡ list_buffer sizes.now strides.now base start end length out.old }
 {
-    let compiled = FullTraversal::compile(sizes, strides);
-    let code = range_code(
-        compiled.code,
-        compiled.traversal.total,
-        sizes,
-        strides,
-        base,
-        start,
-        end,
-        length,
-    );
-    if code != 0 {
-        return code;
-    }
+    let l = FullTraversal::compile(sizes, strides)?;
+    check_range(l.total, sizes, strides, base, start, end, length)?;
     if (out.len() as u64) < end - start {
-        return refusals::BUFFER_TOO_SHORT;
+        return Err(Refusal::BufferTooShort);
     }
-    write_offsets(compiled.traversal, base, start, end, &mut *out);
-    0
+    write_offsets(l, base, start, end, out);
+    Ok(())
 }

@@ -51,12 +51,10 @@ pub fn begin(l: FullTraversal, base: i64, start: u64) -> RangeCursor
         };
     }
     let n = l.run_len;
-    let count = l.axis_count;
-    let axes = l.run_axes;
     RangeCursor {
         at: start,
         col: start % n,
-        runs: ReduceOuterCursor::decode(start / n, base, count, axes),
+        runs: ReduceOuterCursor::decode(start / n, base, l.axis_count, l.run_axes),
     }
 }
 
@@ -66,8 +64,7 @@ pub fn skip_runs(l: FullTraversal, c: RangeCursor, n: u64) -> RangeCursor
         × (c.at + n * l.run_len < 2 ^ 64) }
     ensures { result ≡ skipped l n c }
 {
-    let axes = l.run_axes;
-    let a = axes[0];
+    let a = l.run_axes[0];
     let at = c.at + n * l.run_len;
     let mut runs = c.runs;
     runs.digits[0] = runs.digits[0] + n;
@@ -87,16 +84,14 @@ pub fn next_piece(l: FullTraversal, end: u64, c: RangeCursor) -> RangePiece
     let at = c.at;
     let col = c.col;
     let runs = c.runs;
-    let len = integers::min_u64(l.run_len - col, end - at);
+    let len = (l.run_len - col).min(end - at);
     let first = runs.source_offset + l.run_stride * (col as i64);
     let k = at + len;
     if k < end {
-        let count = l.axis_count;
-        let axes = l.run_axes;
         let next = RangeCursor {
             at: k,
             col: 0,
-            runs: runs.to_next_run(count, axes),
+            runs: runs.to_next_run(l.axis_count, l.run_axes),
         };
         return RangePiece { first, len, next };
     }
@@ -121,10 +116,7 @@ pub fn whole_runs(l: FullTraversal, c: RangeCursor, end: u64) -> u64
     if c.col != 0 {
         return 0;
     }
-    let axes = l.run_axes;
-    let a = axes[0];
-    let runs = c.runs;
-    let left = a.extent - runs.digits[0];
+    let left = l.run_axes[0].extent - c.runs.digits[0];
     let len = l.run_len;
     let room = end - c.at;
     if left * len <= room { left } else { room / len }
@@ -147,8 +139,7 @@ pub fn next_strip(l: FullTraversal, end: u64, c: RangeCursor) -> RangeStrip
             next,
         };
     }
-    let axes = l.run_axes;
-    let outer = axes[0];
+    let outer = l.run_axes[0];
     let last = skip_runs(l, c, n - 1);
     let q = next_piece(l, end, last);
     let next = q.next;

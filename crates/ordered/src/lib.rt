@@ -13,22 +13,22 @@ ghost use Rattle.finishing.specs.Finishing.{final_answer_of};
 ghost use Rattle.ordered.specs.InnerFolds.{fold_places, fold_runs};
 ghost use Rattle.ordered.specs.Ranges.{ordered_of};
 
-use finishing::Finished;
 use layout::traversal::FullTraversal;
+use refusals::Refusal;
 
-// `len` values from `first` on, a stride apart, multiplied in one after another. The stride is not added after the last: that sum may not fit.
+// `len` values from `first` on, a stride apart, multiplied in one after another. The stride is added before each but the first: behind the last the sum may not fit.
 fn fold_run_ordered(acc: f64, values: &[f64], first: i64, stride: i64, len: usize) -> f64
     requires { (i : ℕ) → i < len → inside_values (length values.now) (first +ℤ stride *ℤ pos i) ≡ true }
     ensures { result ≡ fold_places values.now acc (steps first stride len) }
 {
     let mut product = acc;
     let mut at = first;
-    let mut left = len;
-    while 0 < left {
+    for k in 0..len {
+        if 0 < k {
+            at += stride;
+        }
         let index = at as usize;
         product = product * values[index];
-        left -= 1;
-        at = integers::next_place(at, stride, left);
     }
     product
 }
@@ -49,13 +49,11 @@ fn fold_strip_ordered(
 {
     let mut product = acc;
     let mut at = first;
-    let mut j: u64 = 0;
-    while j < count {
-        product = fold_run_ordered(product, values, at, stride, len);
-        j += 1;
-        if j < count {
+    for j in 0..count {
+        if 0 < j {
             at += step;
         }
+        product = fold_run_ordered(product, values, at, stride, len);
     }
     product
 }
@@ -64,8 +62,8 @@ fn fold_strip_ordered(
 fn one_nan(x: f64) -> f64
     ensures { result ≡ x }
 {
-    if x != x {
-        return 0.0 / 0.0;
+    if x.is_nan() {
+        return f64::NAN;
     }
     x
 }
@@ -103,24 +101,11 @@ pub fn ordered_product(
     start: u64,
     end: u64,
     values: &[f64],
-) -> Finished
+) -> Result<f64, Refusal>
     ensures { final_answer_of result ≡ ordered_of sizes.now strides.now base start end values.now }
 {
+    let l = FullTraversal::compile(sizes, strides)?;
     let length = values.len() as u64;
-    let compiled = FullTraversal::compile(sizes, strides);
-    let code = offsets::list::range_code(
-        compiled.code,
-        compiled.traversal.total,
-        sizes,
-        strides,
-        base,
-        start,
-        end,
-        length,
-    );
-    if code != 0 {
-        return Finished::Refused(code);
-    }
-    let number = ordered_full_range(compiled.traversal, base, start, end, values);
-    Finished::Number(number)
+    offsets::list::check_range(l.total, sizes, strides, base, start, end, length)?;
+    Ok(ordered_full_range(l, base, start, end, values))
 }

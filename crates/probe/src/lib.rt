@@ -6,8 +6,6 @@ ghost use Rattle.offsets.specs.Lists.{list_code, list_buffer};
 ghost use Rattle.reduction.specs.Ranges.{reduce_of};
 ghost use Rattle.handed.specs.Answers.{code_given, m_given, e_given, bad_given};
 
-use accumulator::Reduced;
-
 // 0 with the accumulator in m, e and bad, or the number of a refusal with nothing written.
 #[unsafe(no_mangle)]
 pub extern "C" fn probe_reduce(
@@ -27,16 +25,15 @@ pub extern "C" fn probe_reduce(
     ensures bad_after { bad.new
         ≡ bad_given bad.old (reduce_of sizes.now strides.now base start end values.now) }
 {
-    let answer = reduction::full::reduce(sizes, strides, base, start, end, values);
-    match answer {
-        Reduced::Acc(a) => {
+    match reduction::full::reduce(sizes, strides, base, start, end, values) {
+        Ok(a) => {
             let exponent = a.e;
             *m = a.m;
             *e = exponent;
             *bad = a.bad;
             0
         }
-        Reduced::Refused(n) => n,
+        Err(refusal) => u32::from(refusal),
     }
 }
 
@@ -54,5 +51,8 @@ pub extern "C" fn probe_list(
     ensures result_value { result ≡ list_code sizes.now strides.now base start end length (places out.old) }
     ensures out_after { out.new ≡ list_buffer sizes.now strides.now base start end length out.old }
 {
-    offsets::list::offset_list(sizes, strides, base, start, end, length, &mut *out)
+    match offsets::list::offset_list(sizes, strides, base, start, end, length, &mut *out) {
+        Ok(()) => 0,
+        Err(r) => u32::from(r),
+    }
 }

@@ -10,7 +10,7 @@ use lib.Dec.{ltb, eqb}
 use lib.IntN.{ℤ}
 use lib.Ieee.{Float}
 use borrow.Author.Tests.{eqb-true, eq-eqb, ne_eqb, ltb-false, lt-ltb, le-ltb, not-false}
-use Rattle.refusals.specs.Refusals.{Refusal, first_of}
+use Rattle.refusals.specs.Refusals.{Ranked, first_of}
 use Rattle.layout.specs.Axes.{PLACES}
 use Rattle.layout.specs.Compile.{compile_refusals, compile_of}
 use Rattle.offsets.specs.Lists.{total_in, end_refusals, place_refusals, range_code}
@@ -44,7 +44,7 @@ module _ (total : ℕ) where
     each_tail = sym (each-head.after (each_refusals total rs)) ∙ e
 
   -- so what comes behind them all decides, and each lies within the layout
-  pub each_after : (rs : List (ℕ × ℕ)) → first_of (each_refusals total rs) ≡ 0 → (qs : List Refusal) → first_of (each_refusals total rs ++ qs) ≡ first_of qs
+  pub each_after : (rs : List (ℕ × ℕ)) → first_of (each_refusals total rs) ≡ 0 → (qs : List Ranked) → first_of (each_refusals total rs ++ qs) ≡ first_of qs
   unfolding each_refusals
   each_after [] e qs = refl
   each_after (r ∷ rs) e qs =
@@ -102,10 +102,10 @@ module _ (ns : List ℕ) (ss : List ℤ) (base : ℤ) (starts ends : List ℕ) (
   abbrev code : ℕ
   code = code_by ns ss base starts ends len misfit
 
-  abbrev each : List Refusal
+  abbrev each : List Ranked
   each = each_refusals (compile_of PLACES ns ss).traversal.total (ranges_of starts ends)
 
-  abbrev places : List Refusal
+  abbrev places : List Ranked
   places = place_refusals ns ss base len
 
   pub code-compile : ((compile_of PLACES ns ss).code ≡ 0 → ⊥) → (compile_of PLACES ns ss).code ≡ code

@@ -1,6 +1,6 @@
 -- Rules M1, R16 and C13: all workers' ranges in one call.
 use Rattle.std.specs.Prelude.{ℕ, Bool, cond, not, ◌||◌, List, [], ◌∷◌, ◌++◌, map, length, ltb, eqb, ℤ, Float}
-use Rattle.refusals.specs.Refusals.{Refusal, first_of, buffer_after, ANSWER_BUFFER_TOO_SHORT}
+use Rattle.refusals.specs.Refusals.{Ranked, first_of, buffer_after, ANSWER_BUFFER_TOO_SHORT}
 use Rattle.layout.specs.Axes.{PLACES}
 use Rattle.layout.specs.Compile.{compile_refusals}
 use Rattle.offsets.specs.Lists.{total_in, end_refusals, place_refusals}
@@ -14,7 +14,7 @@ ranges_of (start ∷ starts) [] = []
 ranges_of (start ∷ starts) (end ∷ ends) = (start, end) ∷ ranges_of starts ends
 
 -- rules R5 and R6 range by range, in list order: the first faulty range decides
-unfoldable pub each_refusals : ℕ → List (ℕ × ℕ) → List Refusal
+unfoldable pub each_refusals : ℕ → List (ℕ × ℕ) → List Ranked
 each_refusals total [] = []
 each_refusals total (r ∷ rs) = end_refusals total r.0 r.1 ++ each_refusals total rs
 

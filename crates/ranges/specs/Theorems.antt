@@ -5,8 +5,7 @@ use Rattle.std.specs.Float.Ieee.{fits}
 use Rattle.layout.specs.Order.{axes_of}
 use Rattle.offsets.specs.Lists.{total_in, offsets_from}
 use Rattle.accumulator.specs.declared.StableProductFloatAcc.{StableProductFloatAcc}
-use Rattle.accumulator.specs.declared.Reduced.TheVariants.{Acc}
-use Rattle.accumulator.specs.Joining.{accumulator, answer_of}
+use Rattle.accumulator.specs.Joining.{accumulator}
 use Rattle.laws.specs.Lists.{Each}
 use Rattle.kernels.specs.Lanes.{some}
 use Rattle.reduction.specs.Ranges.{range_product, reduce_of}
@@ -37,7 +36,7 @@ offsets_over ns ss base (r ∷ rs) = offsets_from (axes_of ns ss) base r.0 (r.1 
 -- what rule M2 says of a call whose ranges lead from 0 to the total
 pub record RuleM2 (ns : List ℕ) (ss : List ℤ) (base : ℤ) (rs : List (ℕ × ℕ)) (values : List Float) (bads : List ℕ) (a : StableProductFloatAcc) : Type 0 where
   -- the whole is accepted too, and this is its answer
-  pub whole : reduce_of ns ss base 0 (total_in ns ss) values ≡ answer_of (Acc a)
+  pub whole : reduce_of ns ss base 0 (total_in ns ss) values ≡ accumulator a.m a.e a.bad
   -- the offset lists joined are the list of the whole
   pub offsets : offsets_over ns ss base rs ≡ offsets_from (axes_of ns ss) base 0 (total_in ns ss)
   -- some byte is 1 exactly if the whole is bad

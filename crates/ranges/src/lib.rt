@@ -3,86 +3,66 @@
 
 ghost use Rattle.std.specs.Prelude.{◌≡◌, true, not, length};
 ghost use Rattle.refusals.specs.Refusals.{first_of};
+ghost use Rattle.refusals.specs.Codes.{code_of};
 ghost use Rattle.layout.specs.Axes.{PLACES};
 ghost use Rattle.layout.specs.Compile.{compile_of};
 ghost use Rattle.offsets.specs.Lists.{end_refusals, place_refusals};
-ghost use Rattle.ranges.specs.Many.{ranges_of, each_refusals, unfit, bad_byte, code_by, many_code, ms_after, es_after, bads_after};
+ghost use Rattle.ranges.specs.Many.{ranges_of, each_refusals, unfit, code_by, many_code, ms_after, es_after, bads_after};
 
 use layout::traversal::FullTraversal;
+use refusals::Refusal;
 
 // Whether the two lists are of one length, and no buffer is shorter.
 fn lists_fit(starts: usize, ends: usize, ms: usize, es: usize, bads: usize) -> bool
     ensures { not result ≡ unfit starts ends ms es bads }
 {
-    if starts != ends {
-        return false;
-    }
-    if ms < starts {
-        return false;
-    }
-    if es < starts {
-        return false;
-    }
-    if bads < starts {
-        return false;
-    }
-    true
+    starts == ends && starts <= ms && starts <= es && starts <= bads
 }
 
 // Refusals 5 and 6 of a range of a layout of so many elements.
-fn end_code(total: u64, start: u64, end: u64) -> u32
-    ensures { result ≡ first_of (end_refusals total start end) }
+fn check_end(total: u64, start: u64, end: u64) -> Result<(), Refusal>
+    ensures { code_of result ≡ first_of (end_refusals total start end) }
 {
     if end <= start {
-        return refusals::EMPTY_RANGE;
+        return Err(Refusal::EmptyRange);
     }
     if total < end {
-        return refusals::RANGE_PAST_END;
+        return Err(Refusal::RangePastEnd);
     }
-    0
+    Ok(())
 }
 
 // Refusals 5 and 6 of the first faulty range.
-fn each_code(total: u64, starts: &[u64], ends: &[u64]) -> u32
+fn check_ends(total: u64, starts: &[u64], ends: &[u64]) -> Result<(), Refusal>
     requires { length starts.now ≡ length ends.now }
-    ensures { result ≡ first_of (each_refusals total (ranges_of starts.now ends.now)) }
+    ensures { code_of result ≡ first_of (each_refusals total (ranges_of starts.now ends.now)) }
 {
-    let mut i: usize = 0;
-    while i < starts.len() {
-        let code = end_code(total, starts[i], ends[i]);
-        if code != 0 {
-            return code;
-        }
-        i += 1;
+    for (start, end) in starts.iter().zip(ends) {
+        check_end(total, *start, *end)?;
     }
-    0
+    Ok(())
 }
 
 // Refusal 7 of a layout that compiling let through, with its total. Without elements none lies outside.
-fn place_code(total: u64, sizes: &[u64], strides: &[i64], base: i64, length: u64) -> u32
+fn check_places(
+    total: u64,
+    sizes: &[u64],
+    strides: &[i64],
+    base: i64,
+    length: u64,
+) -> Result<(), Refusal>
     requires { ((compile_of PLACES sizes.now strides.now).code ≡ 0) × (total ≡ (compile_of PLACES sizes.now strides.now).traversal.total) }
-    ensures { result ≡ first_of (place_refusals sizes.now strides.now base length) }
+    ensures { code_of result ≡ first_of (place_refusals sizes.now strides.now base length) }
 {
-    if total == 0 {
-        return 0;
+    if total == 0 || offsets::bounds::inside(sizes, strides, base, length) {
+        return Ok(());
     }
-    if offsets::bounds::inside(sizes, strides, base, length) {
-        return 0;
-    }
-    refusals::ELEMENT_OUTSIDE
+    Err(Refusal::ElementOutside)
 }
 
-// The mark of an answer.
-pub fn bad_byte(bad: bool) -> u8
-    ensures { result ≡ bad_byte bad }
-{
-    if bad { 1 } else { 0 }
-}
-
-// Refusals 1 to 4, 16, 5 and 6 of each range, and 7, in this order. Compiling the layout gave the total, and a refusal or 0. The layout itself is not handed
-// in and out, since that would copy its table.
-fn ranges_code(
-    refusal: u32,
+// Refusals 16, 5 and 6 of each range, and 7, in this order, of a layout that compiling let through, with its total. The layout itself is not handed in,
+// since that would copy its table.
+fn check_ranges(
     total: u64,
     sizes: &[u64],
     strides: &[i64],
@@ -91,22 +71,16 @@ fn ranges_code(
     ends: &[u64],
     len: u64,
     fit: bool,
-) -> u32
-    requires { (refusal ≡ (compile_of PLACES sizes.now strides.now).code) × (total ≡ (compile_of PLACES sizes.now strides.now).traversal.total)
+) -> Result<(), Refusal>
+    requires { ((compile_of PLACES sizes.now strides.now).code ≡ 0) × (total ≡ (compile_of PLACES sizes.now strides.now).traversal.total)
         × (fit ≡ true → length starts.now ≡ length ends.now) }
-    ensures { result ≡ code_by sizes.now strides.now base starts.now ends.now len (not fit) }
+    ensures { code_of result ≡ code_by sizes.now strides.now base starts.now ends.now len (not fit) }
 {
-    if refusal != 0 {
-        return refusal;
-    }
     if !fit {
-        return refusals::ANSWER_BUFFER_TOO_SHORT;
+        return Err(Refusal::AnswerBufferTooShort);
     }
-    let fault = each_code(total, starts, ends);
-    if fault != 0 {
-        return fault;
-    }
-    place_code(total, sizes, strides, base, len)
+    check_ends(total, starts, ends)?;
+    check_places(total, sizes, strides, base, len)
 }
 
 // The product of each range start to end - 1 of a layout over the lent values, in list order in the first places of three buffers; or one of refusals
@@ -121,8 +95,8 @@ pub fn reduce_ranges(
     ms: &mut [f64],
     es: &mut [i64],
     bads: &mut [u8],
-) -> u32
-    ensures value { result ≡ many_code sizes.now strides.now base starts.now ends.now values.now
+) -> Result<(), Refusal>
+    ensures value { code_of result ≡ many_code sizes.now strides.now base starts.now ends.now values.now
         ms.old es.old bads.old }
     ensures ms_after { ms.new ≡ ms_after sizes.now strides.now base starts.now ends.now
         values.now ms.old es.old bads.old }
@@ -131,11 +105,10 @@ pub fn reduce_ranges(
     ensures bads_after { bads.new ≡ bads_after sizes.now strides.now base starts.now ends.now
         values.now ms.old es.old bads.old }
 {
-    let compiled = FullTraversal::compile(sizes, strides);
+    let l = FullTraversal::compile(sizes, strides)?;
     let fit = lists_fit(starts.len(), ends.len(), ms.len(), es.len(), bads.len());
-    let code = ranges_code(
-        compiled.code,
-        compiled.traversal.total,
+    check_ranges(
+        l.total,
         sizes,
         strides,
         base,
@@ -143,24 +116,13 @@ pub fn reduce_ranges(
         ends,
         values.len() as u64,
         fit,
-    );
-    if code != 0 {
-        return code;
-    }
-    let mut i: usize = 0;
-    while i < ends.len() {
-        let acc = reduction::full::reduce_full_range(
-            compiled.traversal,
-            base,
-            starts[i],
-            ends[i],
-            values,
-        );
-        let e = acc.e;
+    )?;
+    // One index for two lists and three buffers, which are the caller's, as C has them.
+    for i in 0..ends.len() {
+        let acc = reduction::full::reduce_full_range(l, base, starts[i], ends[i], values);
         ms[i] = acc.m;
-        es[i] = e;
-        bads[i] = bad_byte(acc.bad);
-        i += 1;
+        es[i] = acc.e;
+        bads[i] = u8::from(acc.bad);
     }
-    0
+    Ok(())
 }

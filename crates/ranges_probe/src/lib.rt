@@ -27,7 +27,11 @@ pub extern "C" fn probe_ranges(
     ensures bads_after { bads.new ≡ bads_after sizes.now strides.now base starts.now ends.now
         values.now ms.old es.old bads.old }
 {
-    ranges::reduce_ranges(
+    let answer = ranges::reduce_ranges(
         sizes, strides, base, starts, ends, values, &mut *ms, &mut *es, &mut *bads,
-    )
+    );
+    match answer {
+        Ok(()) => 0,
+        Err(refusal) => u32::from(refusal),
+    }
 }

@@ -1,14 +1,14 @@
 -- Inputs that have the same axes in another order have one product, and one finished number.
 -- Assumes nothing.
 use Prim.Native.Nat.{ℕ}
-use mathlib.Core.Path.{◌≡◌, sym, ◌∙◌, ap}
+use mathlib.Core.Path.{◌≡◌, ◌∙◌, ap}
 use mathlib.Core.Bool.{cond}
 use mathlib.Core.List.{List}
 use lib.ListN.{length}
 use lib.Dec.{eqb}
 use lib.IntN.{ℤ}
 use lib.Ieee.{Float}
-use Rattle.layout.specs.declared.traversal.Compiled.{Compiled}
+use Rattle.layout.specs.Compile.{Compiled}
 use Rattle.layout.specs.Reordered.{SameAxes}
 use Rattle.layout.proofs.OneOrder.{same-record}
 use Rattle.offsets.specs.Lists.{range_code}
@@ -19,7 +19,6 @@ use Rattle.kernels.specs.Pieces.{joined_pieces}
 use Rattle.finishing.specs.Finishing.{finished_of}
 use Rattle.reduction.specs.Ranges.{pieces_of, range_product, reduce_of}
 use Rattle.reduction.specs.Theorems.{OneProduct}
-use Rattle.reduction.proofs.Whole.{answer-one}
 
 module _ (ns ns' : List ℕ) (ss ss' : List ℤ) (w : SameAxes ns ss ns' ss') (base : ℤ) (start end : ℕ) (values : List Float) where
   pub same-product : range_product ns ss base start end values ≡ range_product ns' ss' base start end values
@@ -37,4 +36,4 @@ module _ (ns ns' : List ℕ) (ss ss' : List ℤ) (w : SameAxes ns ss ns' ss') (b
 pub one_product : OneProduct
 one_product ns ns' ss ss' w base start end values =
     let e = same-reduction ns ns' ss ss' w base start end values in
-    (e, λ r r' p q. ap finished_of (answer-one r r' (p ∙ e ∙ sym q)))
+    (e, ap finished_of e)

@@ -5,18 +5,19 @@ use mathlib.Core.Path.{◌≡◌, refl, sym, ◌∙◌, ap, subst}
 use mathlib.Core.Bool.{true}
 use mathlib.Core.List.{List, ◌∷◌}
 use native.Mathlib.Omega.{arith}
-use native.Mathlib.Nat.{le_trans, mul-le-mul_right, add-zero, sub-zero}
+use native.Mathlib.Nat.{le_trans, mul-le-mul_left, mul-le-mul_right, add-zero, sub-zero}
 use lib.ListN.{length, get_or}
 use lib.Arith.{digits_div, digits_mod}
 use lib.IntN.{ℤ, pos, nat_abs, ◌+ℤ◌, ◌*ℤ◌}
 use lib.Signed.{◌≤ℤ◌, ◌<ℤ◌}
 use lib.Dec.{T}
 use lib.Ieee.{Float, nan, binary64, fits}
-use mir.Val.{SFits}
+use mir.Val.{SFits, to_z, of_z}
+use mir.Facts.{to_z-of_z}
 use mir.Syntax.{w64}
 use Rattle.integers.proofs.Places.{place-first, place-next, place-later}
 use Rattle.integers.specs.Integers.{eq_z}
-use Rattle.integers.proofs.Difference.{ints, atoms}
+use Rattle.integers.proofs.Machine.{to_z-small}
 use Rattle.layout.specs.declared.traversal.FullTraversal.{FullTraversal}
 use Rattle.accumulator.specs.declared.StableProductFloatAcc.{StableProductFloatAcc}
 use Rattle.accumulator.specs.Joining.{combined}
@@ -31,20 +32,55 @@ use Rattle.offsets.proofs.Runs.{run-some, runs-begin, runs-end, runs-at}
 use Rattle.kernels.specs.Pieces.{worked, worked_piece, joined_onto}
 use Rattle.kernels.specs.InnerStrided.{strided, PlacesInside}
 use Rattle.kernels.specs.InnerStepped.{Sound}
-use Rattle.kernels.proofs.Sizes.{in_list, combined-size}
+use Rattle.kernels.proofs.Sizes.{in_piece, in_list, combined-size}
 use Rattle.kernels.proofs.Bounded.{combined-sound, worked-sound}
 use Rattle.kernels.proofs.Striding.{strided-values}
 use Rattle.reduction.specs.Ranges.{piece_at, pieces_of}
 use Rattle.reduction.specs.InnerStrips.{strip}
 use Rattle.reduction.proofs.Pieces.{strided-near}
+use Rattle.reduction.proofs.Lines.{way-fits, place-fits}
 use Rattle.reduction.proofs.Ranges.{PieceTaken, taken, Reducing}
 
--- a place of a run, in i64
-pub place-inside-fits : (size : ℕ) (z stride : ℤ) (len : ℕ) → PlacesInside size z stride len → 1 ≤ len → size < 2 ^ 63 → SFits w64 z
-place-inside-fits size z stride len i h m = go (i.least 0 h) (i.most 0 h) m
-  where
-    go : pos 0 ≤ℤ (z +ℤ stride *ℤ pos 0) → (z +ℤ stride *ℤ pos 0) <ℤ pos size → size < 2 ^ 63 → SFits w64 z
-    go = simp ints (simp atoms (omega arith))
+-- ---- the runs of a strip
+-- where run j begins, in i64
+pub record RunPlace (z step : ℤ) (j : ℕ) : Type 0 where
+  pub small : j < 2 ^ 63
+  pub way : SFits w64 (step *ℤ pos j)
+  pub place : SFits w64 (z +ℤ step *ℤ pos j)
+
+-- the same of the elements of one run
+pub line-place : (size : ℕ) (z step : ℤ) (count : ℕ) → PlacesInside size z step count → count ≤ 2 ^ 40 → size ≤ 2 ^ 63 → (j : ℕ) → j < count → RunPlace z step j
+line-place size z step count p few most j h =
+    record { small = omega (arith, few, h); way = way-fits size z step count p most j h; place = place-fits size z step count p most j h }
+
+module _ (size : ℕ) (z step stride : ℤ) (len count : ℕ) (some : 1 ≤ len)
+    (inside : (j : ℕ) → j < count → PlacesInside size (z +ℤ step *ℤ pos j) stride len) where
+  firsts_inside : PlacesInside size z step count
+  firsts_inside =
+      record {
+        least = λ j h. subst (λ (y : ℤ). pos 0 ≤ℤ y) (sym (place-first (z +ℤ step *ℤ pos j) stride)) ((inside j h).least 0 some);
+        most = λ j h. subst (λ (y : ℤ). y <ℤ pos size) (sym (place-first (z +ℤ step *ℤ pos j) stride)) ((inside j h).most 0 some);
+      }
+
+  pub run-place : count * len ≤ 2 ^ 40 → size ≤ 2 ^ 63 → (j : ℕ) → j < count → RunPlace z step j
+  run-place few most j h =
+      let n : count * 1 ≤ count * len = mul-le-mul_left count some in
+      line-place size z step count firsts_inside (omega (arith, n, few)) most j h
+
+-- as the code forms it
+pub place-exact : (z step : ℤ) (j : ℕ) → SFits w64 z → SFits w64 step → RunPlace z step j
+    → to_z w64 (of_z w64 (to_z w64 (of_z w64 z) +ℤ to_z w64 (of_z w64 (to_z w64 (of_z w64 step) *ℤ to_z w64 j)))) ≡ z +ℤ step *ℤ pos j
+place-exact z step j f g p = simp (to_z-of_z f, to_z-of_z g, to_z-small j p.small, to_z-of_z p.way, to_z-of_z p.place) refl
+
+-- a run's product
+module _ (values : List Float) (v : (i : ℕ) → T (fits binary64 (get_or values i nan))) (z stride : ℤ) (len : ℕ) (some : 1 ≤ len)
+    (b : StableProductFloatAcc) (run : b ≡ worked (eq_z stride (pos 1)) (strided values z stride len)) where
+  pub run-near : nat_abs b.e ≤ in_piece * len
+  run-near = subst (λ (a : StableProductFloatAcc). nat_abs a.e ≤ in_piece * len) (sym run) (strided-near values v z stride len some)
+
+  pub run-sound : Sound b
+  run-sound =
+      subst Sound (sym run) (worked-sound (record { in_blocks = eq_z stride (pos 1); rates = strided values z stride len }) (strided-values values v z stride len))
 
 -- before the first run, all of the strip is left
 pub strip-first : (values : List Float) (step stride : ℤ) (len count : ℕ) (z : ℤ) (a : StableProductFloatAcc)

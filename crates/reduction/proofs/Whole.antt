@@ -1,21 +1,19 @@
 -- Rule D3, whole: of every accepted range of every layout, over the reduction's answer and what finishing makes of it.
 -- Assumes that each value is one of binary64, as every f64 is.
 use Prim.Native.Nat.{ℕ, ◌-◌}
-use mathlib.Core.Path.{◌≡◌, refl, sym, ◌∙◌, ap, subst}
+use mathlib.Core.Path.{◌≡◌, sym, ◌∙◌, ap}
 use mathlib.Core.Bool.{Bool, true, false}
 use mathlib.Core.List.{List, map}
 use native.Mathlib.Nat.{le_trans}
 use lib.ListN.{length}
 use lib.Dec.{T}
 use lib.IntN.{ℤ}
-use lib.Ieee.{Float, nan, binary64, fits}
+use lib.Ieee.{Float, binary64, fits}
 use Rattle.layout.specs.Axes.{PLACES}
 use Rattle.layout.specs.Order.{axes_of}
 use Rattle.layout.specs.Compile.{compile_of}
 use Rattle.floats.specs.Splitting.{is_bad}
-use Rattle.accumulator.specs.declared.Reduced.{Reduced}
-use Rattle.accumulator.specs.declared.Reduced.TheVariants.{Acc, Refused}
-use Rattle.accumulator.specs.Joining.{Answer, answer_of, accumulator, refusal}
+use Rattle.accumulator.specs.Joining.{Answer, accumulator, refusal}
 use Rattle.accumulator.proofs.Answers.{in-limits-unit}
 use Rattle.finishing.specs.Finishing.{finished_of}
 use Rattle.finishing.proofs.Answers.{finished-bad, finished-once}
@@ -29,15 +27,7 @@ use Rattle.reduction.specs.Theorems.{RuleD3, RuleD3Law}
 use Rattle.reduction.proofs.Calls.{reduce-accepted}
 use Rattle.reduction.proofs.Demand.{range-rates, range-mark, range-in-limits, range-agrees}
 
--- ---- an answer is known by what it tells
-abbrev answer-m : Answer → Float
-answer-m (accumulator m e bad) = m
-answer-m (refusal n) = nan
-
-abbrev answer-e : ℤ → Answer → ℤ
-answer-e d (accumulator m e bad) = e
-answer-e d (refusal n) = d
-
+-- ---- what an answer tells
 abbrev pub answer-bad : Answer → Bool
 answer-bad (accumulator m e bad) = bad
 answer-bad (refusal n) = false
@@ -45,19 +35,6 @@ answer-bad (refusal n) = false
 abbrev pub is-accumulator : Answer → Bool
 is-accumulator (accumulator m e bad) = true
 is-accumulator (refusal n) = false
-
-abbrev answer-code : Answer → ℕ
-answer-code (accumulator m e bad) = 0
-answer-code (refusal n) = n
-
-pub answer-one : (r r' : Reduced) → answer_of r ≡ answer_of r' → r ≡ r'
-answer-one (Refused n) (Refused k) e = ap Refused (ap answer-code e)
-answer-one (Refused n) (Acc a) e = absurd (subst T (sym (ap is-accumulator e)) tt)
-answer-one (Acc b) (Refused k) e = absurd (subst T (ap is-accumulator e) tt)
-answer-one (Acc b) (Acc a) e = ap Acc (same (ap answer-m e) (ap (answer-e a.e) e) (ap answer-bad e))
-  where
-    same : b.m ≡ a.m → b.e ≡ a.e → b.bad ≡ a.bad → b ≡ a
-    same p q r = rw (p, q, r) refl
 
 -- ---- rule D3
 module _ (ns : List ℕ) (ss : List ℤ) (base : ℤ) (start end : ℕ) (values : List Float) (v : Each (λ (x : Float). T (fits binary64 x)) values)
@@ -80,8 +57,8 @@ module _ (ns : List ℕ) (ss : List ℤ) (base : ℤ) (start end : ℕ) (values 
         mark = mark;
         plain = λ k. range-agrees l a.traversal base b values v end start g.forward few (ap (some is_bad) same ∙ sym mark ∙ k);
         unit = in-limits-unit r up;
-        once = λ q t k. ap finished_of (answer-one q (Acc r) (t ∙ answer)) ∙ finished-once r up k;
-        marked = λ q t k. ap finished_of (answer-one q (Acc r) (t ∙ answer)) ∙ finished-bad r up k;
+        once = λ k. ap finished_of answer ∙ finished-once r up k;
+        marked = λ k. ap finished_of answer ∙ finished-bad r up k;
       }
 
 pub rule-D3 : RuleD3Law

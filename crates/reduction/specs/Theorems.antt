@@ -10,9 +10,7 @@ use Rattle.offsets.specs.Lists.{range_code}
 use Rattle.floats.specs.Magnitude.{in_unit}
 use Rattle.floats.specs.Splitting.{is_bad}
 use Rattle.accumulator.specs.declared.StableProductFloatAcc.{StableProductFloatAcc}
-use Rattle.accumulator.specs.declared.Reduced.{Reduced}
-use Rattle.accumulator.specs.declared.Reduced.TheVariants.{Acc}
-use Rattle.accumulator.specs.Joining.{answer_of, factor_of_acc}
+use Rattle.accumulator.specs.Joining.{accumulator, factor_of_acc}
 use Rattle.laws.specs.Lists.{Each}
 use Rattle.kernels.specs.Lanes.{some}
 use Rattle.kernels.specs.Plain.{plain_product}
@@ -25,7 +23,7 @@ use Rattle.reduction.specs.Ranges.{pieces_of, range_product, reduce_of}
 -- what rule D3 says of the answer `a` to a range
 pub record RuleD3 (ns : List ℕ) (ss : List ℤ) (base : ℤ) (start end : ℕ) (values : List Float) (a : StableProductFloatAcc) : Type 0 where
   -- the call is accepted, and this is its answer
-  pub answer : reduce_of ns ss base start end values ≡ answer_of (Acc a)
+  pub answer : reduce_of ns ss base start end values ≡ accumulator a.m a.e a.bad
   -- the pieces hold the visited rates, in order
   pub rates : rates_of (pieces_of (compile_of PLACES ns ss).traversal base values start end) ≡ visited_rates ns ss base start end values
   -- the mark is set exactly if a visited rate is zero, infinite or NaN
@@ -35,8 +33,8 @@ pub record RuleD3 (ns : List ℕ) (ss : List ℤ) (base : ℤ) (start end : ℕ)
   -- 1 <= |m| < 2, bad or not
   pub unit : in_unit a.m ≡ true
   -- finishing the answer gives m × 2^e rounded once, or the NaN of a bad mark; never a refusal
-  pub once : (r : Reduced) → answer_of r ≡ reduce_of ns ss base start end values → a.bad ≡ false → finished_of r ≡ value (rounded_once (factor_of_acc a))
-  pub marked : (r : Reduced) → answer_of r ≡ reduce_of ns ss base start end values → a.bad ≡ true → finished_of r ≡ value nan
+  pub once : a.bad ≡ false → finished_of (reduce_of ns ss base start end values) ≡ value (rounded_once (factor_of_acc a))
+  pub marked : a.bad ≡ true → finished_of (reduce_of ns ss base start end values) ≡ value nan
 
 -- it holds of every accepted range, over values of binary64, as every f64 is
 abbrev pub RuleD3Law : Type 0
@@ -51,4 +49,4 @@ abbrev pub OneProduct : Type 0
 OneProduct =
     (ns ns' : List ℕ) (ss ss' : List ℤ) → SameAxes ns ss ns' ss' → (base : ℤ) (start end : ℕ) (values : List Float)
     → (reduce_of ns ss base start end values ≡ reduce_of ns' ss' base start end values)
-    × ((r r' : Reduced) → answer_of r ≡ reduce_of ns ss base start end values → answer_of r' ≡ reduce_of ns' ss' base start end values → finished_of r ≡ finished_of r')
+    × (finished_of (reduce_of ns ss base start end values) ≡ finished_of (reduce_of ns' ss' base start end values))

@@ -13,9 +13,10 @@ ghost use Rattle.accumulator.specs.Joining.{answer_of};
 ghost use Rattle.reduction.specs.InnerStrips.{run_acc, strip};
 ghost use Rattle.reduction.specs.Ranges.{pieces_of, reduce_of};
 
-use accumulator::{Reduced, StableProductFloatAcc};
+use accumulator::StableProductFloatAcc;
 use layout::traversal::FullTraversal;
 use offsets::pieces::RangeCursor;
+use refusals::Refusal;
 
 const BLOCK: usize = StableProductFloatAcc::BLOCK;
 
@@ -45,7 +46,8 @@ pub fn reduce_piece(values: &[f64], first: i64, stride: i64, len: usize) -> Stab
     }
 }
 
-// One run's product, how many of the next runs are not tried as short pieces, and how many if the next try fails.
+// One run's product, how many of the next runs are not tried as short pieces, and how many if the next try fails. It has m, e and bad of its own, and no
+// accumulator within it, which would be copied as a whole (`reduce_piece`).
 #[derive(Clone, Copy)]
 pub struct RunProduct {
     pub m: f64,
@@ -77,8 +79,7 @@ fn next_run(
 {
     if hold == 0 {
         if len <= BLOCK {
-            let q = vectors::piece::short_piece(values, at, stride, len, least);
-            if q.ok {
+            if let Some(q) = vectors::piece::short_piece(values, at, stride, len, least) {
                 return RunProduct {
                     m: q.m,
                     e: q.e,
@@ -111,7 +112,8 @@ fn next_run(
     }
 }
 
-// `count` runs of `len` values that begin `step` apart, each joined from the right. No place past the last run's is formed.
+// `count` runs of `len` values that begin `step` apart, each joined from the right. Each place is worked out from the first: none past the last run's
+// is formed.
 fn reduce_strip(
     values: &[f64],
     first: i64,
@@ -129,9 +131,8 @@ fn reduce_strip(
     let mut a = acc;
     let mut hold: u64 = 0;
     let mut back: u64 = 0;
-    let mut at = first;
-    let mut j: u64 = 0;
-    while j < count {
+    for j in 0..count {
+        let at = first + step * (j as i64);
         let r = next_run(values, at, stride, len, least, hold, back);
         let e = r.e;
         let b = StableProductFloatAcc {
@@ -142,10 +143,6 @@ fn reduce_strip(
         a = accumulator::combine_units(a, b);
         hold = r.hold;
         back = r.back;
-        j += 1;
-        if j < count {
-            at += step;
-        }
     }
     a
 }
@@ -182,6 +179,7 @@ pub fn join_pieces(
     let stride = l.run_stride;
     let mut acc = acc;
     let mut c = from;
+    // A cursor goes on by a piece or by a whole strip: no count goes up by one here.
     while c.at < end {
         let n = offsets::pieces::whole_runs(l, c, end);
         if n < 2 {
@@ -246,24 +244,11 @@ pub fn reduce(
     start: u64,
     end: u64,
     values: &[f64],
-) -> Reduced
+) -> Result<StableProductFloatAcc, Refusal>
     ensures { answer_of result ≡ reduce_of sizes.now strides.now base start end values.now }
 {
     let length = values.len() as u64;
-    let compiled = FullTraversal::compile(sizes, strides);
-    let code = offsets::list::range_code(
-        compiled.code,
-        compiled.traversal.total,
-        sizes,
-        strides,
-        base,
-        start,
-        end,
-        length,
-    );
-    if code != 0 {
-        return Reduced::Refused(code);
-    }
-    let acc = reduce_full_range(compiled.traversal, base, start, end, values);
-    Reduced::Acc(acc)
+    let l = FullTraversal::compile(sizes, strides)?;
+    offsets::list::check_range(l.total, sizes, strides, base, start, end, length)?;
+    Ok(reduce_full_range(l, base, start, end, values))
 }

@@ -1,2 +1,3 @@
 -- Laws of a call's buffers.
 pub mod Buffers
+pub mod Numbers

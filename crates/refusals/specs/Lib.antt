@@ -1,2 +1,3 @@
 -- The refusals, and the rank among them. Definitions only.
 pub mod Refusals
+pub mod Codes

@@ -53,11 +53,11 @@ abbrev pub NO_WINDOW : ℕ
 NO_WINDOW = 17
 
 -- a refusal: its number, and whether its condition holds
-abbrev pub Refusal : Type 0
-Refusal = ℕ × Bool
+abbrev pub Ranked : Type 0
+Ranked = ℕ × Bool
 
 -- R0: of a list in rank, the number of the first whose condition holds, or 0
-unfoldable pub first_of : List Refusal → ℕ
+unfoldable pub first_of : List Ranked → ℕ
 first_of [] = 0
 first_of (r ∷ rs) = cond r.1 r.0 (first_of rs)
 

@@ -1,94 +1,78 @@
 // The lines of jobs: `read` takes a job from bytes, `write` puts one into a buffer of bytes.
 ghost use Rattle.std.specs.Prelude.{◌≤◌, length};
 
-use crate::range::{Range, ReadRange};
-use jobs::reading::JobRead;
-use jobs::writing::JobWritten;
-use text::word::Items;
+use crate::answer::Answer;
+use crate::range::{Axes, read_range};
+use jobs::reading::Job;
+use layout::axis::PLACES;
+use refusals::Refusal;
+use text::word::Words;
 
 // How many bytes a line may have.
 const BYTES: usize = 4096;
 
-// The bytes that end a line: nothing stands behind them.
-pub fn read_last_bytes(line: &[u8], at: usize, bytes: &mut [u8]) -> Items
-    ensures { result.count ≤ length bytes.old }
-{
-    let b = text::word::read_bytes(line, at, &mut *bytes);
-    if text::word::at_end(line, b.next) {
-        return b;
-    }
-    text::word::no_items()
-}
-
-pub fn answer_read(line: &[u8], at: usize, out: &mut [u8]) -> usize
-    requires { 262144 ≤ length out.old }
-    ensures { result ≤ 262144 }
-{
+pub fn answer_read(words: &mut Words, out: &mut Answer) -> Option<()> {
     let mut bytes = [0u8; BYTES];
-    let b = read_last_bytes(line, at, &mut bytes);
-    if !b.ok {
-        return crate::answer::malformed(&mut *out);
+    let bytes = words.list(&mut bytes)?;
+    words.end()?;
+    match jobs::reading::read_job(bytes) {
+        Ok(job) => put_job(0, &job, out),
+        Err(refusal) => put_job(u32::from(refusal), &no_job(), out),
     }
-    let n = b.count;
-    put_job(jobs::reading::read_job(&bytes[..n]), &mut *out)
+    Some(())
 }
 
-fn put_job(job: JobRead, out: &mut [u8]) -> usize
-    requires { 262144 ≤ length out.old }
-    ensures { result ≤ 262144 }
-{
-    let mut at = put_axes(job, &mut *out);
-    at = text::print::put_i64(&mut *out, at, job.base);
-    at = text::print::put_u64(&mut *out, at, job.start);
-    at = text::print::put_u64(&mut *out, at, job.end);
-    text::print::put(&mut *out, at, b"\n")
+// What stands behind a refusal.
+fn no_job() -> Job {
+    Job {
+        count: 0,
+        sizes: [0; PLACES],
+        strides: [0; PLACES],
+        base: 0,
+        start: 0,
+        end: 0,
+    }
 }
 
-// All that stands before the range.
-fn put_axes(job: JobRead, out: &mut [u8]) -> usize
-    requires { 262144 ≤ length out.old }
-    ensures { result ≤ 1000 }
-{
-    let mut at = text::print::put(&mut *out, 0, b"job");
-    at = text::print::put_u64(&mut *out, at, job.code as u64);
-    at = text::print::put_u64(&mut *out, at, job.count as u64);
-    at = text::print::put_u64s(&mut *out, at, &job.sizes);
-    text::print::put_i64s(&mut *out, at, &job.strides)
+fn put_job(code: u32, job: &Job, out: &mut Answer) {
+    out.start(b"job");
+    out.put_word(u64::from(code));
+    out.put_word(job.count as u64);
+    out.put_words(&job.sizes);
+    out.put_words(&job.strides);
+    out.put_word(job.base);
+    out.put_word(job.start);
+    out.put_word(job.end);
+    out.put(b"\n");
 }
 
-// The sizes and strides of the line are read already.
-pub fn answer_write(sizes: &[u64], strides: &[i64], line: &[u8], at: usize, out: &mut [u8]) -> usize
-    requires { 262144 ≤ length out.old }
-    ensures { result ≤ 262144 }
-{
+pub fn answer_write(axes: Axes, words: &mut Words, out: &mut Answer) -> Option<()> {
     let mut bytes = [0u8; BYTES];
-    let ReadRange::Is(r, to_bytes) = crate::range::read_range(line, at) else {
-        return crate::answer::malformed(&mut *out);
+    let range = read_range(words)?;
+    let bytes = words.list(&mut bytes)?;
+    words.end()?;
+    let written = jobs::writing::write_job(
+        axes.sizes,
+        axes.strides,
+        range.base,
+        range.start,
+        range.end,
+        bytes,
+    );
+    put_written(written, bytes, out);
+    Some(())
+}
+
+fn put_written(written: Result<usize, Refusal>, bytes: &[u8], out: &mut Answer)
+    requires { length bytes.now ≤ 4096 }
+{
+    let (code, count) = match written {
+        Ok(count) => (0, count),
+        Err(refusal) => (u32::from(refusal), 0),
     };
-    let b = read_last_bytes(line, to_bytes, &mut bytes);
-    if !b.ok {
-        return crate::answer::malformed(&mut *out);
-    }
-    let n = b.count;
-    write_job(sizes, strides, r, &mut bytes[..n], &mut *out)
-}
-
-fn write_job(sizes: &[u64], strides: &[i64], r: Range, bytes: &mut [u8], out: &mut [u8]) -> usize
-    requires { (length bytes.old ≤ 4096) × (262144 ≤ length out.old) }
-    ensures { result ≤ 262144 }
-{
-    let w = jobs::writing::write_job(sizes, strides, r.base, r.start, r.end, &mut *bytes);
-    put_written(w, &*bytes, &mut *out)
-}
-
-fn put_written(w: JobWritten, bytes: &[u8], out: &mut [u8]) -> usize
-    requires { (length bytes.now ≤ 4096) × (262144 ≤ length out.old) }
-    ensures { result ≤ 262144 }
-{
-    let mut at = text::print::put(&mut *out, 0, b"write");
-    at = text::print::put_u64(&mut *out, at, w.code as u64);
-    at = text::print::put_u64(&mut *out, at, w.count as u64);
-    at = text::print::put_u64(&mut *out, at, bytes.len() as u64);
-    at = text::print::put_bytes(&mut *out, at, bytes);
-    text::print::put(&mut *out, at, b"\n")
+    out.start(b"write");
+    out.put_word(u64::from(code));
+    out.put_word(count as u64);
+    out.put_list(bytes);
+    out.put(b"\n");
 }

@@ -4,7 +4,6 @@
 mod acc;
 mod answer;
 mod buffers;
-mod float;
 mod input;
 mod job;
 mod many;
@@ -15,6 +14,6 @@ mod step;
 
 fn main(rt: HostRuntime) {
     let mut space = [0u8; 131073];
-    let mut out = [0u8; 262144];
+    let mut out = answer::Answer::new();
     input::answer_all(&rt, &mut rt.stdin(), &mut space, &mut out);
 }

@@ -1,20 +1,18 @@
 // The calls whose answer is an accumulator, a number, a bad rate, a step or a refusal, each read from the rest of its line.
-use crate::acc::ReadAcc;
-use crate::range::{Range, ReadRange};
-use accumulator::Reduced;
-use bookmarks::{Bookmark, Step};
-use finishing::Finished;
-use search::Search;
-use text::word::ReadU64;
+use crate::acc::{put_result, read_acc};
+use crate::answer::Answer;
+use crate::range::{Axes, Range, read_range};
+use crate::step::read_bookmark;
+use accumulator::StableProductFloatAcc;
+use bookmarks::Bookmark;
+use text::word::Words;
 
 // How many values a line may have.
 const VALUES: usize = 4096;
 
-const U32_MAX: u64 = 0xffff_ffff;
-
 // The calls over a range and its values. A step has a bookmark and a count besides.
 #[derive(Clone, Copy)]
-pub enum RangeCall {
+enum RangeCall {
     Reduce,
     Product,
     Ordered,
@@ -23,181 +21,105 @@ pub enum RangeCall {
     Step(Bookmark, u64),
 }
 
-// The call, unless its words are malformed.
+// A range with its axes and its values, which each of the calls is asked about.
 #[derive(Clone, Copy)]
-pub enum ReadCall {
-    Is(RangeCall),
-    Malformed,
+struct Over<'a> {
+    axes: Axes<'a>,
+    range: Range,
+    values: &'a [f64],
 }
 
-// The answer, unless the line was malformed.
-#[derive(Clone, Copy)]
-pub enum ReadAnswer {
-    Reduced(Reduced),
-    Finished(Finished),
-    Search(Search),
-    Step(Step),
-    Malformed,
-}
-
-// What the line of a `finish` gives.
-#[derive(Clone, Copy)]
-enum ReadReduced {
-    Is(Reduced),
-    Malformed,
+impl Over<'_> {
+    fn ask<T, F: Fn(&[u64], &[i64], i64, u64, u64, &[f64]) -> T>(self, call: F) -> T
+        requires { F.IsAlwaysCallable call }
+    {
+        let Range { base, start, end } = self.range;
+        call(
+            self.axes.sizes,
+            self.axes.strides,
+            base,
+            start,
+            end,
+            self.values,
+        )
+    }
 }
 
 // Two accumulators, joined.
-pub fn read_join(line: &[u8], at: usize) -> ReadAnswer {
-    let ReadAcc::Is(a, to_b) = crate::acc::read_acc(line, at) else {
-        return ReadAnswer::Malformed;
-    };
-    let ReadAcc::Is(b, next) = crate::acc::read_acc(line, to_b) else {
-        return ReadAnswer::Malformed;
-    };
-    if !text::word::at_end(line, next) {
-        return ReadAnswer::Malformed;
-    }
-    ReadAnswer::Reduced(accumulator::join(a, b))
-}
-
-// A call by its word, and by what stands behind the values: of a step its own words, of any other nothing.
-fn read_call(word: &[u8], line: &[u8], at: usize) -> ReadCall {
-    if check::same(word, b"step") {
-        return crate::step::read_step(line, at);
-    }
-    if !text::word::at_end(line, at) {
-        return ReadCall::Malformed;
-    }
-    call_of(word)
-}
-
-fn call_of(word: &[u8]) -> ReadCall {
-    if check::same(word, b"reduce") {
-        return ReadCall::Is(RangeCall::Reduce);
-    }
-    if check::same(word, b"product") {
-        return ReadCall::Is(RangeCall::Product);
-    }
-    if check::same(word, b"ordered") {
-        return ReadCall::Is(RangeCall::Ordered);
-    }
-    if check::same(word, b"figure") {
-        return ReadCall::Is(RangeCall::Figure);
-    }
-    if check::same(word, b"first") {
-        return ReadCall::Is(RangeCall::First);
-    }
-    ReadCall::Malformed
-}
-
-// A range and its values, read once for every call.
-pub fn read_over_range(
-    word: &[u8],
-    sizes: &[u64],
-    strides: &[i64],
-    line: &[u8],
-    at: usize,
-) -> ReadAnswer {
-    let mut values = [0.0; VALUES];
-    let ReadRange::Is(r, to_values) = crate::range::read_range(line, at) else {
-        return ReadAnswer::Malformed;
-    };
-    let v = crate::float::read_floats(line, to_values, &mut values);
-    if !v.ok {
-        return ReadAnswer::Malformed;
-    }
-    let ReadCall::Is(call) = read_call(word, line, v.next) else {
-        return ReadAnswer::Malformed;
-    };
-    let n = v.count;
-    over_range(call, sizes, strides, r, &values[..n])
-}
-
-// What the call gives for them.
-fn over_range(
-    call: RangeCall,
-    sizes: &[u64],
-    strides: &[i64],
-    r: Range,
-    values: &[f64],
-) -> ReadAnswer {
-    match call {
-        RangeCall::Reduce => ReadAnswer::Reduced(reduce(sizes, strides, r, values)),
-        RangeCall::Product => ReadAnswer::Finished(product(sizes, strides, r, values)),
-        RangeCall::Ordered => ReadAnswer::Finished(ordered(sizes, strides, r, values)),
-        RangeCall::Figure => ReadAnswer::Finished(figure(sizes, strides, r, values)),
-        RangeCall::First => ReadAnswer::Search(first(sizes, strides, r, values)),
-        RangeCall::Step(mark, n) => ReadAnswer::Step(step(sizes, strides, r, values, mark, n)),
-    }
-}
-
-fn reduce(sizes: &[u64], strides: &[i64], r: Range, values: &[f64]) -> Reduced {
-    reduction::full::reduce(sizes, strides, r.base, r.start, r.end, values)
-}
-
-fn product(sizes: &[u64], strides: &[i64], r: Range, values: &[f64]) -> Finished {
-    finishing::finish(reduce(sizes, strides, r, values))
-}
-
-fn ordered(sizes: &[u64], strides: &[i64], r: Range, values: &[f64]) -> Finished {
-    ordered::ordered_product(sizes, strides, r.base, r.start, r.end, values)
-}
-
-fn figure(sizes: &[u64], strides: &[i64], r: Range, values: &[f64]) -> Finished {
-    figures::figure(sizes, strides, r.base, r.start, r.end, values)
-}
-
-fn first(sizes: &[u64], strides: &[i64], r: Range, values: &[f64]) -> Search {
-    search::first_bad_rate(sizes, strides, r.base, r.start, r.end, values)
-}
-
-fn step(sizes: &[u64], strides: &[i64], r: Range, values: &[f64], mark: Bookmark, n: u64) -> Step {
-    bookmarks::reduce_step(sizes, strides, r.base, r.start, r.end, values, mark, n)
+pub fn answer_join(words: &mut Words, out: &mut Answer) -> Option<()> {
+    let a = read_acc(words)?;
+    let b = read_acc(words)?;
+    words.end()?;
+    put_result(accumulator::join(a, b), out);
+    Some(())
 }
 
 // The answer of a reduction that the line itself gives, finished.
-pub fn read_finish(line: &[u8], at: usize) -> ReadAnswer {
-    let ReadReduced::Is(answer) = given(line, at) else {
-        return ReadAnswer::Malformed;
-    };
-    ReadAnswer::Finished(finishing::finish(answer))
+pub fn answer_finish(words: &mut Words, out: &mut Answer) -> Option<()> {
+    let reduced = read_reduced(words)?;
+    words.end()?;
+    put_result(finishing::finish(reduced), out);
+    Some(())
 }
 
-// `acc M E BAD` or `refused N`.
-fn given(line: &[u8], at: usize) -> ReadReduced {
-    if line.len() < at {
-        return ReadReduced::Malformed;
+// `acc M E BAD` or `refused N`, where N is any number of 32 bits.
+fn read_reduced(words: &mut Words) -> Option<Result<StableProductFloatAcc, u32>> {
+    match words.next_word()? {
+        b"acc" => Some(Ok(read_acc(words)?)),
+        b"refused" => Some(Err(u32::try_from(words.read::<u64>()?).ok()?)),
+        _ => None,
     }
-    let end = text::word::find(line, at, b' ');
-    if check::same(&line[at..end], b"acc") {
-        return given_acc(line, end + 1);
-    }
-    if check::same(&line[at..end], b"refused") {
-        return given_refusal(line, end + 1);
-    }
-    ReadReduced::Malformed
 }
 
-fn given_acc(line: &[u8], at: usize) -> ReadReduced {
-    let ReadAcc::Is(a, next) = crate::acc::read_acc(line, at) else {
-        return ReadReduced::Malformed;
+// A range and its values, read once for every call.
+pub fn answer_over_range(
+    call: &[u8],
+    axes: Axes,
+    words: &mut Words,
+    out: &mut Answer,
+) -> Option<()> {
+    let mut values = [0.0; VALUES];
+    let range = read_range(words)?;
+    let values = words.list(&mut values)?;
+    let call = read_call(call, words)?;
+    words.end()?;
+    let over = Over {
+        axes,
+        range,
+        values,
     };
-    if !text::word::at_end(line, next) {
-        return ReadReduced::Malformed;
-    }
-    ReadReduced::Is(Reduced::Acc(a))
+    put_call(call, over, out);
+    Some(())
 }
 
-fn given_refusal(line: &[u8], at: usize) -> ReadReduced {
-    let ReadU64::Is(n, next) = text::word::read_u64(line, at) else {
-        return ReadReduced::Malformed;
-    };
-    if U32_MAX < n {
-        return ReadReduced::Malformed;
+// A call by its word, and by what stands behind the values: of a step its own words, of any other nothing.
+fn read_call(call: &[u8], words: &mut Words) -> Option<RangeCall> {
+    match call {
+        b"reduce" => Some(RangeCall::Reduce),
+        b"product" => Some(RangeCall::Product),
+        b"ordered" => Some(RangeCall::Ordered),
+        b"figure" => Some(RangeCall::Figure),
+        b"first" => Some(RangeCall::First),
+        b"step" => Some(RangeCall::Step(read_bookmark(words)?, words.read()?)),
+        _ => None,
     }
-    if !text::word::at_end(line, next) {
-        return ReadReduced::Malformed;
+}
+
+// What the call gives for them.
+fn put_call(call: RangeCall, over: Over, out: &mut Answer) {
+    match call {
+        RangeCall::Reduce => put_result(over.ask(reduction::full::reduce), out),
+        RangeCall::Product => {
+            put_result(finishing::finish(over.ask(reduction::full::reduce)), out)
+        }
+        RangeCall::Ordered => put_result(over.ask(ordered::ordered_product), out),
+        RangeCall::Figure => put_result(over.ask(figures::figure), out),
+        RangeCall::First => put_result(over.ask(search::first_bad_rate), out),
+        RangeCall::Step(mark, n) => {
+            let step = |sizes: &[u64], strides: &[i64], base: i64, start: u64, end: u64, values: &[f64]| {
+                bookmarks::reduce_step(sizes, strides, base, start, end, values, mark, n)
+            };
+            put_result(over.ask(step), out)
+        }
     }
-    ReadReduced::Is(Reduced::Refused(n as u32))
 }

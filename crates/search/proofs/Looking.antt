@@ -1,6 +1,6 @@
 -- A search, place by place, chunk by chunk, run by run and strip by strip: what is left decides as long as nothing bad was met.
 -- Assumes nothing.
-use Prim.Native.Nat.{ℕ, suc, ◌+◌, ◌-◌, ◌≤◌, ◌<◌}
+use Prim.Native.Nat.{ℕ, suc, ◌+◌, ◌-◌, ◌*◌, ◌≤◌, ◌<◌}
 use mathlib.Core.Path.{◌≡◌, refl, sym, ◌∙◌, ap}
 use mathlib.Core.Bool.{Bool, true, false, cond, ◌||◌, true≢false}
 use mathlib.Core.List.{List, [], ◌∷◌, ◌++◌, map}
@@ -13,13 +13,11 @@ use lib.Ieee.{Float}
 use Rattle.integers.proofs.Places.{place-first, place-sum}
 use Rattle.offsets.specs.InnerLists.{steps, runs_places}
 use Rattle.offsets.specs.Values.{value_at}
-use Rattle.offsets.proofs.Writing.{steps-append}
+use Rattle.offsets.proofs.Writing.{steps-append, length-steps}
 use Rattle.floats.specs.Splitting.{is_bad}
 use Rattle.kernels.specs.Lanes.{some}
 use Rattle.laws.proofs.Tests.{neither}
-use Rattle.search.specs.declared.Look.{Look}
 use Rattle.search.specs.Searching.{SearchAnswer, found, none_bad, refusal, lowest_bad}
-use Rattle.search.specs.InnerLooks.{look_answer}
 
 -- the first of two answers that tells of something
 abbrev after : SearchAnswer → SearchAnswer → SearchAnswer
@@ -92,25 +90,21 @@ module _ (values : List Float) where
         ∙ decides
 
   -- a part of the places was looked at, first among those that are left
-  module _ (k : ℕ) (left part rest : List ℤ) (cut : left ≡ part ++ rest) (whole : SearchAnswer) (decides : lowest_bad values k left ≡ whole)
-      (r : Look) (told : look_answer r ≡ lowest_bad values k part) where
-    by_part : whole ≡ after (look_answer r) (lowest_bad values (k + length part) rest)
-    by_part =
+  module _ (k : ℕ) (left part rest : List ℤ) (cut : left ≡ part ++ rest) (whole : SearchAnswer) (decides : lowest_bad values k left ≡ whole) where
+    by_part : (r : SearchAnswer) → r ≡ lowest_bad values k part → whole ≡ after r (lowest_bad values (k + length part) rest)
+    by_part r told =
         sym decides
         ∙ ap (lowest_bad values k) cut
         ∙ search-append k part rest
         ∙ ap (λ (a : SearchAnswer). after a (lowest_bad values (k + length part) rest)) (sym told)
 
     -- it held a bad one: that is the answer
-    pub met : r.bad ≡ true → look_answer r ≡ whole
-    met e = sym (by_part ∙ ap (λ (b : Bool). after (cond b (found r.element r.offset) none_bad) (lowest_bad values (k + length part) rest)) e
-        ∙ ap (λ (b : Bool). cond b (found r.element r.offset) none_bad) (sym e))
+    pub met : (n : ℕ) (z : ℤ) → found n z ≡ lowest_bad values k part → found n z ≡ whole
+    met n z told = sym (by_part (found n z) told)
 
     -- it held none: what is left now decides
-    pub passed : r.bad ≡ false → (n : ℕ) → length part ≡ n → lowest_bad values (k + n) rest ≡ whole
-    passed e n l =
-        ap (λ (m : ℕ). lowest_bad values (k + m) rest) (sym l)
-        ∙ sym (by_part ∙ ap (λ (b : Bool). after (cond b (found r.element r.offset) none_bad) (lowest_bad values (k + length part) rest)) e)
+    pub passed : none_bad ≡ lowest_bad values k part → (n : ℕ) → length part ≡ n → lowest_bad values (k + n) rest ≡ whole
+    passed told n l = ap (λ (m : ℕ). lowest_bad values (k + m) rest) (sym l) ∙ sym (by_part none_bad told)
 
 -- ---- a run from place i on: m places, and those after them
 -- all of it is left, and nothing
@@ -140,6 +134,29 @@ pub run-over : (values : List Float) (k : ℕ) (z s : ℤ) (n i : ℕ) → n ≤
 unfolding lowest_bad
 run-over values k z s n i h = ap (lowest_bad values k) (steps-none z s n i h)
 
+-- place i of a run is looked at, with nothing bad before it
+module _ (values : List Float) (element : ℕ) (first stride : ℤ) (len i : ℕ) (below : i < len) (at : ℤ) (here : at ≡ first +ℤ stride *ℤ pos i)
+    (decides : lowest_bad values (element + i) (steps (first +ℤ stride *ℤ pos i) stride (len - i)) ≡ lowest_bad values element (steps first stride len)) where
+  pub place_bad : is_bad (value_at values at) ≡ true → found (element + i) at ≡ lowest_bad values element (steps first stride len)
+  place_bad e =
+      ap (found (element + i)) here
+      ∙ bad-next values (element + i) _ (first +ℤ stride *ℤ pos i) _ (run-next first stride len i below) _ decides
+      (ap (λ (z : ℤ). is_bad (value_at values z)) (sym here) ∙ e)
+
+  pub place_good : is_bad (value_at values at) ≡ false
+      → lowest_bad values (element + (i + 1)) (steps (first +ℤ stride *ℤ pos (i + 1)) stride (len - (i + 1))) ≡ lowest_bad values element (steps first stride len)
+  place_good e =
+      ap (λ (k : ℕ). lowest_bad values k (steps (first +ℤ stride *ℤ pos (i + 1)) stride (len - (i + 1))))
+      (let k : element + (i + 1) ≡ element + i + 1 = omega arith in k)
+      ∙ good-next values (element + i) _ (first +ℤ stride *ℤ pos i) _ (run-next first stride len i below) _ decides
+      (ap (λ (z : ℤ). is_bad (value_at values z)) (sym here) ∙ e)
+
+-- nothing bad is met to the end
+pub run-done : (values : List Float) (element : ℕ) (first stride : ℤ) (len i : ℕ) → len ≤ i
+    → lowest_bad values (element + i) (steps (first +ℤ stride *ℤ pos i) stride (len - i)) ≡ lowest_bad values element (steps first stride len)
+    → none_bad ≡ lowest_bad values element (steps first stride len)
+run-done values element first stride len i h e = sym (run-over values (element + i) (first +ℤ stride *ℤ pos i) stride len i h) ∙ e
+
 -- ---- runs from run j on: one, and those after it
 pub runs-cut : (z step stride : ℤ) (n count j : ℕ) → j < count
     → runs_places stride n (steps (z +ℤ step *ℤ pos j) step (count - j))
@@ -151,3 +168,49 @@ pub runs-over : (values : List Float) (k : ℕ) (z step stride : ℤ) (n count j
     → lowest_bad values k (runs_places stride n (steps z step (count - j))) ≡ none_bad
 unfolding lowest_bad runs_places
 runs-over values k z step stride n count j h = ap (λ (zs : List ℤ). lowest_bad values k (runs_places stride n zs)) (steps-none z step count j h)
+
+-- a chunk of n vectors from vector i on was looked at, with nothing bad before it
+module _ (values : List Float) (element : ℕ) (first stride : ℤ) (vectors i n : ℕ) (ends : i + n ≤ vectors) (at : ℤ) (here : at ≡ first +ℤ stride *ℤ pos (8 * i))
+    (decides : lowest_bad values (element + 8 * i) (steps (first +ℤ stride *ℤ pos (8 * i)) stride (8 * vectors - 8 * i))
+    ≡ lowest_bad values element (steps first stride (8 * vectors))) where
+  abbrev whole-chunks : SearchAnswer
+  whole-chunks = lowest_bad values element (steps first stride (8 * vectors))
+
+  abbrev chunk : List ℤ
+  chunk = steps (first +ℤ stride *ℤ pos (8 * i)) stride (8 * n)
+
+  -- the places after it
+  rest : List ℤ
+  rest = steps (first +ℤ stride *ℤ pos (8 * (i + n))) stride (8 * vectors - 8 * (i + n))
+
+  cut : steps (first +ℤ stride *ℤ pos (8 * i)) stride (8 * vectors - 8 * i) ≡ chunk ++ rest
+  unfolding rest
+  cut =
+      run-cut first stride (8 * vectors) (8 * i) (8 * n) (omega (arith, ends))
+      ∙ ap (λ (k : ℕ). chunk ++ steps (first +ℤ stride *ℤ pos k) stride (8 * vectors - k)) (let e : 8 * i + 8 * n ≡ 8 * (i + n) = omega arith in e)
+
+  of-chunk : lowest_bad values (element + 8 * i) (steps at stride (8 * n)) ≡ lowest_bad values (element + 8 * i) chunk
+  of-chunk = ap (λ (z : ℤ). lowest_bad values (element + 8 * i) (steps z stride (8 * n))) here
+
+  pub chunk_bad : (k : ℕ) (z : ℤ) → found k z ≡ lowest_bad values (element + 8 * i) (steps at stride (8 * n)) → found k z ≡ whole-chunks
+  chunk_bad k z e = met values (element + 8 * i) _ chunk rest cut whole-chunks decides k z (e ∙ of-chunk)
+
+  pub chunk_good : none_bad ≡ lowest_bad values (element + 8 * i) (steps at stride (8 * n))
+      → lowest_bad values (element + 8 * (i + n)) (steps (first +ℤ stride *ℤ pos (8 * (i + n))) stride (8 * vectors - 8 * (i + n))) ≡ whole-chunks
+  unfolding rest
+  chunk_good e =
+      ap (λ (k : ℕ). lowest_bad values k rest) (let q : element + 8 * (i + n) ≡ element + 8 * i + 8 * n = omega arith in q)
+      ∙ passed values (element + 8 * i) _ chunk rest cut whole-chunks decides (e ∙ of-chunk) (8 * n) (length-steps _ _ (8 * n))
+
+-- run j was looked at, with nothing bad before it
+module _ (values : List Float) (from : ℕ) (first step stride : ℤ) (len count j : ℕ) (below : j < count) (at : ℤ) (here : at ≡ first +ℤ step *ℤ pos j)
+    (whole : SearchAnswer) (decides : lowest_bad values from (runs_places stride len (steps (first +ℤ step *ℤ pos j) step (count - j))) ≡ whole) where
+  of-run : lowest_bad values from (steps at stride len) ≡ lowest_bad values from (steps (first +ℤ step *ℤ pos j) stride len)
+  of-run = ap (λ (z : ℤ). lowest_bad values from (steps z stride len)) here
+
+  pub run_bad : (k : ℕ) (z : ℤ) → found k z ≡ lowest_bad values from (steps at stride len) → found k z ≡ whole
+  run_bad k z e = met values from _ _ _ (runs-cut first step stride len count j below) whole decides k z (e ∙ of-run)
+
+  pub run_good : none_bad ≡ lowest_bad values from (steps at stride len)
+      → lowest_bad values (from + len) (runs_places stride len (steps (first +ℤ step *ℤ pos (j + 1)) step (count - (j + 1)))) ≡ whole
+  run_good e = passed values from _ _ _ (runs-cut first step stride len count j below) whole decides (e ∙ of-run) len (length-steps _ _ len)

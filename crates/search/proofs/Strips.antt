@@ -1,7 +1,6 @@
 -- The search over a range, strip by strip. Assumes nothing.
 use Prim.Native.Nat.{ℕ, ◌+◌, ◌-◌, ◌*◌, ◌≤◌, ◌<◌}
 use mathlib.Core.Path.{◌≡◌, sym, ◌∙◌, ap}
-use mathlib.Core.Bool.{true, false}
 use mathlib.Core.List.{List, ◌∷◌, ◌++◌}
 use native.Mathlib.Omega.{arith}
 use lib.IntN.{ℤ}
@@ -15,9 +14,7 @@ use Rattle.offsets.specs.Lists.{offsets_from}
 use Rattle.offsets.specs.Pieces.{run_of, outer_of}
 use Rattle.offsets.proofs.Writing.{offsets-append, length-offsets}
 use Rattle.offsets.proofs.Runs.{strip-places}
-use Rattle.search.specs.declared.Look.{Look}
-use Rattle.search.specs.Searching.{SearchAnswer, none_bad, lowest_bad}
-use Rattle.search.specs.InnerLooks.{look_answer}
+use Rattle.search.specs.Searching.{SearchAnswer, found, none_bad, lowest_bad}
 use Rattle.search.proofs.Looking.{met, passed}
 
 -- ---- the loop over the strips: the cursor stands at c.at while that is below the end, and what is left decides
@@ -42,10 +39,12 @@ module _ (l : FullTraversal) (base : ℤ) (values : List Float) (start end : ℕ
       }
 
   -- a strip was searched
-  module _ (c : RangeCursor) (w : Walked l base values start end c) (s : RangeStrip) (here : StripHere l base end c s) (r : Look)
-      (told : look_answer r ≡ lowest_bad values c.at (runs_places l.run_stride s.len (steps s.first s.step s.count))) where
+  module _ (c : RangeCursor) (w : Walked l base values start end c) (s : RangeStrip) (here : StripHere l base end c s) where
     abbrev m : ℕ
     m = s.count * s.len
+
+    abbrev told : SearchAnswer
+    told = lowest_bad values c.at (runs_places l.run_stride s.len (steps s.first s.step s.count))
 
     strip : List ℤ
     strip = offsets_from (run_of l ∷ outer_of l) base c.at m
@@ -59,14 +58,14 @@ module _ (l : FullTraversal) (base : ℤ) (values : List Float) (start end : ℕ
         ap (offsets_from (run_of l ∷ outer_of l) base c.at) (let k : end - c.at ≡ m + (end - (c.at + m)) = omega (arith, here.ends) in k)
         ∙ offsets-append (run_of l ∷ outer_of l) base c.at m (end - (c.at + m))
 
-    of-strip : look_answer r ≡ lowest_bad values c.at strip
+    of-strip : told ≡ lowest_bad values c.at strip
     unfolding strip
-    of-strip = told ∙ ap (lowest_bad values c.at) (strip-places l base end c s here)
+    of-strip = ap (lowest_bad values c.at) (strip-places l base end c s here)
 
-    pub walked-met : r.bad ≡ true → look_answer r ≡ whole
-    walked-met = met values c.at _ strip others cut whole w.rest r of-strip
+    pub walked-met : (k : ℕ) (z : ℤ) → found k z ≡ told → found k z ≡ whole
+    walked-met k z e = met values c.at _ strip others cut whole w.rest k z (e ∙ of-strip)
 
-    pub walked_more : r.bad ≡ false → Walked l base values start end s.next
+    pub walked_more : none_bad ≡ told → Walked l base values start end s.next
     unfolding strip others
     walked_more e =
         record {
@@ -74,7 +73,7 @@ module _ (l : FullTraversal) (base : ℤ) (values : List Float) (start end : ℕ
           cursor_is = here.next_cursor_is;
           rest =
               ap (λ (n : ℕ). lowest_bad values n (offsets_from (run_of l ∷ outer_of l) base n (end - n))) here.next_at
-              ∙ passed values c.at _ strip others cut whole w.rest r of-strip e m (length-offsets (run_of l ∷ outer_of l) base c.at m);
+              ∙ passed values c.at _ strip others cut whole w.rest (e ∙ of-strip) m (length-offsets (run_of l ∷ outer_of l) base c.at m);
         }
 
   pub walked_all : (c : RangeCursor) → Walked l base values start end c → end ≤ c.at → none_bad ≡ whole

@@ -1,11 +1,12 @@
 -- Rules S1 and C9: the first bad rate of a range.
-use Rattle.std.specs.Prelude.{ℕ, suc, ◌-◌, cond, List, [], ◌∷◌, length, eqb, ℤ, Float}
+use Rattle.std.specs.Prelude.{ℕ, suc, ◌-◌, cond, List, [], ◌∷◌, length, eqb, ℤ, Float, Option, Some, None, Result, Ok, Err}
+use Rattle.refusals.specs.declared.Refusal.{Refusal}
+use Rattle.refusals.specs.Codes.{number}
 use Rattle.layout.specs.Order.{axes_of}
 use Rattle.offsets.specs.Lists.{range_code, offsets_from}
 use Rattle.offsets.specs.Values.{value_at}
 use Rattle.floats.specs.Splitting.{is_bad}
-use Rattle.search.specs.declared.Search.{Search}
-use Rattle.search.specs.declared.Search.TheVariants as search
+use Rattle.search.specs.declared.BadRate.{BadRate}
 
 -- What a search tells: the element number and the offset of a bad rate, that there is none, or a refusal's number with nothing beside it.
 pub data SearchAnswer : Type 0 where
@@ -13,10 +14,10 @@ pub data SearchAnswer : Type 0 where
   none_bad : SearchAnswer
   refusal : ℕ → SearchAnswer
 
-abbrev pub search_answer_of : Search → SearchAnswer
-search_answer_of (search.Found b) = found b.element b.offset
-search_answer_of search.NoneBad = none_bad
-search_answer_of (search.Refused n) = refusal n
+abbrev pub search_answer_of : Result (Option BadRate) Refusal → SearchAnswer
+search_answer_of (Ok (Some b)) = found b.element b.offset
+search_answer_of (Ok None) = none_bad
+search_answer_of (Err r) = refusal (number r)
 
 -- rule S1, of elements k, k + 1 and so on with these offsets: the first whose value is bad
 unfoldable pub lowest_bad : List Float → ℕ → List ℤ → SearchAnswer

@@ -12,11 +12,14 @@ ghost use Rattle.offsets.specs.InnerCursors.{Bounded, Traversal};
 ghost use Rattle.offsets.specs.InnerLists.{steps, runs_places};
 ghost use Rattle.offsets.specs.Lists.{offsets_from};
 ghost use Rattle.offsets.specs.Pieces.{run_of, outer_of};
-ghost use Rattle.search.specs.Searching.{none_bad, lowest_bad, search_of, search_answer_of};
+ghost use Rattle.search.specs.Searching.{lowest_bad, search_of, search_answer_of};
 ghost use Rattle.search.specs.InnerLooks.{look_answer};
 
 use accumulator::StableProductFloatAcc;
 use layout::traversal::FullTraversal;
+use refusals::Refusal;
+use std::ops::ControlFlow;
+use std::ops::ControlFlow::{Break, Continue};
 use vectors::vector::{Vector, Waiting};
 
 const LANES: usize = StableProductFloatAcc::LANES;
@@ -34,36 +37,11 @@ pub struct BadRate {
     pub offset: i64,
 }
 
-// The first bad rate of a range, or that it has none, or the number of a refusal.
-#[derive(Clone, Copy)]
-pub enum Search {
-    Found(BadRate),
-    NoneBad,
-    Refused(u32),
-}
-
-// What some values hold: a bad rate, the first of them, or none; and whether those after them are tested by their squares.
-#[derive(Clone, Copy)]
-pub struct Look {
-    pub bad: bool,
-    pub element: u64,
-    pub offset: i64,
-    pub signs: bool,
-}
-
-fn none_bad(signs: bool) -> Look
-    ensures { look_answer result ≡ none_bad }
-{
-    Look {
-        bad: false,
-        element: 0,
-        offset: 0,
-        signs,
-    }
-}
+// What some values hold: a bad rate, the first of them, at which the search breaks off; or none, and whether those after them are tested by their squares.
+pub type Look = ControlFlow<BadRate, bool>;
 
 // If so, none of the values of these vectors is bad: lanes that begin as 0 are still 0, and not a NaN, so none is infinite or a NaN; and no value, or with
-// `signs` no square, is too low. Otherwise one may be.
+// `signs` no square, is too low. Otherwise one may be. Whether it is by squares is found out on the way, so it is a value, and no type or closure.
 fn passes(values: &[f64], first: i64, stride: i64, eight: i64, vectors: usize, signs: bool) -> bool
     requires { EightApart stride (8 * vectors) eight × PlacesInside (length values.now) first stride (8 * vectors) }
     ensures { result ≡ true → some is_bad (strided values.now first stride (8 * vectors)) ≡ false }
@@ -85,25 +63,18 @@ fn look_closer(values: &[f64], element: u64, first: i64, stride: i64, len: usize
     ensures { look_answer result ≡ lowest_bad values.now element (steps first stride len) }
 {
     let mut at = first;
-    let mut i: usize = 0;
-    while i < len {
-        let index = at as usize;
-        let x = values[index];
-        if floats::is_bad(x) {
-            let number = element + i as u64;
-            return Look {
-                bad: true,
-                element: number,
+    for i in 0..len {
+        if floats::is_bad(values[at as usize]) {
+            return Break(BadRate {
+                element: element + i as u64,
                 offset: at,
-                signs: true,
-            };
+            });
         }
-        i += 1;
-        if i < len {
+        if i + 1 < len {
             at += stride;
         }
     }
-    none_bad(true)
+    Continue(true)
 }
 
 // Vectors tested together, and looked at value by value where the test fails. It may have failed for signs: those after them are tested by squares.
@@ -121,7 +92,7 @@ fn first_in_chunk(
     ensures { look_answer result ≡ lowest_bad values.now element (steps first stride (8 * vectors)) }
 {
     if passes(values, first, stride, eight, vectors, signs) {
-        return none_bad(signs);
+        return Continue(signs);
     }
     look_closer(values, element, first, stride, LANES * vectors)
 }
@@ -143,28 +114,16 @@ fn first_in_vectors(
     let apart = vectors::vector::far_stride(stride, LANES * CHUNK, LANES * vectors);
     let mut signs = signs;
     let mut at = first;
-    let mut i: usize = 0;
-    while i < vectors {
-        let n = integers::min_usize(CHUNK, vectors - i);
-        let r = first_in_chunk(
-            values,
-            element + (LANES * i) as u64,
-            at,
-            stride,
-            eight,
-            n,
-            signs,
-        );
-        if r.bad {
-            return r;
-        }
-        signs = r.signs;
-        i += n;
-        if i < vectors {
+    for i in (0..vectors).step_by(CHUNK) {
+        let left = vectors - i;
+        let n = left.min(CHUNK);
+        let from = element + (LANES * i) as u64;
+        signs = first_in_chunk(values, from, at, stride, eight, n, signs)?;
+        if n < left {
             at += apart;
         }
     }
-    none_bad(signs)
+    Continue(signs)
 }
 
 // A run: whole vectors, and the values that are left, one by one.
@@ -181,18 +140,13 @@ fn first_in_run(
 {
     let vectors = len / LANES;
     let eight = vectors::vector::far_stride(stride, LANES, len);
-    let r = first_in_vectors(values, element, first, stride, eight, vectors, signs);
-    if r.bad {
-        return r;
+    let signs = first_in_vectors(values, element, first, stride, eight, vectors, signs)?;
+    if len % LANES != 0 {
+        let done = LANES * vectors;
+        let at = first + vectors::vector::far_stride(stride, done, len);
+        look_closer(values, element + done as u64, at, stride, len % LANES)?;
     }
-    if len % LANES == 0 {
-        return r;
-    }
-    let done = LANES * vectors;
-    let at = first + vectors::vector::far_stride(stride, done, len);
-    let mut q = look_closer(values, element + done as u64, at, stride, len % LANES);
-    q.signs = r.signs;
-    q
+    Continue(signs)
 }
 
 // `count` runs of `len` values that begin `step` apart, one after another. No place past the last run's is formed.
@@ -213,20 +167,14 @@ fn first_in_strip(
     let mut signs = signs;
     let mut from = element;
     let mut at = first;
-    let mut j: u64 = 0;
-    while j < count {
-        let r = first_in_run(values, from, at, stride, len, signs);
-        if r.bad {
-            return r;
-        }
-        signs = r.signs;
+    for j in 0..count {
+        signs = first_in_run(values, from, at, stride, len, signs)?;
         from += len as u64;
-        j += 1;
-        if j < count {
+        if j + 1 < count {
             at += step;
         }
     }
-    none_bad(signs)
+    Continue(signs)
 }
 
 // Elements start to end - 1, strip by strip.
@@ -238,9 +186,10 @@ fn first_in_range(l: FullTraversal, base: i64, start: u64, end: u64, values: &[f
     let stride = l.run_stride;
     let mut signs = false;
     let mut c = offsets::pieces::begin(l, base, start);
+    // Each strip hands on the cursor of the next, so no range counts them.
     while c.at < end {
         let s = offsets::pieces::next_strip(l, end, c);
-        let r = first_in_strip(
+        signs = first_in_strip(
             values,
             c.at,
             s.first,
@@ -249,14 +198,10 @@ fn first_in_range(l: FullTraversal, base: i64, start: u64, end: u64, values: &[f
             s.len as usize,
             s.count,
             signs,
-        );
-        if r.bad {
-            return r;
-        }
-        signs = r.signs;
+        )?;
         c = s.next;
     }
-    none_bad(signs)
+    Continue(signs)
 }
 
 // The lowest of elements start to end - 1 of a layout whose value is bad, with its offset; or that there is none; or one of refusals 1 to 7.
@@ -267,30 +212,11 @@ pub fn first_bad_rate(
     start: u64,
     end: u64,
     values: &[f64],
-) -> Search
+) -> Result<Option<BadRate>, Refusal>
     ensures { search_answer_of result ≡ search_of sizes.now strides.now base start end values.now }
 {
     let length = values.len() as u64;
-    let compiled = FullTraversal::compile(sizes, strides);
-    let code = offsets::list::range_code(
-        compiled.code,
-        compiled.traversal.total,
-        sizes,
-        strides,
-        base,
-        start,
-        end,
-        length,
-    );
-    if code != 0 {
-        return Search::Refused(code);
-    }
-    let r = first_in_range(compiled.traversal, base, start, end, values);
-    if r.bad {
-        return Search::Found(BadRate {
-            element: r.element,
-            offset: r.offset,
-        });
-    }
-    Search::NoneBad
+    let l = FullTraversal::compile(sizes, strides)?;
+    offsets::list::check_range(l.total, sizes, strides, base, start, end, length)?;
+    Ok(first_in_range(l, base, start, end, values).break_value())
 }

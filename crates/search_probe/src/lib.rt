@@ -6,8 +6,6 @@ ghost use Rattle.std.specs.Prelude.{◌≡◌};
 ghost use Rattle.search.specs.Searching.{search_of};
 ghost use Rattle.search_probe.specs.Answers.{search_code, found_given, element_given, offset_given};
 
-use search::Search;
-
 // 0 with whether a rate is bad in found, and the first in element and offset if so; or the number of a refusal with nothing written.
 #[unsafe(no_mangle)]
 pub extern "C" fn probe_first(
@@ -29,19 +27,17 @@ pub extern "C" fn probe_first(
     ensures offset_after { offset.new
         ≡ offset_given offset.old (search_of sizes.now strides.now base start end values.now) }
 {
-    let answer = search::first_bad_rate(sizes, strides, base, start, end, values);
-    match answer {
-        Search::Found(b) => {
-            let place = b.offset;
+    match search::first_bad_rate(sizes, strides, base, start, end, values) {
+        Ok(Some(b)) => {
             *found = true;
             *element = b.element;
-            *offset = place;
+            *offset = b.offset;
             0
         }
-        Search::NoneBad => {
+        Ok(None) => {
             *found = false;
             0
         }
-        Search::Refused(n) => n,
+        Err(refusal) => u32::from(refusal),
     }
 }

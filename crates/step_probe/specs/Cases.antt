@@ -3,8 +3,7 @@ use Rattle.std.specs.Prelude.{ℕ, ◌≡◌, Bool, true, false, pos}
 use Rattle.std.specs.Float.{fin}
 use Rattle.accumulator.specs.Joining.{identity_acc}
 use Rattle.bookmarks.specs.declared.Bookmark.{Bookmark}
-use Rattle.bookmarks.specs.declared.Step.{Step}
-use Rattle.bookmarks.specs.declared.Step.TheVariants.{Done, More, Refused}
+use Rattle.bookmarks.specs.Steps.{StepAnswer, Done, More, Refused}
 use Rattle.step_probe.specs.Answers.{bookmark_of, code_handed, mark_handed, pieces_handed, done_handed}
 
 -- 3.0 with exponent 5, bad, at element 8: no accumulator that a call gives
@@ -12,7 +11,7 @@ abbrev pub before : Bookmark
 before = bookmark_of 8 (fin false 3 (pos 0)) (pos 5) true
 
 -- the code, and what stands in the places, where before 9 and a truth value stood
-abbrev pub HandedStep : Step → Bool → ℕ → Bookmark → ℕ → Bool → Type 0
+abbrev pub HandedStep : StepAnswer → Bool → ℕ → Bookmark → ℕ → Bool → Type 0
 HandedStep answer was code mark k done =
     (code_handed answer ≡ code) × (mark_handed before answer ≡ mark) × (pieces_handed 9 answer ≡ k) × (done_handed was answer ≡ done)
 

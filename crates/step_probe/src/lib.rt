@@ -39,35 +39,31 @@ pub extern "C" fn probe_step(
         ≡ done_handed done.old (step_of sizes.now strides.now base start end values.now
         (bookmark_of next.old m.old e.old bad.old) n) }
 {
-    let given = *e;
     let acc = StableProductFloatAcc {
         m: *m,
-        e: given,
+        e: *e,
         bad: *bad,
     };
     let mark = Bookmark { next: *next, acc };
-    let answer = bookmarks::reduce_step(sizes, strides, base, start, end, values, mark, n);
-    match answer {
-        Step::Done(a, worked) => {
-            let exponent = a.e;
+    match bookmarks::reduce_step(sizes, strides, base, start, end, values, mark, n) {
+        Ok(Step::Done(a, worked)) => {
             *m = a.m;
-            *e = exponent;
+            *e = a.e;
             *bad = a.bad;
             *pieces = worked;
             *done = true;
             0
         }
-        Step::More(to, worked) => {
+        Ok(Step::More(to, worked)) => {
             let a = to.acc;
-            let exponent = a.e;
             *next = to.next;
             *m = a.m;
-            *e = exponent;
+            *e = a.e;
             *bad = a.bad;
             *pieces = worked;
             *done = false;
             0
         }
-        Step::Refused(code) => code,
+        Err(refusal) => u32::from(refusal),
     }
 }

@@ -111,9 +111,6 @@ module _ (xs : List Float) (r : Lanes) (F : LanesAfter start_lanes xs r) where
   mark : r.bad ≡ some is_bad xs
   mark = F.mark (replicate 8 (unit 52)) represent-start
 
-  pub fed-eight : length r.m ≡ 8
-  fed-eight = represent.m_long
-
   -- a lane's exponent is its factor's
   lane-exponent : (k : ℕ) → k < 8 → e_of r k ≡ (get_or (lanes 52 (map rate_factor xs)) k (unit 52)).exp
   lane-exponent k i =

@@ -15,3 +15,4 @@ pub mod Shorts
 pub mod Trying
 pub mod Stepping
 pub mod Parting
+pub mod Folds

@@ -1,13 +1,13 @@
--- The steps of a piece: vectors that are guarded, vectors that waited, and one step after another. Assumes nothing.
+-- The steps of a piece: vectors that are guarded, and one step after another. Assumes nothing.
 use Prim.Native.Nat.{ℕ, suc, ◌+◌, ◌-◌, ◌*◌, ◌/◌, ◌%◌, ◌^◌, ◌≤◌, ◌<◌, min}
 use mathlib.Core.Path.{◌≡◌, refl, sym, ◌∙◌, subst}
 use mathlib.Core.Bool.{Bool, true, false, ◌||◌}
-use mathlib.Core.List.{List, [], ◌++◌}
-use native.Mathlib.Nat.{le_refl, le_of_lt}
+use mathlib.Core.List.{List, ◌++◌}
+use native.Mathlib.Nat.{le_of_lt}
 use native.Mathlib.Omega.{arith}
 use lib.ListN.{length, get_or}
 use lib.IntN.{ℤ, pos, ◌+ℤ◌, ◌*ℤ◌}
-use lib.Dec.{T, ltb, lit≤}
+use lib.Dec.{T, ltb}
 use lib.Ieee.{Float, nan, binary64, fits}
 use borrow.Author.Tests.{ltb-true, ltb-false}
 use Rattle.floats.proofs.Splitting.{farthest}
@@ -15,18 +15,16 @@ use Rattle.kernels.specs.declared.lanes.Lanes.{Lanes}
 use Rattle.laws.specs.Lists.{Each}
 use Rattle.kernels.specs.Lanes.{every}
 use Rattle.kernels.specs.InnerStrided.{strided}
-use Rattle.floats.specs.Factor.{unit}
-use Rattle.kernels.specs.Blocks.{start_lanes, m_of, e_of, renorm}
-use Rattle.kernels.proofs.Standing.{represents-other}
-use Rattle.kernels.specs.InnerLanes.{SmallLanes, LanesAfter, plain_after}
+use Rattle.kernels.specs.Blocks.{start_lanes, renorm}
+use Rattle.kernels.specs.InnerLanes.{SmallLanes, LanesAfter}
 use Rattle.kernels.proofs.Striding.{length-strided, strided-values, strided-append}
 use Rattle.kernels.proofs.LaneSizes.{lanes-le}
-use Rattle.kernels.proofs.Blocking.{Value, renorm-represent, renorm-mark}
+use Rattle.kernels.proofs.Blocking.{Value}
 use Rattle.vectors.specs.InnerWaiting.{vector_of, padded, not_past, guarded}
 use Rattle.vectors.specs.InnerSteps.{NotYetNormalised}
 use Rattle.vectors.proofs.Vectors.{vector-padded, vector-long, next-whole, next_last}
 use Rattle.vectors.proofs.Mixed.{Mixed, mixed-none, mixed-more, mixed-fed, mixed-whole}
-use Rattle.vectors.proofs.Feds.{fed-append, fed-pad, fed-none}
+use Rattle.vectors.proofs.Feds.{fed-append, fed-pad}
 use Rattle.vectors.proofs.Shorts.{padded-values}
 
 -- ---- vectors of a piece of n values, the last with 1.0 after its values
@@ -96,14 +94,3 @@ fed-step xs b d i n s r e F G =
     subst (λ (ys : List Float). LanesAfter start_lanes ys r) (sym (strided-append xs b d i n))
     (fed-append start_lanes s r (strided xs b d i) (strided xs (b +ℤ d *ℤ pos i) d n) (i / 8)
     (length-strided xs b d i ∙ (let z : i ≡ 8 * (i / 8) = omega arith in z)) F G)
-
--- lanes that are brought back already stay as they are
-pub unmoved : (s : Lanes) → SmallLanes (2 ^ 56) s → NotYetNormalised s [] s
-unmoved s h = record {
-  fed = record {
-    represent = λ fs H. renorm-represent 0 (lit≤ tt) (plain_after fs []) (λ (k : ℕ). 0) s (λ k i. le_refl 0) ((fed-none s).represent fs H);
-    mark = λ fs H. renorm-mark s ∙ (fed-none s).mark fs H;
-  };
-  small = lanes-le (2 ^ 56) (2 ^ 59) s (lit≤ tt) h;
-  whole = λ fs H k i. represents-other 0 (m_of s k) (e_of s k) (get_or fs k (unit 52)) (lit≤ tt) (H.at k i);
-}

@@ -79,14 +79,6 @@ wait-again signs i w x =
     record { m = set w.m k (product_of 11 52 (get_or w.m k nan) x); least = set w.least k (lesser (measure signs x) (get_or w.least k nan)) })
     (lane-again i)
 
-pub wait-m-long : (signs : Bool) (i : ℕ) (w : Waiting) (xs : List Float) → length (feed (wait_step signs) i w xs).m ≡ length w.m
-unfolding wait_step
-wait-m-long signs i w xs = feed-holds (wait_step signs) (λ (t : Waiting). length t.m ≡ length w.m) (λ i t x h. simp length-set h) i w xs refl
-
-pub wait-least-long : (signs : Bool) (i : ℕ) (w : Waiting) (xs : List Float) → length (feed (wait_step signs) i w xs).least ≡ length w.least
-unfolding wait_step
-wait-least-long signs i w xs = feed-holds (wait_step signs) (λ (t : Waiting). length t.least ≡ length w.least) (λ i t x h. simp length-set h) i w xs refl
-
 -- ---- a piece that is vectors and then fewer than eight values
 module _ (xs : List Float) (s d : ℤ) (n : ℕ) where
   -- no value is left

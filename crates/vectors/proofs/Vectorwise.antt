@@ -1,5 +1,5 @@
 -- Places of values a stride apart, comparisons, and a vector and its lanes, as the code has them. Assumes nothing.
-use Prim.Native.Nat.{ℕ, ◌+◌, ◌^◌, ◌≤◌, ◌<◌}
+use Prim.Native.Nat.{ℕ, ◌+◌, ◌^◌, ◌≤◌, ◌<◌, min}
 use mathlib.Core.Path.{◌≡◌, refl, sym, ap, ◌∙◌}
 use mathlib.Core.Bool.{Bool, true, false, not, cond, ◌&&◌}
 use mathlib.Core.List.{List, []}
@@ -9,14 +9,14 @@ use lib.ListN.{length, get_or, set}
 use lib.IntN.{ℤ, pos, nat_abs, ◌+ℤ◌, ◌*ℤ◌}
 use lib.Dec.{T}
 use lib.Signed.{non_neg, ◌≤ℤ◌, ◌<ℤ◌}
-use lib.Ieee.{Float, nan, lt, le, eq, neg, mul, binary64, of_bits}
-use mir.Val.{SFits}
+use lib.Ieee.{Float, nan, lt, le, neg, mul, binary64, of_bits}
+use mir.Val.{SFits, to_z, of_z}
 use mir.Syntax.{w64}
+use mir.ValLaws.{to_z-of_z}
 use Rattle.integers.specs.InnerPlaces.{PlacesFit}
 use Rattle.integers.proofs.Difference.{ints, atoms}
 use Rattle.integers.proofs.Places.{fit-later}
 use Rattle.floats.specs.Product.{product_of}
-use Rattle.floats.specs.InnerKinds.{ZERO}
 use Rattle.floats.proofs.Product.{mul-binary64}
 use Rattle.kernels.specs.declared.lanes.Lanes.{Lanes}
 use Rattle.kernels.specs.Lanes.{feed}
@@ -25,8 +25,8 @@ use Rattle.kernels.specs.InnerStrided.{strided, PlacesInside}
 use Rattle.kernels.proofs.Feeding.{feed-append}
 use Rattle.kernels.proofs.Striding.{length-strided, first-natural, first_below, strided-append, inside-part}
 use Rattle.vectors.specs.declared.vector.Waiting.{Waiting}
-use Rattle.vectors.specs.InnerWaiting.{one, vector_of, put, lesser, measure, wait_step, least_of, not_below, MOST, not_past, guarded}
-use Rattle.vectors.specs.InnerWaiting.{magnitude, magnitude_but, magnitude_at, least_magnitude, not_low, LOWEST}
+use Rattle.vectors.specs.InnerWaiting.{vector_of, put, lesser, measure, wait_step, least_of, not_below, MOST, not_past, guarded}
+use Rattle.vectors.specs.InnerWaiting.{magnitude_at, least_magnitude, not_low, LOWEST}
 
 module _ (len : ℕ) (s t : ℤ) (n : ℕ) (h : PlacesInside len s t n) (a : ℕ) (l : a < n) (m : len < 2 ^ 63) where
   -- a place, in i64
@@ -59,25 +59,11 @@ module _ (len : ℕ) (s t : ℤ) (n : ℕ) (h : PlacesInside len s t n) (a : ℕ
 pub fits-from : (len : ℕ) (s t : ℤ) (n : ℕ) → PlacesInside len s t n → len < 2 ^ 63 → (at : ℤ) (j m : ℕ) → at ≡ s +ℤ t *ℤ pos j → j + m ≤ n → PlacesFit at t m
 fits-from len s t n h m at j k e l = fit-later s t at n j k e l (λ i b. place-fits len s t n h i b m)
 
+-- what is required of places, of the numbers as the code holds them
+pub inside-held : (len : ℕ) (s t : ℤ) (n : ℕ) → SFits w64 s → SFits w64 t → PlacesInside len s t n → PlacesInside len (to_z w64 (of_z w64 s)) (to_z w64 (of_z w64 t)) n
+inside-held len s t n p q h = simp (to_z-of_z w64 s p, to_z-of_z w64 t q) h
+
 -- ---- comparisons
-pub lesser-first : (x y : Float) → lt x y ≡ true → x ≡ lesser x y
-lesser-first x y h = sym (ap (λ (t : Bool). cond t x y) h)
-
-pub lesser-second : (x y : Float) → lt x y ≡ false → y ≡ lesser x y
-lesser-second x y h = sym (ap (λ (t : Bool). cond t x y) h)
-
-pub magnitude-minus : (x : Float) → lt x (neg x) ≡ true → neg x ≡ magnitude x
-magnitude-minus x h = sym (ap (λ (t : Bool). cond t (neg x) x) h)
-
-pub magnitude-plus : (x : Float) → lt x (neg x) ≡ false → x ≡ magnitude x
-magnitude-plus x h = sym (ap (λ (t : Bool). cond t (neg x) x) h)
-
-pub magnitude-over : (over : Bool) (x : Float) → (over && eq x ZERO) ≡ true → one ≡ magnitude_but over x
-magnitude-over over x h = sym (ap (λ (t : Bool). cond t one (magnitude x)) h)
-
-pub magnitude-own : (over : Bool) (x r : Float) → (over && eq x ZERO) ≡ false → r ≡ magnitude x → r ≡ magnitude_but over x
-magnitude-own over x r h e = e ∙ sym (ap (λ (t : Bool). cond t one (magnitude x)) h)
-
 pub lessers : (x y a b r : Float) → a ≡ x → b ≡ y → r ≡ lesser a b → r ≡ lesser x y
 lessers x y a b r p q e = e ∙ ap (λ (z : Float). lesser z b) p ∙ ap (lesser x) q
 
@@ -155,6 +141,19 @@ vector-more xs s t k v place p e =
   where
     x : Float
     x = get_or xs (nat_abs (s +ℤ t *ℤ pos k)) nan
+
+-- lane k of n values: the next value is taken, or there is none
+module _ (xs : List Float) (s t : ℤ) (n k : ℕ) (v : List Float) (p : v ≡ vector_of (strided xs s t (min k n))) where
+  abbrev of : ℕ → List Float
+  of j = vector_of (strided xs s t j)
+
+  pub lane-taken : (place : ℤ) → place ≡ s +ℤ t *ℤ pos k → k < n → set v k (get_or xs (nat_abs place) nan) ≡ vector_of (strided xs s t (min (k + 1) n))
+  lane-taken place e l =
+      vector-more xs s t k v place (p ∙ ap of (let m : min k n ≡ k = omega arith in m)) e
+      ∙ ap of (let m : k + 1 ≡ min (k + 1) n = omega arith in m)
+
+  pub lane-passed : n ≤ k → v ≡ vector_of (strided xs s t (min (k + 1) n))
+  lane-passed l = p ∙ ap of (let m : min k n ≡ min (k + 1) n = omega arith in m)
 
 -- ---- a vector by its test
 module _ (all : Bool) (s : Lanes) (vector : List Float) where

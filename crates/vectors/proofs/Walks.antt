@@ -18,7 +18,7 @@ use Rattle.vectors.specs.declared.vector.Waiting.{Waiting}
 use Rattle.vectors.specs.InnerWaiting.{vector_of, wait_step, padded}
 use Rattle.vectors.specs.InnerVectors.{last_vector}
 use Rattle.vectors.proofs.Vectorwise.{fits-from}
-use Rattle.vectors.proofs.Vectors.{vectors-then, vectors-more, wait-again, wait-m-long, wait-least-long, rest-padded}
+use Rattle.vectors.proofs.Vectors.{vectors-then, vectors-more, wait-again, rest-padded}
 
 -- of v vectors `left` are left: t has the others, the last of which is at `at`; the next is at `next`, if there is one
 pub record Walk (signs : Bool) (w : Waiting) (xs : List Float) (s d : ℤ) (v : ℕ) (t : Waiting) (at next : ℤ) (left : ℕ) : Type 0 where
@@ -38,12 +38,6 @@ module _ (signs : Bool) (w : Waiting) (xs : List Float) (s d : ℤ) (v : ℕ) wh
   }
 
   module _ (t : Waiting) (at next : ℤ) (left : ℕ) (W : Walk signs w xs s d v t at next left) where
-    pub walk-m-long : length w.m ≡ 8 → length t.m ≡ 8
-    walk-m-long h = ap (λ (u : Waiting). length u.m) W.fed ∙ wait-m-long signs 0 w _ ∙ h
-
-    pub walk-least-long : length w.least ≡ 8 → length t.least ≡ 8
-    walk-least-long h = ap (λ (u : Waiting). length u.least) W.fed ∙ wait-least-long signs 0 w _ ∙ h
-
     -- the next vector lies inside, and its place and those of the vectors behind it fit
     pub walk_inside : 0 < left → PlacesInside (length xs) s d (8 * v) → PlacesInside (length xs) next d 8
     walk_inside l h =

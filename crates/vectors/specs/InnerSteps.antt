@@ -12,11 +12,11 @@ pub record NotYetNormalised (s : Lanes) (xs : List Float) (r : Lanes) : Type 0 w
   pub small : SmallLanes (2 ^ 59) r
   pub whole : (fs : List Factor) → LanesRepresent zeros s fs → NoneSubnormal r
 
--- How many values a step took of those that are left: whole vectors or all of them, and none only if a try failed.
-pub record Progress (left hold done : ℕ) : Type 0 where
+-- How many values a step took of those that are left: whole vectors or all of them, and some if any are left.
+pub record Progress (left done : ℕ) : Type 0 where
   pub upto : done ≤ left
   pub vectors : (done % 8 ≡ 0) ⊎ (done ≡ left)
-  pub moves : 0 < left → done ≡ 0 → hold ≡ 0
+  pub moves : 0 < left → 0 < done
 
 -- A try whose values lie from 2^-depth on: so many vectors of them, multiplied into lanes in [1, 2), stay normal.
 pub record SoundTry (y : Try) : Type 0 where

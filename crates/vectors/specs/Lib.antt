@@ -4,3 +4,4 @@ pub mod InnerSteps
 pub mod InnerWaiting
 pub mod InnerShort
 pub mod InnerMarked
+pub mod InnerSplits

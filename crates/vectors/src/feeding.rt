@@ -1,5 +1,5 @@
 // The lanes of a piece, many vectors at a time.
-ghost use Rattle.std.specs.Prelude.{◌≡◌, ◌⊎◌, ◌||◌, true, ◌*◌, ◌^◌, ◌≤◌, ◌<◌, length};
+ghost use Rattle.std.specs.Prelude.{◌≡◌, IfSome, IfNone, ◌||◌, true, false, ◌*◌, ◌^◌, ◌≤◌, ◌<◌, length};
 ghost use Rattle.kernels.specs.Lanes.{every};
 ghost use Rattle.kernels.specs.InnerLanes.{SmallLanes, LanesAfter};
 ghost use Rattle.kernels.specs.InnerStrided.{strided, PlacesInside};
@@ -21,7 +21,7 @@ const HOLD: usize = 16;
 
 const LAST_WAY: usize = 5;
 
-// Lanes that wait to be brought back, how many values went to them, and where the last vector of these begins; the first place, if there was none.
+// Lanes that wait to be brought back, how many values went to them, and where the last vector of these begins.
 #[derive(Clone, Copy)]
 pub struct Step {
     pub lanes: Lanes,
@@ -37,6 +37,7 @@ pub struct Try {
     pub most: usize,
 }
 
+// A way is a number, and no enum, since ways are places in an order: the next is one more.
 // Which way is tried next, and how many steps are guarded before; whether the way before it is tried if it works, and whether it failed once here.
 #[derive(Clone, Copy)]
 pub struct Pace {
@@ -46,54 +47,53 @@ pub struct Pace {
     pub again: bool,
 }
 
+fn by_values(depth: usize, most: usize) -> Try
+    ensures { result ≡ record { signs = false; depth = depth; most = most } }
+{
+    Try {
+        signs: false,
+        depth,
+        most,
+    }
+}
+
+fn by_squares(depth: usize, most: usize) -> Try
+    ensures { result ≡ record { signs = true; depth = depth; most = most } }
+{
+    Try {
+        signs: true,
+        depth,
+        most,
+    }
+}
+
 // By the values themselves: keep rates, any but low ones, low or large ones. Then by squares, where signs may be mixed: any but low ones, low or large
 // ones, and as low as the source has it.
 fn try_at(way: usize) -> Try
     ensures { SoundTry result }
 {
-    let signs = 2 < way;
-    if way == 0 {
-        return Try {
-            signs,
-            depth: 3,
-            most: 256,
-        };
-    }
-    if way == LAST_WAY {
-        return Try {
-            signs,
-            depth: 120,
-            most: 8,
-        };
-    }
-    if way % 2 == 0 {
-        return Try {
-            signs,
-            depth: 24,
-            most: 40,
-        };
-    }
-    if way == 3 {
-        return Try {
-            signs,
-            depth: 7,
-            most: 128,
-        };
-    }
-    Try {
-        signs,
-        depth: 15,
-        most: 64,
+    match way {
+        0 => by_values(3, 256),
+        1 => by_values(15, 64),
+        2 => by_values(24, 40),
+        3 => by_squares(7, 128),
+        4 => by_squares(24, 40),
+        _ => by_squares(120, 8),
     }
 }
 
-// Values that wait. They count only if none was too low and no lane is infinite or a NaN; else nothing is done.
-fn tried(s: Lanes, values: &[f64], start: i64, stride: i64, eight: i64, len: usize, y: Try) -> Step
-    requires { SmallLanes (2 ^ 56) s × (length s.m ≡ 8) × SoundTry y × (len ≤ 8 * y.most) × EightApart stride len eight
-        × PlacesInside (length values.now) start stride len }
-    ensures not_yet_normalised { NotYetNormalised s (strided values.now start stride result.done) result.lanes }
-    ensures done { (result.done ≡ len) ⊎ (result.done ≡ 0) }
-    ensures at { result.at ≡ last_vector start stride result.done }
+// Values that wait. They count only if none was too low and no lane is infinite or a NaN.
+fn tried(
+    s: Lanes,
+    values: &[f64],
+    start: i64,
+    stride: i64,
+    eight: i64,
+    len: usize,
+    y: Try,
+) -> Option<Step>
+    requires { SmallLanes (2 ^ 56) s × SoundTry y × (len ≤ 8 * y.most) × EightApart stride len eight × PlacesInside (length values.now) start stride len }
+    ensures { IfSome result (λ t. NotYetNormalised s (strided values.now start stride len) t.lanes × (t.done ≡ len) × (t.at ≡ last_vector start stride len)) }
 {
     let r = crate::unsplit::wait_values(
         crate::unsplit::start_waiting(s),
@@ -111,17 +111,13 @@ fn tried(s: Lanes, values: &[f64], start: i64, stride: i64, eight: i64, len: usi
         let m = w.m;
         let e = s.e;
         let bad = s.bad;
-        return Step {
+        return Some(Step {
             lanes: Lanes { m, e, bad },
             done: len,
             at: r.at,
-        };
+        });
     }
-    Step {
-        lanes: s,
-        done: 0,
-        at: start,
-    }
+    None
 }
 
 // Up to 256 values, a vector split where it must be, or all of them. Unless all are, the lanes count only if none is infinite or a NaN.
@@ -135,9 +131,8 @@ fn vectors_in(
     len: usize,
     all: bool,
 ) -> Step
-    requires { SmallLanes (2 ^ 56) s × (length s.m ≡ 8) × (len ≤ 256) × EightApart stride len eight × PlacesInside (length values.now) start stride len }
+    requires { SmallLanes (2 ^ 56) s × (len ≤ 256) × EightApart stride len eight × PlacesInside (length values.now) start stride len }
     ensures not_yet_normalised { (all || every not_past result.lanes.m) ≡ true → NotYetNormalised s (strided values.now start stride len) result.lanes }
-    ensures long { length result.lanes.m ≡ 8 }
     ensures at { (result.done ≡ len) × (result.at ≡ last_vector start stride len) }
 {
     let vectors = (len + 7) / LANES;
@@ -145,15 +140,13 @@ fn vectors_in(
     let mut e = s.e;
     let mut bad = s.bad;
     let mut at = start;
-    let mut i: usize = 0;
-    while i < vectors {
+    for i in 0..vectors {
         let vector = crate::vector::some_vector(values, at, stride, len - LANES * i);
         let t = crate::vector::guarded_vector(Lanes { m, e, bad }, vector, all);
         m = t.m;
         e = t.e;
         bad = t.bad;
-        i += 1;
-        at = integers::next_place(at, eight, vectors - i);
+        at = integers::next_place(at, eight, vectors - 1 - i);
     }
     Step {
         lanes: Lanes { m, e, bad },
@@ -164,26 +157,17 @@ fn vectors_in(
 
 // Up to 256 values. If a lane ends infinite or a NaN, they are done again, every vector split.
 fn guarded(s: Lanes, values: &[f64], start: i64, stride: i64, eight: i64, len: usize) -> Step
-    requires { SmallLanes (2 ^ 56) s × (length s.m ≡ 8) × (len ≤ 256) × EightApart stride len eight × PlacesInside (length values.now) start stride len }
+    requires { SmallLanes (2 ^ 56) s × (len ≤ 256) × EightApart stride len eight × PlacesInside (length values.now) start stride len }
     ensures not_yet_normalised { NotYetNormalised s (strided values.now start stride len) result.lanes }
     ensures at { (result.done ≡ len) × (result.at ≡ last_vector start stride len) }
 {
-    let mut t = Step {
-        lanes: s,
-        done: 0,
-        at: start,
-    };
-    let mut turn: usize = 0;
-    while turn < 2 {
-        t = vectors_in(s, values, start, stride, eight, len, turn == 1);
-        turn += 1;
-        let lanes = t.lanes;
-        let v = lanes.m;
-        if crate::vector::none_past(Vector { v }) {
-            turn = 2;
-        }
+    let t = vectors_in(s, values, start, stride, eight, len, false);
+    let lanes = t.lanes;
+    let v = lanes.m;
+    if crate::vector::none_past(Vector { v }) {
+        return t;
     }
-    t
+    vectors_in(s, values, start, stride, eight, len, true)
 }
 
 // The next values of a piece: a try, unless all failed a short while ago.
@@ -195,19 +179,18 @@ fn next_step(
     eight: i64,
     left: usize,
     pace: Pace,
-) -> Step
-    requires { SmallLanes (2 ^ 56) s × (length s.m ≡ 8) × EightApart stride left eight × PlacesInside (length values.now) at stride left }
-    ensures not_yet_normalised { NotYetNormalised s (strided values.now at stride result.done) result.lanes }
-    ensures done { Progress left pace.hold result.done }
-    ensures at { result.at ≡ last_vector at stride result.done }
+) -> Option<Step>
+    requires { SmallLanes (2 ^ 56) s × EightApart stride left eight × PlacesInside (length values.now) at stride left }
+    ensures some { IfSome result (λ t. NotYetNormalised s (strided values.now at stride t.done) t.lanes × Progress left t.done × (t.at ≡ last_vector at stride t.done)) }
+    ensures none { IfNone result (pace.hold ≡ 0) }
 {
     if pace.hold == 0 {
         let y = try_at(pace.way);
-        let n = integers::min_usize(LANES * y.most, left);
+        let n = left.min(LANES * y.most);
         return tried(s, values, at, stride, eight, n, y);
     }
-    let n = integers::min_usize(GUARDED, left);
-    guarded(s, values, at, stride, eight, n)
+    let n = left.min(GUARDED);
+    Some(guarded(s, values, at, stride, eight, n))
 }
 
 // After a way that failed: one bad rate among others costs the way no more than the values of its try, which are guarded; else the next way. After the
@@ -234,16 +217,13 @@ fn failed_pace(pace: Pace) -> Pace
 }
 
 // A way that worked is kept; after many guarded steps the ways are tried from the last on, as long as they work.
-fn next_pace(pace: Pace, done: usize) -> Pace
-    ensures { (done ≡ 0 → pace.hold ≡ 0 → patience result.hold result.way < patience pace.hold pace.way) × (patience result.hold result.way ≤ 6) }
+fn next_pace(pace: Pace) -> Pace
+    ensures { patience result.hold result.way ≤ 6 }
 {
     let mut next = pace;
     if pace.hold != 0 {
         next.hold = pace.hold - 1;
         return next;
-    }
-    if done == 0 {
-        return failed_pace(pace);
     }
     next.again = false;
     if pace.rising & (pace.way != 0) {
@@ -271,13 +251,20 @@ pub fn fed_lanes(values: &[f64], start: i64, stride: i64, eight: i64, len: usize
         rising: false,
         again: false,
     };
+    // A step takes as many values as it can, so no range counts the steps: the measure is the values that are left, and patience.
     while i < len {
-        let t = next_step(s, values, at, stride, eight, len - i, pace);
-        s = kernels::lanes::stable_renorm(t.lanes);
-        pace = next_pace(pace, t.done);
-        i += t.done;
-        if i < len {
-            at = crate::unsplit::behind(t.at, eight, t.done);
+        match next_step(s, values, at, stride, eight, len - i, pace) {
+            None => {
+                pace = failed_pace(pace);
+            }
+            Some(t) => {
+                s = kernels::lanes::stable_renorm(t.lanes);
+                pace = next_pace(pace);
+                i += t.done;
+                if i < len {
+                    at = crate::unsplit::behind(t.at, eight, t.done);
+                }
+            }
         }
     }
     s
@@ -288,17 +275,15 @@ fn exponents(s: Lanes) -> i64
     ensures { result ≡ exponents_of s }
 {
     let mut e: i64 = 0;
-    let mut k: usize = 0;
-    while k < LANES {
-        e += s.e[k];
-        k += 1;
+    for x in s.e {
+        e += x;
     }
     e
 }
 
 // The lanes multiplied in lane order. Each is in [1, 2), so that one bringing back at the end will do.
 pub fn lanes_product(s: Lanes) -> StableProductFloatAcc
-    requires { SmallLanes (2 ^ 56) s × (length s.m ≡ 8) }
+    requires { SmallLanes (2 ^ 56) s }
     ensures { result ≡ lanes_product s }
 {
     let v = s.m;

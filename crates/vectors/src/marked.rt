@@ -21,17 +21,15 @@ pub fn first_bad(values: &[f64], start: i64, stride: i64, len: usize) -> usize
 {
     let mut first = LANES;
     let mut at = start;
-    let mut i: usize = 0;
-    while i < len {
+    for i in 0..len {
         let index = at as usize;
         if floats::is_bad(values[index]) {
-            first = integers::min_usize(first, i % LANES);
+            first = first.min(i % LANES);
             if first == 0 {
                 return 0;
             }
         }
-        i += 1;
-        at = integers::next_place(at, stride, len - i);
+        at = integers::next_place(at, stride, len - (i + 1));
     }
     first
 }
@@ -43,32 +41,28 @@ pub fn soon_bad(values: &[f64], start: i64, stride: i64, eight: i64, len: usize)
 {
     let vectors = len / SELDOM;
     let mut at = start;
-    let mut i: usize = 0;
-    while i < vectors {
+    for i in 0..vectors {
         let index = at as usize;
         if floats::is_bad(values[index]) {
             return true;
         }
-        i += 1;
-        at = integers::next_place(at, eight, vectors - i);
+        at = integers::next_place(at, eight, vectors - (i + 1));
     }
     false
 }
 
 // The lanes before lane n, multiplied in lane order. Each is in [1, 2), so that one bringing back at the end will do.
+// A call, so that the registers of `worked_piece` are left to its loops.
+#[inline(never)]
 pub fn product_before(s: Lanes, n: usize) -> StableProductFloatAcc
-    requires { SmallLanes (2 ^ 56) s × (length s.m ≡ 8) × (n ≤ 8) }
+    requires { SmallLanes (2 ^ 56) s × (n ≤ 8) }
     ensures { result ≡ product_before s n }
 {
-    let mut p = 1.0;
     let mut e: i64 = 0;
-    let mut k: usize = 0;
-    while k < n {
-        p = p * s.m[k];
+    for k in 0..n {
         e += s.e[k];
-        k += 1;
     }
-    let q = floats::split_f64(p);
+    let q = floats::split_f64(crate::vector::product(&s.m[..n]));
     StableProductFloatAcc {
         m: q.m,
         e: e + q.e,

@@ -1,5 +1,5 @@
 // A piece, worked in one of the two ways. Both come from the same lanes.
-ghost use Rattle.std.specs.Prelude.{◌≡◌, true, false, ◌+◌, ◌*◌, ◌/◌, ◌^◌, ◌≤◌, length, replicate, pos};
+ghost use Rattle.std.specs.Prelude.{◌≡◌, IfSome, false, ◌+◌, ◌*◌, ◌/◌, ◌^◌, ◌≤◌, length, replicate, pos};
 ghost use Rattle.kernels.specs.Lanes.{feed};
 ghost use Rattle.kernels.specs.InnerStrided.{strided, PlacesInside};
 ghost use Rattle.kernels.specs.Blocks.{contiguous};
@@ -18,10 +18,9 @@ const LANES: usize = StableProductFloatAcc::LANES;
 // Pieces of at most so many values are tried without bringing lanes back.
 const MOST_SHORT: usize = 480;
 
-// The product of a short piece, if it could be had.
+// The product of a short piece.
 #[derive(Clone, Copy)]
 pub struct Short {
-    pub ok: bool,
     pub m: f64,
     pub e: i64,
 }
@@ -55,111 +54,53 @@ pub fn short_least(len: usize, signs: bool) -> f64
     crate::vector::least_of(signs, short_depth(len))
 }
 
-// The vectors of a piece of at most 64 values, in lanes that wait by their values. These are loops of their own, so that they can stand inside that of a strip.
+// Side by side vectors of a piece of at most 64 values, in lanes that wait by their values.
 pub fn short_beside(values: &[f64], start: i64, vectors: usize) -> Waited
     requires { PlacesInside (length values.now) start (pos 1) (8 * vectors) }
     ensures lanes_value { result.lanes ≡ feed (wait_step false) 0 (start_waiting (replicate 8 one)) (strided values.now start (pos 1) (8 * vectors)) }
     ensures at { result.at ≡ last_vector start (pos 1) (8 * vectors) }
 {
-    let mut lanes = crate::unsplit::start_waiting(kernels::lanes::start_lanes());
-    let mut at = start;
-    let mut next = start;
-    let mut left = vectors;
-    while 0 < left {
-        at = next;
-        let vector = crate::vector::vector_beside(values, at);
-        lanes = crate::vector::wait_vector(lanes, vector, false);
-        left -= 1;
-        next = integers::next_place(at, 8, left);
-    }
-    Waited { lanes, at }
+    let w = crate::unsplit::start_waiting(kernels::lanes::start_lanes());
+    crate::unsplit::wait_each(w, values, start, 1, 8, vectors, false)
 }
 
-fn short_apart(values: &[f64], start: i64, stride: i64, eight: i64, vectors: usize) -> Waited
-    requires { EightApart stride (8 * vectors) eight × PlacesInside (length values.now) start stride (8 * vectors) }
-    ensures lanes_value { result.lanes ≡ feed (wait_step false) 0 (start_waiting (replicate 8 one)) (strided values.now start stride (8 * vectors)) }
-    ensures at { result.at ≡ last_vector start stride (8 * vectors) }
-{
-    let mut lanes = crate::unsplit::start_waiting(kernels::lanes::start_lanes());
-    let mut at = start;
-    let mut next = start;
-    let mut left = vectors;
-    while 0 < left {
-        at = next;
-        let vector = crate::vector::vector_of(values, at, stride, LANES);
-        lanes = crate::vector::wait_vector(lanes, vector, false);
-        left -= 1;
-        next = integers::next_place(at, eight, left);
-    }
-    Waited { lanes, at }
-}
-
-// Their lanes, and a last vector of the values that are left. Side by side it is read without a stride.
-fn short_lanes_beside(values: &[f64], start: i64, len: usize) -> Waiting
-    requires { PlacesInside (length values.now) start (pos 1) len }
-    ensures { result ≡ feed (wait_step false) 0 (start_waiting (replicate 8 one)) (padded (strided values.now start (pos 1) len)) }
-{
-    let vectors = len / LANES;
-    let r = short_beside(values, start, vectors);
-    let rest = len % LANES;
-    if rest == 0 {
-        return r.lanes;
-    }
-    let at = crate::unsplit::behind(r.at, 8, vectors);
-    let vector = crate::vector::vector_of(values, at, 1, rest);
-    crate::vector::wait_vector(r.lanes, vector, false)
-}
-
-fn short_lanes_apart(values: &[f64], start: i64, stride: i64, eight: i64, len: usize) -> Waiting
-    requires { EightApart stride len eight × PlacesInside (length values.now) start stride len }
-    ensures { result ≡ feed (wait_step false) 0 (start_waiting (replicate 8 one)) (padded (strided values.now start stride len)) }
-{
-    let vectors = len / LANES;
-    let r = short_apart(values, start, stride, eight, vectors);
-    let rest = len % LANES;
-    if rest == 0 {
-        return r.lanes;
-    }
-    let at = crate::unsplit::behind(r.at, eight, vectors);
-    let vector = crate::vector::vector_of(values, at, stride, rest);
-    crate::vector::wait_vector(r.lanes, vector, false)
-}
-
+// The vectors of such a piece, and a last one of the values that are left. Side by side that one is read without a stride, too.
 fn short_lanes(values: &[f64], start: i64, stride: i64, eight: i64, len: usize) -> Waiting
     requires { EightApart stride len eight × PlacesInside (length values.now) start stride len }
     ensures { result ≡ feed (wait_step false) 0 (start_waiting (replicate 8 one)) (padded (strided values.now start stride len)) }
 {
-    if stride == 1 {
-        return short_lanes_beside(values, start, len);
-    }
-    short_lanes_apart(values, start, stride, eight, len)
+    let w = crate::unsplit::start_waiting(kernels::lanes::start_lanes());
+    let r = if stride == 1 {
+        crate::unsplit::wait_all(w, values, start, 1, len, 8, false)
+    } else {
+        crate::unsplit::wait_all(w, values, start, stride, len, eight, false)
+    };
+    r.lanes
 }
 
-// The product of such a piece. The lanes need not be brought back: multiplied, they stay normal, or the product is infinite or a NaN.
-pub fn short_piece(values: &[f64], start: i64, stride: i64, len: usize, least: f64) -> Short
+// The product of such a piece, if it can be had. The lanes need not be brought back: multiplied, they stay normal, or the product is infinite or a NaN.
+pub fn short_piece(values: &[f64], start: i64, stride: i64, len: usize, least: f64) -> Option<Short>
     requires { PlacesInside (length values.now) start stride len × ShortLeast false len least }
-    ensures { result.ok ≡ true → ShortProduct (strided values.now start stride len) result }
+    ensures { IfSome result (ShortProduct (strided values.now start stride len)) }
 {
     let eight = crate::vector::far_stride(stride, LANES, len);
     let w = short_lanes(values, start, stride, eight, len);
     let v = w.m;
     let p = crate::vector::chain(Vector { v });
     let q = floats::split_fields(p);
-    let ok = crate::vector::none_below(w, least) & crate::vector::not_past(p);
-    Short { ok, m: q.m, e: q.e }
+    if crate::vector::none_below(w, least) & crate::vector::not_past(p) {
+        return Some(Short { m: q.m, e: q.e });
+    }
+    None
 }
 
 // A piece of at most 480 values at any stride, tried by squares, likewise.
-fn middle_piece(values: &[f64], start: i64, stride: i64, eight: i64, len: usize) -> Short
+fn middle_piece(values: &[f64], start: i64, stride: i64, eight: i64, len: usize) -> Option<Short>
     requires { EightApart stride len eight × PlacesInside (length values.now) start stride len }
-    ensures { result.ok ≡ true → ShortProduct (strided values.now start stride len) result }
+    ensures { IfSome result (ShortProduct (strided values.now start stride len)) }
 {
     if MOST_SHORT < len {
-        return Short {
-            ok: false,
-            m: 1.0,
-            e: 0,
-        };
+        return None;
     }
     let t = crate::unsplit::start_waiting(kernels::lanes::start_lanes());
     let r = crate::unsplit::wait_values(t, values, start, stride, len, eight, true);
@@ -168,8 +109,10 @@ fn middle_piece(values: &[f64], start: i64, stride: i64, eight: i64, len: usize)
     let v = w.m;
     let p = crate::vector::chain(Vector { v });
     let q = floats::split_fields(p);
-    let ok = crate::vector::not_past(p) & crate::vector::none_below(w, least);
-    Short { ok, m: q.m, e: q.e }
+    if crate::vector::not_past(p) & crate::vector::none_below(w, least) {
+        return Some(Short { m: q.m, e: q.e });
+    }
+    None
 }
 
 // A piece at any stride, as blocks of 64 have it or as stepped lanes do. They differ only where a value is bad.
@@ -184,8 +127,7 @@ fn worked_piece(
     ensures { result ≡ worked in_blocks (strided values.now start stride len) }
 {
     let eight = crate::vector::far_stride(stride, LANES, len);
-    let q = middle_piece(values, start, stride, eight, len);
-    if q.ok {
+    if let Some(q) = middle_piece(values, start, stride, eight, len) {
         return StableProductFloatAcc {
             m: q.m,
             e: q.e,

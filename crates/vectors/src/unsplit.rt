@@ -6,7 +6,7 @@ ghost use Rattle.kernels.specs.InnerStrided.{strided, PlacesInside};
 ghost use Rattle.vectors.specs.InnerVectors.{EightApart, last_vector};
 ghost use Rattle.vectors.specs.InnerWaiting.{wait_step, padded, start_waiting};
 
-use crate::vector::Waiting;
+use crate::vector::{Vector, Waiting};
 use accumulator::StableProductFloatAcc;
 use kernels::lanes::Lanes;
 
@@ -29,28 +29,21 @@ pub fn start_waiting(s: Lanes) -> Waiting
     }
 }
 
-// Vectors that lie side by side. Eight is not added after the last.
-fn wait_beside(w: Waiting, values: &[f64], start: i64, vectors: usize, signs: bool) -> Waited
-    requires { (length w.m ≡ 8) × (length w.least ≡ 8) × PlacesInside (length values.now) start (pos 1) (8 * vectors) }
-    ensures lanes_value { result.lanes ≡ feed (wait_step signs) 0 w (strided values.now start (pos 1) (8 * vectors)) }
-    ensures at { result.at ≡ last_vector start (pos 1) (8 * vectors) }
+// Eight values of a piece. Side by side they are read without a place for each.
+fn full_vector(values: &[f64], at: i64, stride: i64) -> Vector
+    requires { PlacesInside (length values.now) at stride 8 }
+    ensures { result.v ≡ strided values.now at stride 8 }
 {
-    let mut lanes = w;
-    let mut at = start;
-    let mut next = start;
-    let mut left = vectors;
-    while 0 < left {
-        at = next;
-        let vector = crate::vector::vector_beside(values, at);
-        lanes = crate::vector::wait_vector(lanes, vector, signs);
-        left -= 1;
-        next = integers::next_place(at, 8, left);
+    if stride == 1 {
+        return crate::vector::vector_beside(values, at);
     }
-    Waited { lanes, at }
+    crate::vector::vector_of(values, at, stride, LANES)
 }
 
-// Vectors a stride apart, `eight` being the stride of eight values.
-fn wait_apart(
+// Vectors one after another, `eight` being the stride of eight values, which is not added after the last. The loop stands in each caller: so it is compiled
+// for the signs and the stride known there, and stands inside the loop of a strip.
+#[inline(always)]
+pub fn wait_each(
     w: Waiting,
     values: &[f64],
     start: i64,
@@ -59,25 +52,23 @@ fn wait_apart(
     vectors: usize,
     signs: bool,
 ) -> Waited
-    requires { (length w.m ≡ 8) × (length w.least ≡ 8) × EightApart stride (8 * vectors) eight
-        × PlacesInside (length values.now) start stride (8 * vectors) }
+    requires { EightApart stride (8 * vectors) eight × PlacesInside (length values.now) start stride (8 * vectors) }
     ensures lanes_value { result.lanes ≡ feed (wait_step signs) 0 w (strided values.now start stride (8 * vectors)) }
     ensures at { result.at ≡ last_vector start stride (8 * vectors) }
 {
     let mut lanes = w;
     let mut at = start;
     let mut next = start;
-    let mut left = vectors;
-    while 0 < left {
+    for left in (0..vectors).rev() {
         at = next;
-        let vector = crate::vector::vector_of(values, at, stride, LANES);
+        let vector = full_vector(values, at, stride);
         lanes = crate::vector::wait_vector(lanes, vector, signs);
-        left -= 1;
         next = integers::next_place(at, eight, left);
     }
     Waited { lanes, at }
 }
 
+// One copy of the loop for values side by side, and one for any others.
 pub fn wait_vectors(
     w: Waiting,
     values: &[f64],
@@ -87,15 +78,14 @@ pub fn wait_vectors(
     vectors: usize,
     signs: bool,
 ) -> Waited
-    requires { (length w.m ≡ 8) × (length w.least ≡ 8) × EightApart stride (8 * vectors) eight
-        × PlacesInside (length values.now) start stride (8 * vectors) }
+    requires { EightApart stride (8 * vectors) eight × PlacesInside (length values.now) start stride (8 * vectors) }
     ensures lanes_value { result.lanes ≡ feed (wait_step signs) 0 w (strided values.now start stride (8 * vectors)) }
     ensures at { result.at ≡ last_vector start stride (8 * vectors) }
 {
-    if stride == 1 {
-        return wait_beside(w, values, start, vectors, signs);
+    if stride != 1 {
+        return wait_each(w, values, start, stride, eight, vectors, signs);
     }
-    wait_apart(w, values, start, stride, eight, vectors, signs)
+    wait_each(w, values, start, 1, 8, vectors, signs)
 }
 
 // Where the next values begin, of which there are some: behind the n before them, whole vectors of which the last begins at `at`, or at `at` if n is 0.
@@ -109,7 +99,35 @@ pub fn behind(at: i64, eight: i64, n: usize) -> i64
     integers::next_place(at, eight, 1)
 }
 
-// Whole vectors, and a last one of the values that are left.
+// Whole vectors, and a last one of the values that are left, in the caller as well.
+#[inline(always)]
+pub fn wait_all(
+    w: Waiting,
+    values: &[f64],
+    start: i64,
+    stride: i64,
+    len: usize,
+    eight: i64,
+    signs: bool,
+) -> Waited
+    requires { EightApart stride len eight × PlacesInside (length values.now) start stride len }
+    ensures lanes_value { result.lanes ≡ feed (wait_step signs) 0 w (padded (strided values.now start stride len)) }
+    ensures at { result.at ≡ last_vector start stride len }
+{
+    let vectors = len / LANES;
+    let r = wait_each(w, values, start, stride, eight, vectors, signs);
+    let few = len % LANES;
+    if few == 0 {
+        return r;
+    }
+    let at = behind(r.at, eight, vectors);
+    let vector = crate::vector::vector_of(values, at, stride, few);
+    let lanes = crate::vector::wait_vector(r.lanes, vector, signs);
+    Waited { lanes, at }
+}
+
+// The same where the code is not wanted in each caller. It is written out, with one end for both loops: on `wait_all` twice it has two, and takes 3 to 10
+// parts in 100 longer.
 pub fn wait_values(
     w: Waiting,
     values: &[f64],
@@ -119,7 +137,7 @@ pub fn wait_values(
     eight: i64,
     signs: bool,
 ) -> Waited
-    requires { (length w.m ≡ 8) × (length w.least ≡ 8) × EightApart stride len eight × PlacesInside (length values.now) start stride len }
+    requires { EightApart stride len eight × PlacesInside (length values.now) start stride len }
     ensures lanes_value { result.lanes ≡ feed (wait_step signs) 0 w (padded (strided values.now start stride len)) }
     ensures at { result.at ≡ last_vector start stride len }
 {

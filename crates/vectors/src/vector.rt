@@ -1,15 +1,19 @@
 // A vector: eight values, one for each lane.
-ghost use Rattle.std.specs.Prelude.{◌≡◌, true, ◌+◌, ◌*◌, ◌^◌, ◌≤◌, ◌<◌, min, length, pos, ◌*ℤ◌};
+ghost use Rattle.std.specs.Prelude.{◌≡◌, Bool, true, ◌+◌, ◌*◌, ◌^◌, ◌≤◌, ◌<◌, min, length, pos, ◌*ℤ◌, Float};
+ghost use Rattle.std.specs.List.{fold};
 ghost use Rattle.std.proofs.Common.{SFits};
 ghost use Rattle.std.specs.Int.{w64};
 ghost use Rattle.kernels.specs.Lanes.{feed, every};
 ghost use Rattle.kernels.specs.InnerLanes.{window, SmallLanes};
 ghost use Rattle.kernels.specs.InnerStrided.{strided, PlacesInside};
 ghost use Rattle.kernels.specs.Blocks.{unsplit_step, split_step};
-ghost use Rattle.vectors.specs.InnerWaiting.{vector_of, lesser, measure, wait_step, least_of, not_below, not_past, chained};
+ghost use Rattle.floats.specs.Product.{product_of};
+ghost use Rattle.vectors.specs.InnerSplits.{SplitsEach};
+ghost use Rattle.vectors.specs.InnerWaiting.{one, vector_of, lesser, measure, wait_step, least_of, not_below, not_past, chained};
 ghost use Rattle.vectors.specs.InnerWaiting.{magnitude, magnitude_but, least_magnitude, not_low, none_low, all_ordinary, below_normal, all_subnormal, guarded};
 
 use accumulator::StableProductFloatAcc;
+use floats::Split;
 use kernels::lanes::Lanes;
 
 const LANES: usize = StableProductFloatAcc::LANES;
@@ -32,6 +36,7 @@ pub struct Vector {
 }
 
 // Lanes multiplied unsplit, beside the least of the values that each has met, or of their squares.
+// Two arrays as in `Lanes`.
 #[derive(Clone, Copy)]
 pub struct Waiting {
     pub m: [f64; LANES],
@@ -57,15 +62,14 @@ pub fn vector_of(values: &[f64], at: i64, stride: i64, n: usize) -> Vector
 {
     let mut r = Vector { v: [1.0; LANES] };
     let mut place = at;
-    let mut k: usize = 0;
-    while k < LANES {
+    for k in 0..LANES {
         if k < n {
             let index = place as usize;
             r.v[k] = values[index];
         }
-        k += 1;
-        if k < n {
-            place = integers::next_place(place, stride, n - k);
+        let next = k + 1;
+        if next < n {
+            place = integers::next_place(place, stride, n - next);
         }
     }
     r
@@ -76,13 +80,9 @@ pub fn vector_at(values: &[f64], at: usize) -> Vector
     requires { at + 8 ≤ length values.now }
     ensures { result.v ≡ window values.now at 8 }
 {
-    let mut r = Vector { v: [1.0; LANES] };
-    let mut k: usize = 0;
-    while k < LANES {
-        r.v[k] = values[at + k];
-        k += 1;
+    Vector {
+        v: std::array::from_fn(|k| values[at + k]),
     }
-    r
 }
 
 // The same, by the place of the first.
@@ -109,6 +109,7 @@ pub fn some_vector(values: &[f64], at: i64, stride: i64, left: usize) -> Vector
     vector_of(values, at, stride, left)
 }
 
+// Not `min`, which passes over a NaN wherever it is: here the second counts then.
 fn lesser(x: f64, y: f64) -> f64
     ensures { result ≡ lesser x y }
 {
@@ -123,16 +124,13 @@ fn measure(x: f64, signs: bool) -> f64
 }
 
 pub fn wait_vector(w: Waiting, vector: Vector, signs: bool) -> Waiting
-    requires { (length w.m ≡ 8) × (length w.least ≡ 8) × (length vector.v ≡ 8) }
     ensures { result ≡ feed (wait_step signs) 0 w vector.v }
 {
     let mut t = w;
-    let mut k: usize = 0;
-    while k < LANES {
+    for k in 0..LANES {
         let x = vector.v[k];
         t.m[k] = t.m[k] * x;
         t.least[k] = lesser(measure(x, signs), t.least[k]);
-        k += 1;
     }
     t
 }
@@ -147,18 +145,19 @@ pub fn least_of(signs: bool, depth: usize) -> f64
     f64::from_bits(field << 52)
 }
 
+// Whether each of eight values passes a test. A fold and not `all`, which compiles to a branch for each of them and takes longer.
+fn every_lane<F: Fn(f64) -> bool>(lanes: &[f64; LANES], test: F) -> bool
+    requires { F.IsAlwaysCallable test }
+    ensures { (q : Float → Bool) → ((x : Float) (b : Bool) → F.post test x b → b ≡ q x) → result ≡ every q lanes.now }
+{
+    lanes.iter().fold(true, |ok, x| ok & test(*x))
+}
+
 // No measure that a lane has met is below the least.
 pub fn none_below(w: Waiting, least: f64) -> bool
-    requires { length w.least ≡ 8 }
     ensures { result ≡ every (not_below least) w.least }
 {
-    let mut ok = true;
-    let mut k: usize = 0;
-    while k < LANES {
-        ok = ok & (least <= w.least[k]);
-        k += 1;
-    }
-    ok
+    every_lane(&w.least, |y| least <= y)
 }
 
 // A number of at most 2^1000 either way: no infinity, no NaN.
@@ -169,33 +168,26 @@ pub fn not_past(x: f64) -> bool
 }
 
 pub fn none_past(vector: Vector) -> bool
-    requires { length vector.v ≡ 8 }
     ensures { result ≡ every not_past vector.v }
 {
-    let mut ok = true;
-    let mut k: usize = 0;
-    while k < LANES {
-        ok = ok & not_past(vector.v[k]);
-        k += 1;
-    }
-    ok
+    every_lane(&vector.v, |x| not_past(x))
 }
 
-// The lanes multiplied in lane order.
+// Lanes multiplied in lane order.
+pub(crate) fn product(lanes: &[f64]) -> f64
+    ensures { result ≡ fold (product_of 11 52) one lanes.now }
+{
+    lanes.iter().fold(1.0, |p, x| p * *x)
+}
+
+// The lanes of a vector, multiplied in lane order.
 pub fn chain(vector: Vector) -> f64
-    requires { length vector.v ≡ 8 }
     ensures { result ≡ chained vector.v }
 {
-    let mut p = 1.0;
-    let mut k: usize = 0;
-    while k < LANES {
-        p = p * vector.v[k];
-        k += 1;
-    }
-    p
+    product(&vector.v)
 }
 
-// There is no abs.
+// Not `abs`, which makes 0.0 of -0.0: the definition leaves it.
 fn magnitude(x: f64) -> f64
     ensures { result ≡ magnitude x }
 {
@@ -220,7 +212,6 @@ fn lesser_magnitude(x: f64, y: f64, over: bool) -> f64
 
 // The least magnitude of eight values, lane beside lane. Where one of two is a NaN, the second counts.
 fn least_magnitude(vector: Vector, over: bool) -> f64
-    requires { length vector.v ≡ 8 }
     ensures { result ≡ least_magnitude over vector.v }
 {
     let a = lesser_magnitude(vector.v[0], vector.v[4], over);
@@ -232,7 +223,6 @@ fn least_magnitude(vector: Vector, over: bool) -> f64
 
 // If so, no magnitude is below 2^-15, or one is a NaN.
 fn vector_not_low(vector: Vector) -> bool
-    requires { length vector.v ≡ 8 }
     ensures { result ≡ not_low vector.v }
 {
     LEAST <= least_magnitude(vector, false)
@@ -240,7 +230,6 @@ fn vector_not_low(vector: Vector) -> bool
 
 // If so, no magnitude but 0 is below 2^-1021, or one is a NaN. Zeros are passed over only if there may be one, since it takes longer.
 fn vector_high(vector: Vector) -> bool
-    requires { length vector.v ≡ 8 }
     ensures { result ≡ none_low vector.v }
 {
     if LEAST_POSITIVE <= least_magnitude(vector, false) {
@@ -251,7 +240,6 @@ fn vector_high(vector: Vector) -> bool
 
 // If so, all are zeros or normal numbers.
 fn vector_ordinary(vector: Vector) -> bool
-    requires { length vector.v ≡ 8 }
     ensures { result ≡ all_ordinary vector.v }
 {
     if vector_high(vector) {
@@ -267,21 +255,13 @@ fn below_normal(x: f64) -> bool
 }
 
 fn none_normal(vector: Vector) -> bool
-    requires { length vector.v ≡ 8 }
     ensures { result ≡ every below_normal vector.v }
 {
-    let mut ok = true;
-    let mut k: usize = 0;
-    while k < LANES {
-        ok = ok & below_normal(vector.v[k]);
-        k += 1;
-    }
-    ok
+    every_lane(&vector.v, |x| below_normal(x))
 }
 
 // If so, all are subnormal. They are compared and not multiplied, which takes long on some machines.
 fn vector_subnormal(vector: Vector) -> bool
-    requires { length vector.v ≡ 8 }
     ensures { result ≡ all_subnormal vector.v }
 {
     if LEAST_POSITIVE <= least_magnitude(vector, false) {
@@ -291,74 +271,45 @@ fn vector_subnormal(vector: Vector) -> bool
 }
 
 fn unsplit_vector(s: Lanes, vector: Vector) -> Lanes
-    requires { (length s.m ≡ 8) × (length vector.v ≡ 8) }
     ensures { result ≡ feed unsplit_step 0 s vector.v }
 {
     let mut t = s;
-    let mut k: usize = 0;
-    while k < LANES {
+    for k in 0..LANES {
         t.m[k] = t.m[k] * vector.v[k];
-        k += 1;
     }
     t
 }
 
-fn split_ordinaries(s: Lanes, vector: Vector) -> Lanes
-    requires { SmallLanes (2 ^ 59) s × (length vector.v ≡ 8) × (all_ordinary vector.v ≡ true) }
+// Each value split and put into its lane. The vector's values are all that `split` has to split.
+fn split_each<F: Fn(f64) -> Split>(s: Lanes, vector: Vector, split: F) -> Lanes
+    requires small { SmallLanes (2 ^ 59) s }
+    requires splits { SplitsEach F.Fn split vector.v }
     ensures { result ≡ feed split_step 0 s vector.v }
 {
     let mut t = s;
-    let mut k: usize = 0;
-    while k < LANES {
-        t = kernels::lanes::put_split(t, k, floats::split_ordinary(vector.v[k]));
-        k += 1;
-    }
-    t
-}
-
-fn split_subnormals(s: Lanes, vector: Vector) -> Lanes
-    requires { SmallLanes (2 ^ 59) s × (length vector.v ≡ 8) × (all_subnormal vector.v ≡ true) }
-    ensures { result ≡ feed split_step 0 s vector.v }
-{
-    let mut t = s;
-    let mut k: usize = 0;
-    while k < LANES {
-        t = kernels::lanes::put_split(t, k, floats::split_subnormal_whole(vector.v[k]));
-        k += 1;
-    }
-    t
-}
-
-fn split_mixed(s: Lanes, vector: Vector) -> Lanes
-    requires { SmallLanes (2 ^ 59) s × (length vector.v ≡ 8) }
-    ensures { result ≡ feed split_step 0 s vector.v }
-{
-    let mut t = s;
-    let mut k: usize = 0;
-    while k < LANES {
-        t = kernels::lanes::split_step(t, k, vector.v[k]);
-        k += 1;
+    for k in 0..LANES {
+        t = kernels::lanes::put_split(t, k, split(vector.v[k]));
     }
     t
 }
 
 // Zeros and normal numbers are split without a branch, and so are subnormals: eight at a time. Any other vector is split value by value.
 fn split_vector(s: Lanes, vector: Vector) -> Lanes
-    requires { SmallLanes (2 ^ 59) s × (length vector.v ≡ 8) }
+    requires { SmallLanes (2 ^ 59) s }
     ensures { result ≡ feed split_step 0 s vector.v }
 {
     if vector_ordinary(vector) {
-        return split_ordinaries(s, vector);
+        return split_each(s, vector, floats::split_ordinary);
     }
     if vector_subnormal(vector) {
-        return split_subnormals(s, vector);
+        return split_each(s, vector, floats::split_subnormal_whole);
     }
-    split_mixed(s, vector)
+    split_each(s, vector, floats::split_f64)
 }
 
 // A low vector is split, and with `all` every vector; any other is multiplied as it is.
 pub fn guarded_vector(s: Lanes, vector: Vector, all: bool) -> Lanes
-    requires { SmallLanes (2 ^ 59) s × (length s.m ≡ 8) × (length vector.v ≡ 8) }
+    requires { SmallLanes (2 ^ 59) s }
     ensures { result ≡ guarded all s vector.v }
 {
     if !all & vector_not_low(vector) {

@@ -7,7 +7,7 @@ use mathlib.Core.List.{List, [], ◌∷◌}
 use native.Mathlib.Omega.{arith}
 use lib.Dec.{ltb, eqb}
 use borrow.Author.Tests.{eqb-false, eq-eqb, ne_eqb, ltb-false, lt-ltb, le-ltb}
-use Rattle.refusals.specs.Refusals.{Refusal, first_of}
+use Rattle.refusals.specs.Refusals.{Ranked, first_of}
 use Rattle.offsets.proofs.Accepted.{refused_none}
 use Rattle.laws.proofs.Tests.{neither}
 use Rattle.windows.specs.Windows.{window_count, windows_code}
@@ -66,7 +66,7 @@ module _ (len w ms es bads : ℕ) where
   pub accepted : windows_code len w ms es bads ≡ 0 → Accepted
   unfolding windows_code
   accepted e =
-      let behind : List Refusal = (16, short) ∷ [] in
+      let behind : List Ranked = (16, short) ∷ [] in
       let a = refused_none 16 (eqb w 0 || ltb len w) ((4, ltb (2 ^ 40) w) ∷ behind) e in
       let b = refused_none 3 (ltb (2 ^ 40) w) behind a.1 in
       let c = refused_none 15 short [] b.1 in

@@ -19,7 +19,7 @@ use Rattle.integers.proofs.Difference.{ints, atoms}
 use Rattle.integers.proofs.Machine.{fits-test}
 use Rattle.integers.proofs.Places.{place-first}
 use Rattle.layout.specs.declared.traversal.FullTraversal.{FullTraversal}
-use Rattle.layout.specs.declared.traversal.Compiled.{Compiled}
+use Rattle.layout.specs.Compile.{Compiled}
 use Rattle.layout.specs.Axes.{PLACES, span, axis_of, axes_in, reset_fits}
 use Rattle.layout.specs.Compile.{layout_of, compile_of}
 use Rattle.layout.specs.InnerTables.{elements}

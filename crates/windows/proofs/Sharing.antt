@@ -20,8 +20,7 @@ use Rattle.laws.specs.Lists.{Each, none, more}
 use Rattle.kernels.specs.Lanes.{feed, in_order, every}
 use Rattle.kernels.specs.InnerPlain.{lanes}
 use Rattle.kernels.specs.InnerLanes.{window, plain_after}
-use Rattle.kernels.specs.InnerStrided.{strided, PlacesInside}
-use lib.Signed.{◌≤ℤ◌, ◌<ℤ◌}
+use Rattle.kernels.specs.InnerStrided.{strided}
 use Rattle.integers.proofs.Difference.{ints, atoms}
 use Rattle.kernels.specs.Blocks.{start_lanes, contiguous}
 use Rattle.kernels.proofs.Lanewise.{turns, depth}
@@ -51,16 +50,6 @@ place-each P vs p zero f = none
 place-each P vs p (suc n) f =
     more (subst (λ (k : ℕ). P (get_or vs k nan)) (add-zero p) (f 0 (omega arith)))
     (place-each P vs (p + 1) n (λ j h. subst (λ (k : ℕ). P (get_or vs k nan)) (let e : p + suc j ≡ p + 1 + j = omega arith in e) (f (suc j) (omega arith))))
-
--- they lie in the slice
-pub inside-beside : (len at n : ℕ) → at + n ≤ len → PlacesInside len (pos at) (pos 1) n
-inside-beside len at n h = record { least = λ i l. low i; most = λ i l. high i l h }
-  where
-    low : (i : ℕ) → pos 0 ≤ℤ (pos at +ℤ pos 1 *ℤ pos i)
-    low i = simp ints (simp atoms (omega arith))
-
-    high : (i : ℕ) → i < n → at + n ≤ len → (pos at +ℤ pos 1 *ℤ pos i) <ℤ pos len
-    high i = simp ints (simp atoms (omega arith))
 
 -- lanes that wait, with one vector more
 pub one_more : (vs : List Float) (at n : ℕ) (full : Waiting) → at + 8 * (n + 1) ≤ length vs

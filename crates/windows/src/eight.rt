@@ -1,5 +1,5 @@
 // Eight windows side by side. Lane k of window t begins at the rate t + k: windows share their lanes, and each is multiplied once.
-ghost use Rattle.std.specs.Prelude.{◌≡◌, true, false, ◌+◌, ◌*◌, ◌/◌, ◌≤◌, length, replicate, pos};
+ghost use Rattle.std.specs.Prelude.{◌≡◌, false, ◌+◌, ◌*◌, ◌/◌, ◌≤◌, length, replicate, pos, IfSome};
 ghost use Rattle.kernels.specs.Lanes.{feed};
 ghost use Rattle.kernels.specs.InnerStrided.{strided};
 ghost use Rattle.vectors.specs.InnerWaiting.{one, wait_step, start_waiting};
@@ -21,19 +21,6 @@ pub struct Begun {
     pub more: Waiting,
 }
 
-// Lanes that begin at sixteen rates in a row.
-#[derive(Clone, Copy)]
-pub struct Sixteen {
-    pub v: [f64; 16],
-}
-
-// The products of eight windows, not yet split, if they could be had.
-#[derive(Clone, Copy)]
-pub struct Eight {
-    pub ok: bool,
-    pub v: [f64; LANES],
-}
-
 // The lanes that begin at `at` and at the seven rates behind it.
 fn lanes_from(values: &[f64], at: usize, vectors: usize) -> Begun
     requires { at + 8 * (vectors + 1) ≤ length values.now }
@@ -47,52 +34,46 @@ fn lanes_from(values: &[f64], at: usize, vectors: usize) -> Begun
     Begun { full, more }
 }
 
-fn beside(a: Waiting, b: Waiting) -> Sixteen
-    requires { (length a.m ≡ 8) × (length b.m ≡ 8) }
-    ensures { Beside a.m b.m result.v }
+// Lanes that begin at sixteen rates in a row.
+fn beside(a: Waiting, b: Waiting) -> [f64; 2 * LANES]
+    ensures { Beside a.m b.m result }
 {
-    let mut r = Sixteen { v: [1.0; 16] };
-    let mut k: usize = 0;
-    while k < LANES {
-        r.v[k] = a.m[k];
-        r.v[LANES + k] = b.m[k];
-        k += 1;
+    let mut lanes = [1.0; 2 * LANES];
+    for k in 0..LANES {
+        lanes[k] = a.m[k];
+        lanes[LANES + k] = b.m[k];
     }
-    r
+    lanes
 }
 
 // The products of eight windows so far, each times its lane k.
-fn times_lane(c: Vector, lanes: Sixteen, k: usize) -> Vector
-    requires { (length c.v ≡ 8) × (length lanes.v ≡ 16) × (k ≤ 7) }
-    ensures { TimesLane c.v lanes.v k result.v }
+fn times_lane(c: Vector, lanes: [f64; 2 * LANES], k: usize) -> Vector
+    requires { k ≤ 7 }
+    ensures { TimesLane c.v lanes k result.v }
 {
     let mut r = c;
-    let mut t: usize = 0;
-    while t < LANES {
-        r.v[t] = r.v[t] * lanes.v[t + k];
-        t += 1;
+    for t in 0..LANES {
+        r.v[t] *= lanes[t + k];
     }
     r
 }
 
 // Likewise times its lanes `first` to n - 1.
-fn times_lanes(c: Vector, lanes: Sixteen, first: usize, n: usize) -> Vector
-    requires { (length c.v ≡ 8) × (length lanes.v ≡ 16) × (first ≤ n) × (n ≤ 8) }
-    ensures { TimesLanes c.v lanes.v first n result.v }
+fn times_lanes(c: Vector, lanes: [f64; 2 * LANES], first: usize, n: usize) -> Vector
+    requires { (first ≤ n) × (n ≤ 8) }
+    ensures { TimesLanes c.v lanes first n result.v }
 {
     let mut r = c;
-    let mut k = first;
-    while k < n {
+    for k in first..n {
         r = times_lane(r, lanes, k);
-        k += 1;
     }
     r
 }
 
-// Windows `at` to `at + 7`, if every rate that they meet lies from `least` on and no product leaves the range.
-fn eight_windows(values: &[f64], at: usize, w: usize, least: f64) -> Eight
+// The products of windows `at` to `at + 7`, not yet split, if every rate that they meet lies from `least` on and no product leaves the range.
+fn eight_windows(values: &[f64], at: usize, w: usize, least: f64) -> Option<Vector>
     requires { (at + 8 * (w / 8 + 2) ≤ length values.now) × ShortLeast false w least }
-    ensures { result.ok ≡ true → EightWindows values.now w at result.v }
+    ensures { IfSome result (λ c. EightWindows values.now w at c.v) }
 {
     let vectors = w / LANES;
     let rest = w % LANES;
@@ -102,30 +83,22 @@ fn eight_windows(values: &[f64], at: usize, w: usize, least: f64) -> Eight
     let more = beside(a.more, b.more);
     let start = Vector { v: [1.0; LANES] };
     let c = times_lanes(times_lanes(start, more, 0, rest), full, rest, LANES);
-    let ok = vectors::vector::none_below(a.more, least)
+    let had = vectors::vector::none_below(a.more, least)
         & vectors::vector::none_below(b.more, least)
         & vectors::vector::none_past(c);
-    let v = c.v;
-    Eight { ok, v }
+    if had { Some(c) } else { None }
 }
 
 // The same, if there are rates enough for sixteen lanes and the windows are short.
-pub fn eight_at(values: &[f64], at: usize, w: usize) -> Eight
-    ensures { result.ok ≡ true → EightWindows values.now w at result.v }
+pub fn eight_at(values: &[f64], at: usize, w: usize) -> Option<Vector>
+    ensures { IfSome result (λ c. EightWindows values.now w at c.v) }
 {
-    let none = Eight {
-        ok: false,
-        v: [1.0; LANES],
-    };
     if MOST_SHORT < w {
-        return none;
+        return None;
     }
     let reach = LANES * (w / LANES) + 2 * LANES;
-    if values.len() < reach {
-        return none;
-    }
-    if values.len() - reach < at {
-        return none;
+    if values.len() < reach || values.len() - reach < at {
+        return None;
     }
     eight_windows(values, at, w, vectors::piece::short_least(w, false))
 }

@@ -18,5 +18,8 @@ pub extern "C" fn probe_windows(
     ensures es_after { es.new ≡ window_es values.now w ms.old es.old bads.old }
     ensures bads_after { bads.new ≡ window_bads values.now w ms.old es.old bads.old }
 {
-    windows::reduce_windows(values, w, &mut *ms, &mut *es, &mut *bads)
+    match windows::reduce_windows(values, w, &mut *ms, &mut *es, &mut *bads) {
+        Ok(()) => 0,
+        Err(refusal) => u32::from(refusal),
+    }
 }

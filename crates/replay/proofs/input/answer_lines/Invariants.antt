@@ -1,9 +1,9 @@
--- The next line starts within the chunk, and the answer's buffer keeps its length.
-use Rattle.std.proofs.Common.{length, ◌-◌, ◌≤◌, ◌≡◌}
+-- What is left is a part of the chunk.
+use Rattle.std.proofs.Common.{◌≤◌, length}
 use Rattle.replay.proofs.input.answer_lines.Given as goal
 
-abbrev pub invariant-loop-from : goal.invariant-loop-from
-invariant-loop-from g l = (l.from ≤ length l.chunk) × (length l.out ≡ length l.initial.out)
+abbrev pub invariant-loop-end : goal.invariant-loop-end
+invariant-loop-end g l = length l.rest ≤ length l.chunk
 
-abbrev pub decreases-loop-from : goal.decreases-loop-from
-decreases-loop-from g l = length l.chunk - l.from
+abbrev pub decreases-loop-end : goal.decreases-loop-end
+decreases-loop-end g l = length l.rest

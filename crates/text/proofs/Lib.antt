@@ -1,3 +1,0 @@
-pub mod Lists
-pub mod Reading
-pub mod Signs
