@@ -184,7 +184,8 @@ pub fn reduce_step(
     ensures { step_answer_of result ≡ step_of sizes.now strides.now base start end values.now mark n }
 {
     let length = values.len() as u64;
-    let l = FullTraversal::compile(sizes, strides)?;
+    let mut l = layout::traversal::empty();
+    l.compile_in_place(sizes, strides)?;
     offsets::list::check_range(l.total, sizes, strides, base, start, end, length)?;
     check_step(l.run_len, start, end, mark, n)?;
     let p = portion_from(l.run_len, end, n, mark.next);

@@ -5,7 +5,6 @@ ghost use Rattle.std.specs.Prelude.{◌≡◌};
 ghost use Rattle.finishing.specs.Finishing.{final_answer_of};
 ghost use Rattle.figures.specs.Figures.{figure_of};
 
-use layout::traversal::FullTraversal;
 use refusals::Refusal;
 
 // The finished number of the reduction, or where its mark is bad the ordered product of the same range; or one of refusals 1 to 7. The layout is compiled
@@ -21,7 +20,8 @@ pub fn figure(
     ensures { final_answer_of result ≡ figure_of sizes.now strides.now base start end values.now }
 {
     let length = values.len() as u64;
-    let l = FullTraversal::compile(sizes, strides)?;
+    let mut l = layout::traversal::empty();
+    l.compile_in_place(sizes, strides)?;
     offsets::list::check_range(l.total, sizes, strides, base, start, end, length)?;
     let acc = reduction::full::reduce_full_range(l, base, start, end, values);
     if acc.bad {

@@ -78,3 +78,30 @@ pub fn read_job(bytes: &[u8]) -> Result<Job, Refusal>
         end: range.end,
     })
 }
+
+// Rule R0: what is told of a reading, the code 0 with the job, or the number of a refusal with zeros.
+pub fn job_told(read: Result<Job, Refusal>) -> (u32, Job)
+    ensures { read_told read
+        ≡ record {
+          code = result.0;
+          count = result.1.count;
+          sizes = result.1.sizes;
+          strides = result.1.strides;
+          base = result.1.base;
+          start = result.1.start;
+          end = result.1.end;
+        } }
+{
+    let nothing = Job {
+        count: 0,
+        sizes: [0; PLACES],
+        strides: [0; PLACES],
+        base: 0,
+        start: 0,
+        end: 0,
+    };
+    match read {
+        Ok(job) => (0, job),
+        Err(refusal) => (u32::from(refusal), nothing),
+    }
+}

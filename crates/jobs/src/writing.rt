@@ -110,3 +110,13 @@ pub fn write_job(
     put_job(&mut *out, &job);
     Ok(count)
 }
+
+// Rule R0: what is told of a writing, the code 0 with the number of bytes, or the number of a refusal with 0.
+pub fn written_told(written: Result<usize, Refusal>) -> (u32, usize)
+    ensures { write_told written ≡ record { code = result.0; count = result.1 } }
+{
+    match written {
+        Ok(count) => (0, count),
+        Err(refusal) => (u32::from(refusal), 0),
+    }
+}

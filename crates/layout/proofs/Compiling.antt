@@ -23,6 +23,7 @@ use Rattle.layout.proofs.Ordering.{length-kept}
 use Rattle.layout.proofs.Fusing.{length-fuse, none-some}
 use Rattle.refusals.specs.Refusals.{first_of}
 use Rattle.layout.specs.Compile.{total_from, total_of, layout_of, empty_layout, fused_of, traversal_at, traversal_of, compile_refusals, layout_beside, compile_of, Compiled, told}
+use Rattle.layout.specs.InnerAnswers.{placed}
 use Rattle.layout.specs.Compile.{overflows, above_most}
 
 -- ---- rule L1
@@ -58,9 +59,9 @@ abbrev pub accepted : FullTraversal → Compiled
 accepted l = record { code = 0; traversal = l }
 
 -- what `?` gives back of a step that answered with nothing
-pub refused-as : {A : Type 0} (r : Result FullTraversal Refusal) (x d e : Refusal) (o : Option A) → r ≡ Err x → x ≡ d → o ≡ None → Err d ≡ ok_or o e
-    → told r ≡ told (Err e)
-refused-as {A = A} r x d e o p q n v = ap told (p ∙ ap Err (q ∙ same (v ∙ ap (λ (z : Option A). ok_or z e) n)))
+pub refused-as : {A : Type 0} (l : FullTraversal) (r : Result (Unit {0}) Refusal) (x d e : Refusal) (o : Option A) → r ≡ Err x → x ≡ d → o ≡ None
+    → Err d ≡ ok_or o e → placed r l ≡ told (Err e)
+refused-as {A = A} l r x d e o p q n v = ap (λ (z : Result (Unit {0}) Refusal). placed z l) (p ∙ ap Err (q ∙ same (v ∙ ap (λ (z : Option A). ok_or z e) n)))
   where
     same : ◌≡◌ {A = Result A Refusal} (Err d) (Err e) → d ≡ e
     same w = cc

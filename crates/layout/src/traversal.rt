@@ -1,7 +1,8 @@
 // FullTraversal: rules L1 and L5, and the whole compile.
-ghost use Rattle.std.specs.Prelude.{◌≡◌, [], ◌∷◌, ◌≤◌, take};
+ghost use Rattle.std.specs.Prelude.{◌≡◌, [], ◌∷◌, ◌≤◌, take, OnErr};
 ghost use Rattle.layout.specs.Axes.{PLACES, axis_of};
 ghost use Rattle.layout.specs.Compile.{total_of, empty_layout, layout_of, compile_of, told};
+ghost use Rattle.layout.specs.InnerAnswers.{placed};
 
 use crate::axis::{PLACES, ReduceOuterAxis};
 use refusals::Refusal;
@@ -43,96 +44,110 @@ pub fn empty() -> FullTraversal
     }
 }
 
+// Rule R0: what is told of a compile, the code 0 with the layout, or the number of a refusal with the layout of total 0.
+pub fn told(compiled: Result<FullTraversal, Refusal>) -> (u32, FullTraversal)
+    ensures { told compiled ≡ record { code = result.0; traversal = result.1 } }
+{
+    match compiled {
+        Ok(layout) => (0, layout),
+        Err(refusal) => (u32::from(refusal), empty()),
+    }
+}
+
 // Rule L5: the first axis is the run, the others are outer.
-fn with_run(total: u64, axes: &[ReduceOuterAxis; PLACES], count: usize) -> FullTraversal
+fn with_run(l: &mut FullTraversal, total: u64, axes: &[ReduceOuterAxis; PLACES], count: usize)
     requires { count ≤ PLACES }
-    ensures { result ≡ layout_of PLACES total (take count axes.now) }
+    ensures { l.new ≡ layout_of PLACES total (take count axes.now) }
 {
     let z = crate::axis::no_axis();
-    let mut places = [z; PLACES];
+    l.total = total;
+    l.run_axes = [z; PLACES];
     if count == 0 {
-        return FullTraversal {
-            total,
-            run_len: 1,
-            run_stride: 1,
-            axis_count: 0,
-            run_axes: places,
-        };
+        l.run_len = 1;
+        l.run_stride = 1;
+        l.axis_count = 0;
+        return;
     }
-    places[..count - 1].copy_from_slice(&axes[1..count]);
-    let first = axes[0];
-    FullTraversal {
-        total,
-        run_len: first.extent,
-        run_stride: first.source_step,
-        axis_count: count - 1,
-        run_axes: places,
-    }
+    l.run_axes[..count - 1].copy_from_slice(&axes[1..count]);
+    l.run_len = axes[0].extent;
+    l.run_stride = axes[0].source_step;
+    l.axis_count = count - 1;
 }
 
 // The layout that is one run.
-fn one_run(len: u64, stride: i64) -> FullTraversal
-    ensures { result ≡ layout_of PLACES len (axis_of len stride ∷ []) }
+fn one_run(l: &mut FullTraversal, len: u64, stride: i64)
+    ensures { l.new ≡ layout_of PLACES len (axis_of len stride ∷ []) }
 {
     let z = crate::axis::no_axis();
-    FullTraversal {
-        total: len,
-        run_len: len,
-        run_stride: stride,
-        axis_count: 0,
-        run_axes: [z; PLACES],
-    }
+    l.total = len;
+    l.run_len = len;
+    l.run_stride = stride;
+    l.axis_count = 0;
+    l.run_axes = [z; PLACES];
 }
 
-// The layout with one outer axis. Its place is known, so that the record is written where it is wanted: a table that a loop has filled is copied.
-fn one_outer(total: u64, run: ReduceOuterAxis, outer: ReduceOuterAxis) -> FullTraversal
-    ensures { result ≡ layout_of PLACES total (run ∷ outer ∷ []) }
+// The layout with one outer axis, whose place is known.
+fn one_outer(l: &mut FullTraversal, total: u64, run: ReduceOuterAxis, outer: ReduceOuterAxis)
+    ensures { l.new ≡ layout_of PLACES total (run ∷ outer ∷ []) }
 {
     let z = crate::axis::no_axis();
-    let mut places = [z; PLACES];
-    places[0] = outer;
-    FullTraversal {
-        total,
-        run_len: run.extent,
-        run_stride: run.source_step,
-        axis_count: 1,
-        run_axes: places,
-    }
+    l.total = total;
+    l.run_len = run.extent;
+    l.run_stride = run.source_step;
+    l.axis_count = 1;
+    l.run_axes = [z; PLACES];
+    l.run_axes[0] = outer;
 }
 
 // One axis needs no order and no fusing.
-fn compile_line(size: u64, stride: i64) -> Result<FullTraversal, Refusal>
-    ensures { told result ≡ compile_of PLACES (size ∷ []) (stride ∷ []) }
+fn compile_line(l: &mut FullTraversal, size: u64, stride: i64) -> Result<(), Refusal>
+    ensures value { placed result l.new ≡ compile_of PLACES (size ∷ []) (stride ∷ []) }
+    ensures kept { OnErr result (l.new ≡ l.old) }
 {
     if size == 0 {
-        return Ok(empty());
+        *l = empty();
+        return Ok(());
     }
     if size == 1 {
-        return Ok(one_run(1, 1));
+        one_run(l, 1, 1);
+        return Ok(());
     }
     crate::axis::checked_reduce_reset(size, stride).ok_or(Refusal::OffsetOverflow)?;
     if MOST_ELEMENTS < size {
         return Err(Refusal::TooManyElements);
     }
-    Ok(one_run(size, stride))
+    one_run(l, size, stride);
+    Ok(())
 }
 
 impl FullTraversal {
     pub fn compile(sizes: &[u64], strides: &[i64]) -> Result<FullTraversal, Refusal>
         ensures { told result ≡ compile_of PLACES sizes.now strides.now }
     {
+        let mut layout = empty();
+        layout.compile_in_place(sizes, strides)?;
+        Ok(layout)
+    }
+
+    // The same, written where it is wanted: a record of this size is copied, with its table, whenever it is put into a `Result` or taken out of one. Refused, it stays
+    // as it was.
+    pub fn compile_in_place(&mut self, sizes: &[u64], strides: &[i64]) -> Result<(), Refusal>
+        ensures value { placed result self.new ≡ compile_of PLACES sizes.now strides.now }
+        ensures kept { OnErr result (self.new ≡ self.old) }
+    {
         if sizes.len() != strides.len() {
             return Err(Refusal::StrideLengthMismatch);
         }
         if sizes.len() == 1 {
-            return compile_line(sizes[0], strides[0]);
+            return compile_line(&mut *self, sizes[0], strides[0]);
         }
         if PLACES < sizes.len() {
             return Err(Refusal::TooManyAxes);
         }
         let total = checked_total(sizes).ok_or(Refusal::OffsetOverflow)?;
         if total == 0 {
-            return Ok(empty());
+            *self = empty();
+            return Ok(());
         }
 
         // Any axis would do. With one of zeros the whole table is cleared by a call, which takes as long as two axes to compile.
@@ -152,8 +167,10 @@ impl FullTraversal {
             return Err(Refusal::TooManyElements);
         }
         if count == 2 {
-            return Ok(one_outer(total, axes[0], axes[1]));
+            one_outer(&mut *self, total, axes[0], axes[1]);
+            return Ok(());
         }
-        Ok(with_run(total, &axes, count))
+        with_run(&mut *self, total, &axes, count);
+        Ok(())
     }
 }

@@ -37,17 +37,18 @@ pub fn check_range(
     Err(Refusal::ElementOutside)
 }
 
-// Fills a run with offsets from `first` on, a stride apart. The stride is added before each but the first: behind the last the sum may not fit.
+// Fills a run with offsets from `first` on, a stride apart. The stride is not added after the last: that sum may not fit. What is left is counted, down to 0,
+// so that there is one test a turn.
 fn write_run(run: &mut [i64], first: i64, stride: i64)
     requires { PlacesFit first stride (length run.old) }
     ensures { run.new ≡ steps first stride (length run.old) }
 {
     let mut offset = first;
-    for (k, place) in run.iter_mut().enumerate() {
-        if 0 < k {
-            offset += stride;
-        }
-        *place = offset;
+    let mut at = 0;
+    for left in (0..run.len()).rev() {
+        run[at] = offset;
+        at += 1;
+        offset = integers::next_place(offset, stride, left);
     }
 }
 
@@ -78,7 +79,8 @@ pub fn offset_list(
     ensures result_value { code_of result ≡ list_code sizes.now strides.now base start end length (places out.old) }
     ensures out_after { out.new ≡ list_buffer sizes.now strides.now base start end length out.old }
 {
-    let l = FullTraversal::compile(sizes, strides)?;
+    let mut l = layout::traversal::empty();
+    l.compile_in_place(sizes, strides)?;
     check_range(l.total, sizes, strides, base, start, end, length)?;
     if (out.len() as u64) < end - start {
         return Err(Refusal::BufferTooShort);

@@ -16,19 +16,17 @@ ghost use Rattle.ordered.specs.Ranges.{ordered_of};
 use layout::traversal::FullTraversal;
 use refusals::Refusal;
 
-// `len` values from `first` on, a stride apart, multiplied in one after another. The stride is added before each but the first: behind the last the sum may not fit.
+// `len` values from `first` on, a stride apart, multiplied in one after another. The stride is not added after the last: that sum may not fit.
 fn fold_run_ordered(acc: f64, values: &[f64], first: i64, stride: i64, len: usize) -> f64
     requires { (i : ℕ) → i < len → inside_values (length values.now) (first +ℤ stride *ℤ pos i) ≡ true }
     ensures { result ≡ fold_places values.now acc (steps first stride len) }
 {
     let mut product = acc;
     let mut at = first;
-    for k in 0..len {
-        if 0 < k {
-            at += stride;
-        }
+    for left in (0..len).rev() {
         let index = at as usize;
         product = product * values[index];
+        at = integers::next_place(at, stride, left);
     }
     product
 }
@@ -104,7 +102,8 @@ pub fn ordered_product(
 ) -> Result<f64, Refusal>
     ensures { final_answer_of result ≡ ordered_of sizes.now strides.now base start end values.now }
 {
-    let l = FullTraversal::compile(sizes, strides)?;
+    let mut l = layout::traversal::empty();
+    l.compile_in_place(sizes, strides)?;
     let length = values.len() as u64;
     offsets::list::check_range(l.total, sizes, strides, base, start, end, length)?;
     Ok(ordered_full_range(l, base, start, end, values))

@@ -9,7 +9,6 @@ ghost use Rattle.layout.specs.Compile.{compile_of};
 ghost use Rattle.offsets.specs.Lists.{end_refusals, place_refusals};
 ghost use Rattle.ranges.specs.Many.{ranges_of, each_refusals, unfit, code_by, many_code, ms_after, es_after, bads_after};
 
-use layout::traversal::FullTraversal;
 use refusals::Refusal;
 
 // Whether the two lists are of one length, and no buffer is shorter.
@@ -105,7 +104,8 @@ pub fn reduce_ranges(
     ensures bads_after { bads.new ≡ bads_after sizes.now strides.now base starts.now ends.now
         values.now ms.old es.old bads.old }
 {
-    let l = FullTraversal::compile(sizes, strides)?;
+    let mut l = layout::traversal::empty();
+    l.compile_in_place(sizes, strides)?;
     let fit = lists_fit(starts.len(), ends.len(), ms.len(), es.len(), bads.len());
     check_ranges(
         l.total,

@@ -248,7 +248,8 @@ pub fn reduce(
     ensures { answer_of result ≡ reduce_of sizes.now strides.now base start end values.now }
 {
     let length = values.len() as u64;
-    let l = FullTraversal::compile(sizes, strides)?;
+    let mut l = layout::traversal::empty();
+    l.compile_in_place(sizes, strides)?;
     offsets::list::check_range(l.total, sizes, strides, base, start, end, length)?;
     Ok(reduce_full_range(l, base, start, end, values))
 }

@@ -41,7 +41,7 @@ impl Given for StableProductFloatAcc {
 
 // The three words of an accumulator.
 pub fn put_fields(acc: StableProductFloatAcc, out: &mut Answer)
-    requires { out.old.len ≤ 100 }
+    requires { out.old.len + 60 ≤ 262144 }
     ensures { out.new.len ≤ out.old.len + 60 }
 {
     out.put_word(acc.m);

@@ -65,10 +65,9 @@ fn answer_axes(call: &[u8], words: &mut Words, out: &mut Answer) -> Option<()> {
 
 fn answer_compile(axes: Axes, words: &mut Words, out: &mut Answer) -> Option<()> {
     words.end()?;
-    match FullTraversal::compile(axes.sizes, axes.strides) {
-        Ok(layout) => put_compiled(0, &layout, out),
-        Err(refusal) => put_compiled(u32::from(refusal), &layout::traversal::empty(), out),
-    }
+    let compiled = FullTraversal::compile(axes.sizes, axes.strides);
+    let (code, layout) = layout::traversal::told(compiled);
+    put_compiled(code, &layout, out);
     Some(())
 }
 
@@ -95,9 +94,9 @@ fn put_axes(axes: &[ReduceOuterAxis; PLACES], out: &mut Answer)
 }
 
 fn answer_list(axes: Axes, words: &mut Words, out: &mut Answer) -> Option<()> {
-    let mut places = [0i64; BUFFER_PLACES];
     let range = read_range(words)?;
     let len = words.read()?;
+    let mut places = [0i64; BUFFER_PLACES];
     let places = words.list(&mut places)?;
     words.end()?;
     let done = offsets::list::offset_list(

@@ -4,7 +4,6 @@ ghost use Rattle.std.specs.Prelude.{◌≤◌, length};
 use crate::answer::Answer;
 use crate::range::{Axes, read_range};
 use jobs::reading::Job;
-use layout::axis::PLACES;
 use refusals::Refusal;
 use text::word::Words;
 
@@ -15,23 +14,9 @@ pub fn answer_read(words: &mut Words, out: &mut Answer) -> Option<()> {
     let mut bytes = [0u8; BYTES];
     let bytes = words.list(&mut bytes)?;
     words.end()?;
-    match jobs::reading::read_job(bytes) {
-        Ok(job) => put_job(0, &job, out),
-        Err(refusal) => put_job(u32::from(refusal), &no_job(), out),
-    }
+    let (code, job) = jobs::reading::job_told(jobs::reading::read_job(bytes));
+    put_job(code, &job, out);
     Some(())
-}
-
-// What stands behind a refusal.
-fn no_job() -> Job {
-    Job {
-        count: 0,
-        sizes: [0; PLACES],
-        strides: [0; PLACES],
-        base: 0,
-        start: 0,
-        end: 0,
-    }
 }
 
 fn put_job(code: u32, job: &Job, out: &mut Answer) {
@@ -66,10 +51,7 @@ pub fn answer_write(axes: Axes, words: &mut Words, out: &mut Answer) -> Option<(
 fn put_written(written: Result<usize, Refusal>, bytes: &[u8], out: &mut Answer)
     requires { length bytes.now ≤ 4096 }
 {
-    let (code, count) = match written {
-        Ok(count) => (0, count),
-        Err(refusal) => (u32::from(refusal), 0),
-    };
+    let (code, count) = jobs::writing::written_told(written);
     out.start(b"write");
     out.put_word(u64::from(code));
     out.put_word(count as u64);

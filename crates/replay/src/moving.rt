@@ -5,11 +5,11 @@ use text::word::Words;
 
 pub fn answer_windows(words: &mut Words, out: &mut Answer) -> Option<()> {
     let mut values = [0.0; ITEMS];
+    let values = words.list(&mut values)?;
+    let w = words.read()?;
     let mut ms = [0.0; ITEMS];
     let mut es = [0i64; ITEMS];
     let mut bads = [0u8; ITEMS];
-    let values = words.list(&mut values)?;
-    let w = words.read()?;
     let ms = words.list(&mut ms)?;
     let es = words.list(&mut es)?;
     let bads = words.list(&mut bads)?;

@@ -216,7 +216,8 @@ pub fn first_bad_rate(
     ensures { search_answer_of result ≡ search_of sizes.now strides.now base start end values.now }
 {
     let length = values.len() as u64;
-    let l = FullTraversal::compile(sizes, strides)?;
+    let mut l = layout::traversal::empty();
+    l.compile_in_place(sizes, strides)?;
     offsets::list::check_range(l.total, sizes, strides, base, start, end, length)?;
     Ok(first_in_range(l, base, start, end, values).break_value())
 }

@@ -1,5 +1,5 @@
 // Floats as words: the 16 hex digits of their bits.
-ghost use Rattle.std.specs.Prelude.{IsSome, ◌↔◌};
+ghost use Rattle.std.specs.Prelude.{IsSome, ◌↔◌, ◌≡◌, length};
 ghost use Rattle.text.specs.Numbers.{hex_of};
 
 use crate::word::{LONGEST, Word};
@@ -39,14 +39,20 @@ impl Word for f64 {
         Some(float_of(crate::number::parse_bits(word)?))
     }
 
-    // The last digit is put first.
     fn to_word<'b>(self, space: &'b mut [u8; LONGEST]) -> &'b [u8] {
-        let digits = &mut space[..16];
-        let mut rest = bits_of(self);
-        for digit in digits.iter_mut().rev() {
-            *digit = HEX[(rest % 16) as usize];
-            rest /= 16;
-        }
-        digits
+        hex(bits_of(self), space)
     }
+}
+
+// The 16 hex digits of any bits, those of a NaN among them. The last digit is put first.
+pub fn hex<'b>(bits: u64, space: &'b mut [u8; LONGEST]) -> &'b [u8]
+    ensures { length result.now ≡ 16 }
+{
+    let digits = &mut space[..16];
+    let mut rest = bits;
+    for digit in digits.iter_mut().rev() {
+        *digit = HEX[(rest % 16) as usize];
+        rest /= 16;
+    }
+    digits
 }

@@ -59,6 +59,16 @@ impl<const N: usize> Line<N> {
         self.put(number.to_word(&mut space));
     }
 
+    // A pattern of bits, with a space before it.
+    pub fn put_bits(&mut self, bits: u64)
+        requires { self.old.len + 17 ≤ N }
+        ensures { self.new.len ≡ self.old.len + 17 }
+    {
+        let mut space = [0u8; LONGEST];
+        self.put(b" ");
+        self.put(crate::float::hex(bits, &mut space));
+    }
+
     // Numbers one after the other, each with a space before it.
     pub fn put_words<T: Word>(&mut self, numbers: &[T])
         requires { self.old.len + (1 + T.most) * length numbers.now ≤ N }

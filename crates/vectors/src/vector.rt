@@ -293,6 +293,18 @@ fn split_each<F: Fn(f64) -> Split>(s: Lanes, vector: Vector, split: F) -> Lanes
     t
 }
 
+// The same for any values. Which lane each goes to is for `split_step` to say.
+fn split_mixed(s: Lanes, vector: Vector) -> Lanes
+    requires { SmallLanes (2 ^ 59) s }
+    ensures { result ≡ feed split_step 0 s vector.v }
+{
+    let mut t = s;
+    for k in 0..LANES {
+        t = kernels::lanes::split_step(t, k, vector.v[k]);
+    }
+    t
+}
+
 // Zeros and normal numbers are split without a branch, and so are subnormals: eight at a time. Any other vector is split value by value.
 fn split_vector(s: Lanes, vector: Vector) -> Lanes
     requires { SmallLanes (2 ^ 59) s }
@@ -304,7 +316,7 @@ fn split_vector(s: Lanes, vector: Vector) -> Lanes
     if vector_subnormal(vector) {
         return split_each(s, vector, floats::split_subnormal_whole);
     }
-    split_each(s, vector, floats::split_f64)
+    split_mixed(s, vector)
 }
 
 // A low vector is split, and with `all` every vector; any other is multiplied as it is.

@@ -16,16 +16,16 @@ use Rattle.figures.proofs.figure.Goals as goal
 use Rattle.figures.proofs.figure.Goals.{In_ok-check_range}
 
 -- an accepted range
-accepted : (c : In_ok-check_range) → Checked c.args.sizes.now c.args.strides.now c.args.base c.args.start c.args.end (length c.args.values.now) c.in_ok-l.l
+accepted : (c : In_ok-check_range) → Checked c.args.sizes.now c.args.strides.now c.args.base c.args.start c.args.end (length c.args.values.now) c.compile_in_place.new.self
 accepted c =
-    checked _ _ c.in_ok-l.l c.in_ok-l.ensures c.args.base c.args.start c.args.end (length c.args.values.now)
+    checked _ _ c.compile_in_place.new.self c.in_ok-compile_in_place.ensures.value c.args.base c.args.start c.args.end (length c.args.values.now)
     (sym (simp (to_z-of_z c.ranges.base) at c.in_ok-check_range.ensures))
 
-pub returns-in_err-l : goal.returns-in_err-l
-returns-in_err-l c =
+pub returns-in_err-compile_in_place : goal.returns-in_err-compile_in_place
+returns-in_err-compile_in_place c =
     let p = err_from_is_err_and c.from_residual.result c.from_residual.ensures.1 in
-    let k = compile-refused _ _ c.in_err-l.field-0.0 c.in_err-l.ensures c.args.base c.args.start c.args.end (length c.args.values.now) in
-    rw (p.1, p.2) (told-refused _ _ c.args.base c.args.start c.args.end c.args.values.now c.in_err-l.field-0.0 k)
+    let k = compile-refused _ _ c.in_err-compile_in_place.field-0.0 c.in_err-compile_in_place.ensures.value c.args.base c.args.start c.args.end (length c.args.values.now) in
+    rw (p.1, p.2) (told-refused _ _ c.args.base c.args.start c.args.end c.args.values.now c.in_err-compile_in_place.field-0.0 k)
 
 pub returns-in_err-check_range : goal.returns-in_err-check_range
 returns-in_err-check_range c =
@@ -47,9 +47,9 @@ pub returns-then-acc : goal.returns-then-acc
 returns-then-acc c =
     let a = accepted (goal.at.returns-then-acc c).In_ok-check_range in
     let made = simp (to_z-of_z c.ranges.base) at c.ordered_full_range.ensures in
-    let reduced = reduced-range _ _ c.args.base c.args.start c.args.end c.args.values.now c.in_ok-l.l a c.reduce_full_range-acc.result
+    let reduced = reduced-range _ _ c.args.base c.args.start c.args.end c.args.values.now c.compile_in_place.new.self a c.reduce_full_range-acc.result
     (simp (to_z-of_z c.ranges.base) at c.reduce_full_range-acc.ensures) in
-    ap value (made ∙ ordered-accepted _ _ c.args.base c.args.start c.args.end c.args.values.now c.type_inv.values c.in_ok-l.l a)
+    ap value (made ∙ ordered-accepted _ _ c.args.base c.args.start c.args.end c.args.values.now c.type_inv.values c.compile_in_place.new.self a)
     ∙ sym (figure-bad _ _ c.args.base c.args.start c.args.end c.args.values.now a.code
     (sym (ap (λ (x : StableProductFloatAcc). x.bad) reduced) ∙ c.if-acc.true))
 
@@ -59,7 +59,7 @@ returns c =
     let v = values-fit c.args.values.now c.type_inv.values in
     let d = rule-D3 c.args.sizes.now c.args.strides.now c.args.base c.args.start c.args.end c.args.values.now v a.code in
     let o = rule-O4 c.args.sizes.now c.args.strides.now c.args.base c.args.start c.args.end c.args.values.now v a.code in
-    let reduced = reduced-range _ _ c.args.base c.args.start c.args.end c.args.values.now c.in_ok-l.l a c.reduce_full_range-acc.result
+    let reduced = reduced-range _ _ c.args.base c.args.start c.args.end c.args.values.now c.compile_in_place.new.self a c.reduce_full_range-acc.result
     (simp (to_z-of_z c.ranges.base) at c.reduce_full_range-acc.ensures) in
     finished-told (Ok c.reduce_full_range-acc.result) c.finish.result c.finish.ensures
     ∙ ap finished_of (ap (λ (x : StableProductFloatAcc). accumulator x.m x.e x.bad) reduced ∙ sym d.answer)

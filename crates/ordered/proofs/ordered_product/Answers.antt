@@ -9,16 +9,16 @@ use Rattle.ordered.proofs.ordered_product.Goals as goal
 use Rattle.ordered.proofs.ordered_product.Goals.{In_ok-check_range}
 
 -- an accepted range
-accepted : (c : In_ok-check_range) → Checked c.args.sizes.now c.args.strides.now c.args.base c.args.start c.args.end (length c.args.values.now) c.in_ok-l.l
+accepted : (c : In_ok-check_range) → Checked c.args.sizes.now c.args.strides.now c.args.base c.args.start c.args.end (length c.args.values.now) c.compile_in_place.new.self
 accepted c =
-    checked _ _ c.in_ok-l.l c.in_ok-l.ensures c.args.base c.args.start c.args.end (length c.args.values.now)
+    checked _ _ c.compile_in_place.new.self c.in_ok-compile_in_place.ensures.value c.args.base c.args.start c.args.end (length c.args.values.now)
     (sym (simp (to_z-of_z c.ranges.base) at c.in_ok-check_range.ensures))
 
-pub returns-in_err-l : goal.returns-in_err-l
-returns-in_err-l c =
+pub returns-in_err-compile_in_place : goal.returns-in_err-compile_in_place
+returns-in_err-compile_in_place c =
     let p = err_from_is_err_and c.from_residual.result c.from_residual.ensures.1 in
-    let r = c.in_err-l.field-0.0 in
-    let k = compile-refused _ _ r c.in_err-l.ensures c.args.base c.args.start c.args.end (length c.args.values.now) in
+    let r = c.in_err-compile_in_place.field-0.0 in
+    let k = compile-refused _ _ r c.in_err-compile_in_place.ensures.value c.args.base c.args.start c.args.end (length c.args.values.now) in
     rw (p.1, p.2) (ap refusal k ∙ sym (ordered-refused _ _ c.args.base c.args.start c.args.end c.args.values.now (λ e. some-number r (k ∙ e))))
 
 pub returns-in_err-check_range : goal.returns-in_err-check_range
@@ -37,5 +37,5 @@ pub returns : goal.returns
 returns c =
     let a = accepted (goal.at.returns c).In_ok-check_range in
     let made = simp (to_z-of_z c.ranges.base) at c.ordered_full_range.ensures in
-    ap value (made ∙ ordered-accepted _ _ c.args.base c.args.start c.args.end c.args.values.now c.type_inv.values c.in_ok-l.l a)
+    ap value (made ∙ ordered-accepted _ _ c.args.base c.args.start c.args.end c.args.values.now c.type_inv.values c.compile_in_place.new.self a)
     ∙ sym (ordered-number _ _ c.args.base c.args.start c.args.end c.args.values.now a.code)

@@ -14,13 +14,13 @@ use Rattle.ranges.proofs.Calls.{told-refused, told-accepted, ready}
 use Rattle.ranges.proofs.Writing.{acc-m, acc-e, acc-byte, wrote-more, length-wrote, wrote-all}
 use Rattle.ranges.proofs.reduce_ranges.Goals as goal
 
-pub returns-in_err-l : goal.returns-in_err-l
-returns-in_err-l c =
-    let r = c.in_err-l.field-0.0 in
+pub returns-in_err-compile_in_place : goal.returns-in_err-compile_in_place
+returns-in_err-compile_in_place c =
+    let r = c.in_err-compile_in_place.field-0.0 in
     let p = err_from_is_err_and c.from_residual.result c.from_residual.ensures.1 in
     let same : p.0 ≡ r = cc in
     let e : code_of c.from_residual.result ≡ number r = ap code_of p.1 ∙ ap number same in
-    let k = ap (λ (x : Compiled). x.code) c.in_err-l.ensures in
+    let k = ap (λ (x : Compiled). x.code) c.in_err-compile_in_place.ensures.value in
     let misfit = unfit (length c.args.starts.now) (length c.args.ends.now) (length c.args.ms.now) (length c.args.es.now) (length c.args.bads.now) in
     let t = told-refused c.args.sizes.now c.args.strides.now c.args.base c.args.starts.now c.args.ends.now c.args.values.now c.args.ms.now c.args.es.now
     c.args.bads.now _
@@ -34,7 +34,7 @@ returns-in_err-l c =
 
 pub check_ranges-requires : goal.check_ranges-requires
 check_ranges-requires c =
-    let l = compiled c.args.sizes.now c.args.strides.now c.in_ok-l.l c.in_ok-l.ensures in
+    let l = compiled c.args.sizes.now c.args.strides.now c.compile_in_place.new.self c.in_ok-compile_in_place.ensures.value in
     (l.0, l.1, λ t. (fit _ _ _ _ _ (sym c.lists_fit-fit.ensures ∙ ap not t)).same)
 
 -- an accepted call, and what was checked
@@ -67,7 +67,7 @@ reduce_full_range-acc-requires c =
     let a = allowed c.args.sizes.now c.args.strides.now c.args.base c.args.starts.now c.args.ends.now c.args.values.now c.args.ms.now c.args.es.now
     c.args.bads.now _ c.lists_fit-fit.ensures (simp (to_z-of_z c.ranges.base) at c.in_ok-check_ranges.ensures) in
     let r = ready c.args.sizes.now c.args.strides.now c.args.base c.args.starts.now c.args.ends.now c.args.values.now c.args.ms.now c.args.es.now
-    c.args.bads.now c.in_ok-l.l (layout-compiled c.args.sizes.now c.args.strides.now c.in_ok-l.l c.in_ok-l.ensures) a c.loop-i.i
+    c.args.bads.now c.compile_in_place.new.self (layout-compiled c.args.sizes.now c.args.strides.now c.compile_in_place.new.self c.in_ok-compile_in_place.ensures.value) a c.loop-i.i
     (omega (arith, a.fits.same, c.loop-i-test.true)) in
     simp (to_z-of_z c.ranges.base) (r.traversal, r.bounded, r.forward, r.inside, r.few, r.within)
 
@@ -121,6 +121,6 @@ returns c =
     let x = wrote-all _ _ _ _ _ acc-e c.args.es.now f.same f.room_e c.loop-i.i all _ c.loop-i.invariant.1 in
     let b = wrote-all _ _ _ _ _ acc-byte c.args.bads.now f.same f.room_bad c.loop-i.i all _ c.loop-i.invariant.2 in
     let t = told-accepted c.args.sizes.now c.args.strides.now c.args.base c.args.starts.now c.args.ends.now c.args.values.now c.args.ms.now c.args.es.now
-    c.args.bads.now c.in_ok-l.l (layout-compiled c.args.sizes.now c.args.strides.now c.in_ok-l.l c.in_ok-l.ensures) e _ _ _
+    c.args.bads.now c.compile_in_place.new.self (layout-compiled c.args.sizes.now c.args.strides.now c.compile_in_place.new.self c.in_ok-compile_in_place.ensures.value) e _ _ _
     (simp (to_z-of_z c.ranges.base) at m) (simp (to_z-of_z c.ranges.base) at x) (simp (to_z-of_z c.ranges.base) at b) in
     record { value = t.0; ms_after = t.1.0; es_after = t.1.1.0; bads_after = t.1.1.1 }

@@ -18,20 +18,20 @@ module _ (ns : List ℕ) (ss : List ℤ) (base : ℤ) (start end len : ℕ) (e :
   buffer-refused : (out : List ℤ) → out ≡ list_buffer ns ss base start end len out
   buffer-refused out = list-kept ns ss base start end len out (λ z. some-number e (code-refused (length out) ∙ z))
 
-accepted : (c : In_ok-check_range) → Checked c.args.sizes.now c.args.strides.now c.args.base c.args.start c.args.end c.args.length c.in_ok-l.l
+accepted : (c : In_ok-check_range) → Checked c.args.sizes.now c.args.strides.now c.args.base c.args.start c.args.end c.args.length c.compile_in_place.new.self
 accepted c =
-    checked _ _ c.in_ok-l.l c.in_ok-l.ensures c.args.base c.args.start c.args.end c.args.length (sym (simp (to_z-of_z c.ranges.base) at c.in_ok-check_range.ensures))
+    checked _ _ c.compile_in_place.new.self c.in_ok-compile_in_place.ensures.value c.args.base c.args.start c.args.end c.args.length (sym (simp (to_z-of_z c.ranges.base) at c.in_ok-check_range.ensures))
 
-pub returns-in_err-l-clause-result_value : goal.returns-in_err-l-clause-result_value
-returns-in_err-l-clause-result_value c =
+pub returns-in_err-compile_in_place-clause-result_value : goal.returns-in_err-compile_in_place-clause-result_value
+returns-in_err-compile_in_place-clause-result_value c =
     let p = err_from_is_err_and c.from_residual.result c.from_residual.ensures.1 in
-    let k = compile-refused _ _ c.in_err-l.field-0.0 c.in_err-l.ensures c.args.base c.args.start c.args.end c.args.length in
-    rw (p.1, p.2) (code-refused _ _ c.args.base c.args.start c.args.end c.args.length c.in_err-l.field-0.0 k (length c.args.out.now))
+    let k = compile-refused _ _ c.in_err-compile_in_place.field-0.0 c.in_err-compile_in_place.ensures.value c.args.base c.args.start c.args.end c.args.length in
+    rw (p.1, p.2) (code-refused _ _ c.args.base c.args.start c.args.end c.args.length c.in_err-compile_in_place.field-0.0 k (length c.args.out.now))
 
-pub returns-in_err-l-clause-out_after : goal.returns-in_err-l-clause-out_after
-returns-in_err-l-clause-out_after c =
-    let k = compile-refused _ _ c.in_err-l.field-0.0 c.in_err-l.ensures c.args.base c.args.start c.args.end c.args.length in
-    buffer-refused _ _ c.args.base c.args.start c.args.end c.args.length c.in_err-l.field-0.0 k c.args.out.now
+pub returns-in_err-compile_in_place-clause-out_after : goal.returns-in_err-compile_in_place-clause-out_after
+returns-in_err-compile_in_place-clause-out_after c =
+    let k = compile-refused _ _ c.in_err-compile_in_place.field-0.0 c.in_err-compile_in_place.ensures.value c.args.base c.args.start c.args.end c.args.length in
+    buffer-refused _ _ c.args.base c.args.start c.args.end c.args.length c.in_err-compile_in_place.field-0.0 k c.args.out.now
 
 pub returns-in_err-check_range-clause-result_value : goal.returns-in_err-check_range-clause-result_value
 returns-in_err-check_range-clause-result_value c =

@@ -1,43 +1,58 @@
-use Rattle.std.proofs.Common.{◌≡◌, ◌+◌, ◌-◌, ℕ, sym, ◌∙◌, ap, arith, pos, ◌+ℤ◌, ◌*ℤ◌, to_z, of_z, length}
+use Rattle.std.proofs.Common.{◌≡◌, ◌+◌, ◌-◌, ℕ, List, ◌∙◌, ap, arith, ℤ, pos, ◌+ℤ◌, ◌*ℤ◌, to_z, of_z, w64, length}
 use Rattle.std.proofs.Math.Facts.{to_z-of_z}
-use mir.Val.{SFits}
-use mir.Syntax.{w64}
-use Rattle.integers.proofs.Places.{place-first}
-use Rattle.offsets.proofs.Writing.{place-on, place-kept, filled_none, filled_more, filled-all}
+use Rattle.std.proofs.Math.ListN.{set}
+use Rattle.integers.proofs.Places.{place-first, place-next, fit-later}
+use Rattle.offsets.proofs.Writing.{filled, filled_none, filled_more, filled-all}
 use Rattle.offsets.proofs.list.write_run.Goals as goal
-use Rattle.offsets.proofs.list.write_run.Goals.{then-k-gt0, else-k-gt0}
+use Rattle.offsets.proofs.list.write_run.Goals.{In-loop-left}
 
-pub loop-k-init : goal.loop-k-init
-loop-k-init c = (filled_none _ _ _, place-first _ (to_z w64 (of_z w64 c.args.stride)))
+pub loop-left-init : goal.loop-left-init
+loop-left-init c =
+    let n = length c.args.run.now in
+    let z = to_z w64 (of_z w64 c.args.first) in
+    let s = to_z w64 (of_z w64 c.args.stride) in
+    let none : 0 ≡ n - n = omega arith in (
+      omega arith,
+      omega arith,
+      λ h. place-first z s ∙ ap (λ (k : ℕ). z +ℤ s *ℤ pos k) none,
+      filled_none c.args.run.now z s ∙ ap (λ (k : ℕ). filled c.args.run.now z s k) none,
+    )
 
-pub overflow_add-offset : goal.overflow_add-offset
-overflow_add-offset c =
-    let here = simp (to_z-of_z c.ranges.first, to_z-of_z c.ranges.stride) at c.loop-k.invariant.1 in
-    let e = place-on c.args.first c.args.stride _ c.loop-k.k here c.if-k-gt0.true in
-    simp (to_z-of_z c.ranges.stride) (rw e (c.requires c.loop-k.k c.loop-k-test.true))
+-- the offset to be written
+here : (c : In-loop-left) → to_z w64 c.loop-left.offset-bits ≡ to_z w64 (of_z w64 c.args.first) +ℤ to_z w64 (of_z w64 c.args.stride) *ℤ pos (length c.args.run.now - c.loop-left.left)
+here c = c.loop-left.invariant.2 c.loop-left-test.true
 
-pub loop-k-preserved : goal.loop-k-preserved
-loop-k-preserved c =
-    let k = c.loop-k.k in
-    let z = c.args.first in
-    let s = c.args.stride in
-    let here = simp (to_z-of_z c.ranges.first, to_z-of_z c.ranges.stride) at c.loop-k.invariant.1 in
-    let run = simp (to_z-of_z c.ranges.first, to_z-of_z c.ranges.stride) at c.loop-k.invariant.0 in
-    let now : to_z w64 c.if-k-gt0.offset-bits ≡ z +ℤ s *ℤ pos k =
-    elim c.if-k-gt0.branch [
-      | then-k-gt0 w ↦ let e = place-on z s _ k here w.if-k-gt0.true in
-          let f : SFits w64 (z +ℤ s *ℤ pos k) = c.requires k c.loop-k-test.true in
-          w.offset-is ∙ simp (to_z-of_z c.ranges.stride) (rw e (to_z-of_z f))
-      | else-k-gt0 w ↦ w.offset-is ∙ place-kept z s _ k here w.if-k-gt0.false
-    ] in
-    let back : k + 1 - 1 ≡ k = omega arith in
-    simp (to_z-of_z c.ranges.first, to_z-of_z c.ranges.stride) (
-      rw (now, run) (filled_more c.args.run.now z s k c.loop-k-test.true),
-      now ∙ ap (λ (m : ℕ). z +ℤ s *ℤ pos m) (sym back),
+pub next_place-offset-requires : goal.next_place-offset-requires
+next_place-offset-requires c l =
+    fit-later _ _ _ (length c.args.run.now) (length c.args.run.now - c.loop-left.left) _ (here (goal.at.next_place-offset-requires c).In-loop-left)
+    (omega (arith, c.loop-left.invariant.0, c.loop-left-test.true))
+    (simp (to_z-of_z c.ranges.first, to_z-of_z c.ranges.stride) c.requires)
+
+pub loop-left-preserved : goal.loop-left-preserved
+loop-left-preserved c =
+    let n = length c.args.run.now in
+    let k = n - c.loop-left.left in
+    let z = to_z w64 (of_z w64 c.args.first) in
+    let s = to_z w64 (of_z w64 c.args.stride) in
+    let at = here (goal.at.loop-left-preserved c).In-loop-left in
+    let more : k + 1 ≡ n - (c.loop-left.left - 1) = omega (arith, c.loop-left.invariant.0, c.loop-left-test.true) in (
+      omega (arith, c.loop-left.invariant.0),
+      omega (arith, c.loop-left.invariant.0, c.loop-left.invariant.1, c.loop-left-test.true),
+      λ l.
+          to_z-of_z {w = w64} (record { sfits = c.next_place-offset.type_inv })
+          ∙ c.next_place-offset.ensures.0 l
+          ∙ ap (λ (y : ℤ). y +ℤ s) at
+          ∙ place-next z s k
+          ∙ ap (λ (m : ℕ). z +ℤ s *ℤ pos m) more,
+      ap (λ (y : ℤ). set c.loop-left.run c.loop-left.at y) at
+          ∙ ap (λ (m : ℕ). set c.loop-left.run m (z +ℤ s *ℤ pos k)) c.loop-left.invariant.1
+          ∙ ap (λ (o : List ℤ). set o k (z +ℤ s *ℤ pos k)) c.loop-left.invariant.3
+          ∙ filled_more c.args.run.now z s k (omega (arith, c.loop-left.invariant.0, c.loop-left-test.true))
+          ∙ ap (λ (m : ℕ). filled c.args.run.now z s m) more,
     )
 
 pub returns : goal.returns
 returns c =
-    let all : c.loop-k.k ≡ length c.args.run.now = omega (arith, c.loop-k-test.false) in
-    let e = simp (to_z-of_z c.ranges.first, to_z-of_z c.ranges.stride) at c.loop-k.invariant.0 in
+    let all : length c.args.run.now - c.loop-left.left ≡ length c.args.run.now = omega (arith, c.loop-left-test.false) in
+    let e = simp (to_z-of_z c.ranges.first, to_z-of_z c.ranges.stride) at c.loop-left.invariant.3 in
     rw all at e ∙ filled-all _ _ _
